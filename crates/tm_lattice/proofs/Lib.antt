@@ -1,0 +1,4 @@
+pub mod Climb
+pub mod Edits
+pub mod Merging
+pub mod Search
