@@ -1,0 +1,15 @@
+pub mod Congruences
+pub mod Members
+pub mod Kept
+pub mod Solutions
+pub mod Decisions
+pub mod Spans
+pub mod Distances
+pub mod Hulls
+pub mod Reach
+pub mod Others
+pub mod Products
+pub mod Commons
+pub mod Roundings
+pub mod Thresholds
+pub mod MarkLists

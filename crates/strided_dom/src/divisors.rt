@@ -1,0 +1,60 @@
+//! Greatest common divisors, and linear equations modulo a number.
+
+ghost use Rattle.std.specs.Prelude.{◌<◌, MatchOption};
+ghost use Rattle.std.specs.Int.{IsGcd};
+ghost use Rattle.strided_dom.specs.Equations.{IsLeastSolution, HasNoSolution, IsCommonStride};
+
+/// The greatest common divisor; that of 0 and 0 is 0.
+pub fn gcd(a: u128, b: u128) -> u128
+    ensures { IsGcd a b result }
+{
+    let mut x = a;
+    let mut y = b;
+    while y != 0 {
+        let rest = x % y;
+        x = y;
+        y = rest;
+    }
+    x
+}
+
+/// The least t with a * t = m * k + c for some k, and that k.
+pub fn least_solution(a: u128, c: u128, m: u128) -> Option<(u128, u128)>
+    requires factor { a < m }
+    requires rest { c < m }
+    ensures answer { MatchOption result (HasNoSolution a c m)
+        (λ r. IsLeastSolution a c m r.0 r.1) }
+    ensures below { MatchOption result (Unit {0}) (λ r. r.0 < m) }
+{
+    if c == 0 {
+        return Some((0, 0));
+    }
+    if a == 0 {
+        return None;
+    }
+    let rest = c % a;
+    if rest == 0 {
+        return Some((c / a, 0));
+    }
+    match least_solution(m % a, a - rest, a) {
+        None => None,
+        Some((k, w)) => Some((m / a * k + c / a + w + 1, k)),
+    }
+}
+
+/// The least common multiple, or 0 where it is above `limit` or one of the numbers is 0.
+pub fn common_stride(m: u128, n: u128, limit: u128) -> u128
+    ensures { IsCommonStride m n limit result }
+{
+    if m == 0 {
+        return 0;
+    }
+    if n == 0 {
+        return 0;
+    }
+    let step = m / gcd(m, n);
+    if step > limit / n {
+        return 0;
+    }
+    step * n
+}
