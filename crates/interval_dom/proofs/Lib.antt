@@ -1,0 +1,11 @@
+pub mod Bits
+pub mod Corners
+pub mod Floors
+pub mod Guarded
+pub mod Lengths
+pub mod Meets
+pub mod Products
+pub mod Quotients
+pub mod Ranges
+pub mod Remainders
+pub mod Sums

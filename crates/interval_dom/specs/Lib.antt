@@ -1,0 +1,4 @@
+pub mod Bitwise
+pub mod Interval
+pub mod Laws
+pub mod Rows
