@@ -1,0 +1,4 @@
+pub mod Class
+pub mod Gcd
+pub mod Laws
+pub mod Rows
