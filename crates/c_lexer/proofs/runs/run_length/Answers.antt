@@ -1,0 +1,12 @@
+use Rattle.std.proofs.Common.{length, sym, arith}
+use Rattle.std.proofs.lemmas.List.Sums.{prefix_len_is}
+use Rattle.c_lexer.specs.Runs.{belongs}
+use Rattle.c_lexer.proofs.runs.run_length.Goals as goal
+
+pub returns-then-not-belongs-clause-value : goal.returns-then-not-belongs-clause-value
+returns-then-not-belongs-clause-value c =
+    sym (prefix_len_is (belongs c.args.run) c.args.text.now c.loop-i.i 0 (omega arith) c.loop-i.invariant (λ _. cc))
+
+pub returns-clause-value : goal.returns-clause-value
+returns-clause-value c =
+    sym (prefix_len_is (belongs c.args.run) c.args.text.now (length c.args.text.now) 0 (omega arith) (λ k h. c.loop-i.invariant k (omega arith)) (λ h. absurd (omega arith)))

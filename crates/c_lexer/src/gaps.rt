@@ -1,0 +1,75 @@
+ghost use Rattle.std.specs.Prelude.{◌≡◌, ◌+◌, ◌<◌, ◌≤◌, length, slice_index, IfSome, None};
+ghost use Rattle.std.specs.List.{list_all};
+ghost use Rattle.std.specs.Char.{is_ascii_digit};
+ghost use Rattle.tm_terms.specs.Lexis.{comment, comment_end, is_skipped_word, skipped_line};
+
+use crate::runs::{Run, behind, byte_at, front, run_length};
+use tm_terms::Piece;
+
+// A gap of so many bytes.
+fn gap(length: usize) -> Piece
+    ensures { result ≡ record { shape = None; length = length } }
+{
+    Piece {
+        shape: None,
+        length,
+    }
+}
+
+// Where the first `*/` of a text ends, with its bytes counted from `start`.
+fn comment_end(text: &[u8], start: usize) -> Option<usize>
+    requires { start ≤ 2 }
+    ensures value { result ≡ comment_end start text.now }
+    ensures within { IfSome result (λ end. (start + 2 ≤ end) × (end ≤ start + length text.now)) }
+{
+    for i in 0..text.len() {
+        if text[i] == b'*' && byte_at(text, i + 1) == b'/' {
+            return Some(start + i + 2);
+        }
+    }
+    None
+}
+
+/// The comment of the form `/* .. */` that begins the text, if it ends.
+#[tactic(auto, unfolding(tm_terms::specs::Lexis::comment))]
+pub fn comment(text: &[u8]) -> Option<Piece>
+    ensures value { result ≡ comment text.now }
+    ensures within { IfSome result (λ p. (0 < p.length) × (p.length ≤ length text.now)) }
+{
+    if text.len() < 2 {
+        return None;
+    }
+    let end = comment_end(&text[2..], 2)?;
+    Some(gap(end))
+}
+
+fn are_digits(word: &[u8]) -> bool
+    ensures { result ≡ list_all is_ascii_digit word.now }
+{
+    word.iter().all(|byte| byte.is_ascii_digit())
+}
+
+fn is_skipped_word(word: &[u8]) -> bool
+    ensures { result ≡ is_skipped_word word.now }
+{
+    word == b"line".as_slice()
+        || word == b"pragma".as_slice()
+        || (!word.is_empty() && are_digits(word))
+}
+
+/// The line that `#` begins, if it is skipped.
+#[tactic(auto, unfolding(tm_terms::specs::Lexis::skipped_line))]
+pub fn skipped_line(text: &[u8]) -> Option<Piece>
+    ensures value { result ≡ skipped_line text.now }
+    ensures within { IfSome result (λ p. p.length ≤ length text.now) }
+    ensures some { slice_index text.now 0 ≡ 35 → IfSome result (λ p. 0 < p.length) }
+{
+    let rest = behind(text, 1);
+    let rest = behind(rest, run_length(rest, Run::Blanks));
+    let word = front(rest, run_length(rest, Run::Name));
+    if is_skipped_word(word) {
+        Some(gap(run_length(text, Run::Line)))
+    } else {
+        None
+    }
+}
