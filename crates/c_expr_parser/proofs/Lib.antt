@@ -1,0 +1,12 @@
+pub mod CompleteForms
+pub mod CompleteSteps
+pub mod DescentSteps
+pub mod Ends
+pub mod FirstTokens
+pub mod LevelFacts
+pub mod Sound
+pub mod SoundForms
+pub mod SoundSteps
+pub mod Tokens
+pub mod TypeReading
+pub mod TypeSteps

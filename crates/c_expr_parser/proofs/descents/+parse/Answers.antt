@@ -1,0 +1,95 @@
+use Rattle.std.proofs.Common.{◌≡◌, ◌+◌, ◌-◌, List, length, Option, Some, None, IfOk, IfSome, ◌≤◌, sym, ap, ◌∙◌, subst, arith}
+use Rattle.tm_terms.specs.declared.tokens.Token.{Token}
+use Rattle.tm_terms.specs.ExprTrees.{Tree, tree_of, as_arguments}
+use Rattle.c_expr_parser.specs.declared.marks.Mark.TheVariants as Marks
+use Rattle.c_expr_parser.specs.declared.found.Found.{Found}
+use Rattle.c_expr_parser.specs.declared.found.Stepped.{Stepped}
+use Rattle.c_expr_parser.specs.Reading.{after}
+use Rattle.c_expr_parser.specs.Founds.{pair_of, seen_found, IsStep, IsLow}
+use Rattle.c_expr_parser.specs.Descent.{more_by, reads, continued, step}
+use Rattle.c_expr_parser.proofs.DescentSteps.{pushed, pushed_height, arguments_none, arguments_done, arguments_comma, arguments_closed, member_is, postfix_is, steps_stop, steps_done, steps_next, reads_some}
+use Rattle.c_expr_parser.proofs.descents.+parse.Goals as goal
+
+pub arguments_from-returns-in-None-clause-value : goal.arguments_from-returns-in-None-clause-value
+arguments_from-returns-in-None-clause-value t c =
+    let read = reads c.args.types.now c.args.allowed in
+    let nothing = ap (λ k. read k c.items.rest.now) (sym c.rank.ensures) ∙ sym c.in_ok-read.ensures.value ∙ ap seen_found c.in-None.is in
+    sym (arguments_none read (length c.args.tokens.now - c.items._i) (as_arguments c.items.items.items) c.items.rest.now nothing) ∙ c.items.invariant.same
+
+pub arguments_from-closed-requires : goal.arguments_from-closed-requires
+arguments_from-closed-requires t c =
+    omega (arith, pushed_height c.items.items.items c.push_expr.new.items.items c.in-Some.argument.expr.value c.in_ok-push_expr-in-Some.ensures, c.in-Some.argument.counted, c.items.invariant.counted)
+
+pub arguments_from-returns-in-None-after-clause-value : goal.arguments_from-returns-in-None-after-clause-value
+arguments_from-returns-in-None-after-clause-value t c =
+    let read = reads c.args.types.now c.args.allowed in
+    let rest = c.in-Some.argument.rest.now in
+    let one = ap (λ k. read k c.items.rest.now) (sym c.rank.ensures) ∙ sym c.in_ok-read.ensures.value ∙ ap seen_found c.in-Some.is in
+    c.closed.ensures.value
+    ∙ ap (λ o. more_by None o (as_arguments c.push_expr.new.items.items) (λ next. None)) c.after-in-None-after.ensures
+    ∙ ap (λ a. more_by None (after Marks.CloseParenthesis rest) a (λ next. None)) (pushed c.items.items.items c.push_expr.new.items.items c.in-Some.argument.expr.value c.in_ok-push_expr-in-Some.ensures)
+    ∙ sym (arguments_closed read (length c.args.tokens.now - c.items._i) (length c.args.tokens.now - (c.items._i + 1)) (as_arguments c.items.items.items) c.items.rest.now (tree_of c.in-Some.argument.expr.value) rest (omega arith) one (sym c.in-None-after.ensures))
+    ∙ c.items.invariant.same
+
+pub arguments_from-items-preserved : goal.arguments_from-items-preserved
+arguments_from-items-preserved t c =
+    let read = reads c.args.types.now c.args.allowed in
+    let rest = c.in-Some.argument.rest.now in
+    let one = ap (λ k. read k c.items.rest.now) (sym c.rank.ensures) ∙ sym c.in_ok-read.ensures.value ∙ ap seen_found c.in-Some.is in
+    let push = pushed c.items.items.items c.push_expr.new.items.items c.in-Some.argument.expr.value c.in_ok-push_expr-in-Some.ensures in
+    let next = arguments_comma read (length c.args.tokens.now - c.items._i) (length c.args.tokens.now - (c.items._i + 1)) (as_arguments c.items.items.items) c.items.rest.now (tree_of c.in-Some.argument.expr.value) rest c.in-Some-after.following.now (omega arith) one (sym c.in-Some-after.ensures) in
+    let before = c.items.invariant.same in
+    record {
+      same = cc;
+      counted = omega (arith, pushed_height c.items.items.items c.push_expr.new.items.items c.in-Some.argument.expr.value c.in_ok-push_expr-in-Some.ensures, c.in-Some.argument.counted, c.items.invariant.counted);
+      low =
+          let low = subst (λ (o : Option Found). IfSome o (λ f. f.height ≤ c.args.allowed)) c.in-Some.is c.in_ok-read.ensures.low in
+          omega (arith, low, c.items.invariant.low);
+    }
+
+pub arguments_from-returns-clause-value : goal.arguments_from-returns-clause-value
+arguments_from-returns-clause-value t c =
+    sym (arguments_done (reads c.args.types.now c.args.allowed) (length c.args.tokens.now - c.items._i) (as_arguments c.items.items.items) c.items.rest.now (omega arith)) ∙ c.items.invariant.same
+
+pub continued-returns-in-Member-clause-value : goal.continued-returns-in-Member-clause-value
+continued-returns-in-Member-clause-value t c =
+    let read = reads c.args.types.now c.args.allowed in
+    let left = tree_of c.args.left.expr.value in
+    let e = sym (member_is read c.in-Member.access left c.args.place c.args.tokens.now) ∙ ap (λ o. continued read o left c.args.place c.args.tokens.now) (sym c.in-Member.is) in
+    subst (λ (w : Option (Tree × List Token)). IfOk c.continue_member.result (λ stepped. IsStep stepped (pair_of c.args.left) w)) e c.continue_member.ensures.value
+
+pub continued-returns-in_ok-postfix-in-Postfix-clause-value : goal.continued-returns-in_ok-postfix-in-Postfix-clause-value
+continued-returns-in_ok-postfix-in-Postfix-clause-value t c =
+    let read = reads c.args.types.now c.args.allowed in
+    let left = tree_of c.args.left.expr.value in
+    ap Some c.in_ok-postfix-in-Postfix.ensures.pair
+    ∙ sym (postfix_is read c.in-Postfix.operator left c.args.place c.args.tokens.now)
+    ∙ ap (λ o. continued read o left c.args.place c.args.tokens.now) (sym c.in-Postfix.is)
+
+pub read-returns-in-Some-clause-value : goal.read-returns-in-Some-clause-value
+read-returns-in-Some-clause-value t c =
+    let one = sym c.in_ok-form.ensures.value ∙ ap seen_found c.in-Some.is in
+    let e = reads_some c.args.types.now c.args.allowed (c.args.allowed - 1) c.args.at c.args.tokens.now (tree_of c.in-Some.first.expr.value) c.in-Some.first.rest.now (omega arith) one in
+    subst (λ (w : Option (Tree × List Token)). IfOk c.from_form.result (λ found. seen_found found ≡ w)) (sym e) c.from_form.ensures.value
+
+pub steps-returns-in-Stop-clause-value : goal.steps-returns-in-Stop-clause-value
+steps-returns-in-Stop-clause-value t c =
+    let read = reads c.args.types.now c.args.allowed in
+    let found = c.operators.found in
+    let s = subst (λ (s : Stepped). IsStep s (pair_of found) (step read c.args.at c.args.allowed (tree_of found.expr.value) found.rest.now)) c.in-Stop.is c.in_ok-next.ensures.value in
+    s.1 ∙ sym (steps_stop read c.args.at c.args.allowed (c.args.allowed + 1 - c.operators._i) (tree_of found.expr.value) found.rest.now (sym s.0)) ∙ c.operators.invariant.same
+
+pub steps-operators-preserved : goal.steps-operators-preserved
+steps-operators-preserved t c =
+    let read = reads c.args.types.now c.args.allowed in
+    let found = c.operators.found in
+    let s = subst (λ (s : Stepped). IsStep s (pair_of found) (step read c.args.at c.args.allowed (tree_of found.expr.value) found.rest.now)) c.in-On.is c.in_ok-next.ensures.value in
+    let next = steps_next read c.args.at c.args.allowed (c.args.allowed + 1 - c.operators._i) (c.args.allowed + 1 - (c.operators._i + 1)) (tree_of found.expr.value) found.rest.now (tree_of c.in-On.next.expr.value) c.in-On.next.rest.now (omega arith) (sym s) in
+    record {
+      same = sym next ∙ c.operators.invariant.same;
+      low = subst (λ (s : Stepped). IsLow s (c.args.allowed + 1)) c.in-On.is c.in_ok-next.ensures.low;
+    }
+
+pub steps-returns-clause-value : goal.steps-returns-clause-value
+steps-returns-clause-value t c =
+    sym (steps_done (reads c.args.types.now c.args.allowed) c.args.at c.args.allowed (c.args.allowed + 1 - c.operators._i) (tree_of c.operators.found.expr.value) c.operators.found.rest.now (omega arith)) ∙ c.operators.invariant.same

@@ -1,0 +1,3 @@
+pub mod Descent
+pub mod Founds
+pub mod Reading

@@ -1,0 +1,29 @@
+ghost use Rattle.std.specs.Prelude.{◌≡◌};
+ghost use Rattle.tm_terms.specs.ExprTrees.{tree_of, as_arguments, height as height_of, arguments_height};
+
+use tm_terms::{Expr, Token};
+
+// An expression that was read, what follows it, and its height.
+#[derive(Drop)]
+pub(crate) struct Found<'a> {
+    pub(crate) expr: Box<Expr>,
+    pub(crate) rest: &'a [Token],
+    pub(crate) height: u32,
+    ghost counted: { height ≡ height_of (tree_of expr.value) },
+}
+
+// The arguments of a call, what follows its `)`, and the height of the tallest.
+#[derive(Drop)]
+pub(crate) struct FoundArguments<'a> {
+    pub(crate) items: Vec<Expr>,
+    pub(crate) rest: &'a [Token],
+    pub(crate) height: u32,
+    ghost counted: { height ≡ arguments_height (as_arguments items.items) },
+}
+
+// An expression with one operator more, or the same where none follows that may.
+#[derive(Drop)]
+pub(crate) enum Stepped<'a> {
+    On(Found<'a>),
+    Stop(Found<'a>),
+}

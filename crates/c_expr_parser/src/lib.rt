@@ -1,0 +1,17 @@
+//! Expressions: from tokens to trees, exactly by the grammar.
+#![tactic(auto)]
+
+mod descents;
+mod found;
+pub mod laws;
+mod levels;
+mod marks;
+mod nodes;
+mod operators;
+mod parses;
+mod spec_lists;
+#[cfg(test)]
+mod tests;
+mod type_names;
+
+pub use parses::{MAX_HEIGHT, Parsed, parse_at, parse_expr};
