@@ -1,0 +1,151 @@
+-- What the program answers: which texts these words and bytes may give, with which status.
+use Rattle.std.specs.Prelude.{◌≡◌, ℕ, ◌<◌, ◌≤◌, ◌⊎◌, List, [], ◌∷◌, ◌++◌, length, map, codes, Option, Some, None, IfSome, Ok, Err, Contains, String, string_bytes}
+use Rattle.std.specs.Io.KnownBytes.{append_known, IsAtEnd}
+use Rattle.std.specs.declared.alloc.Global.{Global as Heap}
+use Rattle.tm_cint.specs.declared.Class.{Class}
+use Rattle.tm_terms.specs.declared.places.Place.{Place}
+use Rattle.tm_terms.specs.declared.alarms.Alarm.{Alarm}
+use Rattle.tm_terms.specs.declared.refusals.Refusal.{Refusal}
+use Rattle.tm_terms.specs.declared.refusals.Kind.TheVariants as Kinds
+use Rattle.tm_terms.specs.declared.refusals.Limit.TheVariants as Limits
+use Rattle.tm_terms.specs.declared.limits.TheConstants.{SOURCE}
+use Rattle.tm_terms.specs.declared.tokens.Token.{Token}
+use Rattle.tm_terms.specs.Spelling.{Lexes}
+use Rattle.tm_terms.specs.Texts.{report_text, refusal_text, usage_text}
+use Rattle.analyser.specs.declared.statuses.Status.{Status}
+use Rattle.analyser.specs.declared.statuses.Status.TheVariants.{NoAlarm, Alarms, Refused, Usage, ReadFault, WriteFault, NoMemory}
+use Rattle.analyser.specs.Form.{Program, IsProgram}
+use Rattle.analyser.specs.Runs.{Occurs}
+use Rattle.analyser.specs.Equations.{State, IsLeast, IsReport}
+
+-- ## Sources
+
+-- these bytes are a source of this program, which is analysed
+pub record IsAccepted (bytes : List ℕ) (p : Program) : Type 0 where
+  pub short : length bytes ≤ SOURCE
+  pub tokens : List Token
+  pub lexed : Lexes bytes (Ok tokens)
+  pub program : IsProgram p tokens
+
+abbrev pub source_limit : Refusal
+source_limit = record { kind = Kinds.Limit; place = record { line = 0; col = 0 }; limit = Some Limits.Source }
+
+abbrev pub unbuilt : Refusal
+unbuilt = record { kind = Kinds.Unbuilt; place = record { line = 1; col = 1 }; limit = None }
+
+-- Why these bytes are refused: they are too many; or else the lexis refuses them; or else they spell no program that is
+-- analysed.
+pub data IsRefused (bytes : List ℕ) : Refusal → Type 0 where
+  too_long : SOURCE < length bytes → IsRefused bytes source_limit
+  not_lexed : {refusal : Refusal} → length bytes ≤ SOURCE → Lexes bytes (Err refusal) → IsRefused bytes refusal
+  not_built : {tokens : List Token} → length bytes ≤ SOURCE → Lexes bytes (Ok tokens) → ((p : Program) → IsProgram p tokens → ⊥) → IsRefused bytes unbuilt
+
+-- ## Reports
+
+-- each error that occurs in a run of the program that the scheduler allows, up to its first fault, stands in the report
+-- at its place
+abbrev pub ListsAll : Program → List Alarm → Type 0
+ListsAll p report = (class : Class) (place : Place) → Occurs p class place → Contains report (record { place = place; class = class })
+
+-- the programs for which that is proved: all that are analysed
+abbrev pub IsCovered : Program → Type 0
+IsCovered p = Unit {0}
+
+-- the report of the least solution of the program's equations, in which each error that occurs is listed
+pub record IsLeastReport (p : Program) (report : List Alarm) : Type 0 where
+  pub table : List State
+  pub least : IsLeast p table
+  pub exact : IsReport p table report
+  pub lists : IsCovered p → ListsAll p report
+
+-- the report of these bytes
+pub record Reports (bytes : List ℕ) (report : List Alarm) : Type 0 where
+  pub program : Program
+  pub accepted : IsAccepted bytes program
+  pub answer : IsLeastReport program report
+
+-- ## Words
+
+abbrev pub texts_of : List (String Heap) → List (List ℕ)
+texts_of words = map (λ w. string_bytes w) words
+
+-- the one word that is a command today
+abbrev pub IsAnalyse : List (List ℕ) → Type 0
+IsAnalyse words = words ≡ codes "analyse" ∷ []
+
+-- ## Answers
+
+-- the report has an alarm
+abbrev pub HasAlarm : List Alarm → Type 0
+HasAlarm [] = ⊥
+HasAlarm (a ∷ report) = Unit {0}
+
+-- The status and the text that the command `analyse` answers these bytes with.
+abbrev pub HasAnswer : List ℕ → Status → List ℕ → Type 0
+HasAnswer bytes NoAlarm text = Reports bytes [] × (text ≡ report_text [])
+HasAnswer bytes Alarms text = (report : List Alarm) × HasAlarm report × Reports bytes report × (text ≡ report_text report)
+HasAnswer bytes Refused text = (refusal : Refusal) × IsRefused bytes refusal × (text ≡ refusal_text refusal)
+HasAnswer bytes Usage text = ⊥
+HasAnswer bytes ReadFault text = ⊥
+HasAnswer bytes WriteFault text = ⊥
+HasAnswer bytes NoMemory text = ⊥
+
+-- the text that may come with a status, for these words and bytes
+abbrev pub MayGive : List (List ℕ) → List ℕ → Status → List ℕ → Type 0
+MayGive words bytes Usage text = (IsAnalyse words → ⊥) × (text ≡ usage_text)
+MayGive words bytes status text = IsAnalyse words × HasAnswer bytes status text
+
+-- the source tells that it has these bytes left, or it tells nothing
+abbrev pub Told : Option (List ℕ) → List ℕ → Type 0
+Told left bytes = IfSome left (λ known. known ≡ bytes)
+
+-- the sink has taken the whole text that goes with the status
+pub record Answers (words : List (List ℕ)) (left taken taken' : Option (List ℕ)) (status : Status) : Type 0 where
+  pub bytes : List ℕ
+  pub told : Told left bytes
+  pub text : List ℕ
+  pub may : MayGive words bytes status text
+  pub appended : taken' ≡ append_known taken text
+
+-- the sink has taken a front of a text that these words and bytes may give
+pub record TakesFront (words : List (List ℕ)) (left taken taken' : Option (List ℕ)) : Type 0 where
+  pub bytes : List ℕ
+  pub told : Told left bytes
+  pub status : Status
+  pub text : List ℕ
+  pub may : MayGive words bytes status text
+  pub front : List ℕ
+  pub rest : List ℕ
+  pub split : text ≡ front ++ rest
+  pub appended : taken' ≡ append_known taken front
+
+-- the statuses that come with a whole text
+abbrev pub IsWhole : Status → Type 0
+IsWhole NoAlarm = Unit {0}
+IsWhole Alarms = Unit {0}
+IsWhole Refused = Unit {0}
+IsWhole Usage = Unit {0}
+IsWhole ReadFault = ⊥
+IsWhole WriteFault = ⊥
+IsWhole NoMemory = ⊥
+
+-- a stop without a whole text
+abbrev pub IsStop : Status → Type 0
+IsStop NoAlarm = ⊥
+IsStop Alarms = ⊥
+IsStop Refused = ⊥
+IsStop Usage = ⊥
+IsStop ReadFault = Unit {0}
+IsStop WriteFault = Unit {0}
+IsStop NoMemory = Unit {0}
+
+-- a stop that is not the source's
+abbrev pub IsSinkStop : Status → Type 0
+IsSinkStop status = (status ≡ WriteFault) ⊎ (status ≡ NoMemory)
+
+abbrev pub IsReported : Status → Type 0
+IsReported status = (status ≡ NoAlarm) ⊎ (status ≡ Alarms)
+
+-- the source was read to its end, or past the limit
+abbrev pub IsReadOut : Option (List ℕ) → Option (List ℕ) → Type 0
+IsReadOut left left' = IsAtEnd left' ⊎ IfSome left (λ known. SOURCE < length known)

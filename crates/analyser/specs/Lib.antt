@@ -1,0 +1,12 @@
+pub mod Marks
+pub mod Form
+pub mod Programs
+pub mod Reading
+pub mod Runs
+pub mod Values
+pub mod Equations
+pub mod Input
+pub mod Solved
+pub mod Laws
+pub mod Answers
+pub mod Replies

@@ -1,0 +1,82 @@
+//! The status and the text that go with the bytes of a source.
+
+ghost use Rattle.std.specs.Prelude.{◌≡◌, ◌≤◌, IfOk, length, string_bytes};
+ghost use Rattle.tm_terms.specs.Texts.{refusal_text};
+ghost use Rattle.tm_terms.specs.declared.limits.TheConstants.{SOURCE as SOURCE_LIMIT};
+ghost use Rattle.analyser.specs.Answers.{HasAnswer};
+ghost use Rattle.analyser.specs.Replies.{AnswersTokens, GivesReport};
+ghost use Rattle.analyser.specs.Programs.{plain};
+
+use crate::faults::report_of;
+use crate::programs::Program;
+use crate::reader::read_program;
+use crate::statuses::Status;
+use c_lexer::lex;
+use std::alloc::Global as Heap;
+use tm_lattice::NoMemory;
+use tm_terms::{Fail, Kind, Place, Refusal, Token, plain as plain_text, refusal_line};
+
+/// A status and the whole text that goes with it.
+#[derive(Drop)]
+pub struct Reply {
+    pub status: Status,
+    pub text: String,
+}
+
+/// The place of a refusal that stands for the whole source.
+const START: Place = Place { line: 1, col: 1 };
+
+/// The line of a refusal.
+pub fn refused(alloc: Heap, refusal: Refusal) -> Result<Reply, NoMemory>
+    ensures status { IfOk result (λ reply. reply.status ≡ Status.Refused) }
+    ensures text { IfOk result (λ reply. string_bytes reply.text ≡ refusal_text refusal) }
+{
+    let text = refusal_line(alloc, &refusal)?;
+    Ok(Reply {
+        status: Status::Refused,
+        text,
+    })
+}
+
+/// The report of a program.
+fn reported(alloc: Heap, program: &Program) -> Result<Reply, NoMemory>
+    ensures { IfOk result (λ reply. GivesReport (plain program.now) reply.status (string_bytes reply.text)) }
+{
+    let report = report_of(alloc, program)?;
+    let text = plain_text(alloc, &report)?;
+    let status = if report.alarms.is_empty() {
+        Status::NoAlarm
+    } else {
+        Status::Alarms
+    };
+    Ok(Reply { status, text })
+}
+
+/// The answer to the tokens of a source that the lexis accepts.
+fn reply_to(alloc: Heap, tokens: &[Token]) -> Result<Reply, NoMemory>
+    ensures { IfOk result (λ reply. AnswersTokens tokens.now reply.status (string_bytes reply.text)) }
+{
+    match read_program(alloc, tokens)? {
+        Some(program) => reported(alloc, &program),
+        None => refused(
+            alloc,
+            Refusal {
+                kind: Kind::Unbuilt,
+                place: START,
+                limit: None,
+            },
+        ),
+    }
+}
+
+/// The answer to a source that is not too long.
+pub fn answer_to(alloc: Heap, bytes: &[u8]) -> Result<Reply, NoMemory>
+    requires { length bytes.now ≤ SOURCE_LIMIT }
+    ensures { IfOk result (λ reply. HasAnswer bytes.now reply.status (string_bytes reply.text)) }
+{
+    match lex(alloc, bytes) {
+        Ok(tokens) => reply_to(alloc, &tokens),
+        Err(Fail::Refused(refusal)) => refused(alloc, refusal),
+        Err(Fail::NoMemory) => Err(NoMemory),
+    }
+}
