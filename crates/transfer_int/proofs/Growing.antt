@@ -98,14 +98,16 @@ module _ (a b c d : Progression) (v : ℤ) (p : IsBelow a c) (q : IsBelow b d) w
       let l = h.between.low_is in
       record {
         between = between_grows _ _ v (λ r x. result_grows _ _ _ _ _ r shifted_grows (count_grows t) x) h.between;
-        multiple = λ w n k m. h.multiple w n (λ x i. k x (shifted_grows x i)) (λ y j. m y (count_grows t y j));
-        exact = λ n m x k i j.
-            (let z = l.left in
-            let near = j z (shifted_grows z l.in_left) in
-            let e = h.exact n m z (λ y f. k y (count_grows t y f)) l.in_left
-            (λ y f. divides_same m (omega (arith, ints)) (divides_sub m (y -ℤ x) (z -ℤ x) (j y (shifted_grows y f)) near)) in
-            divides_same (m *ℤ C.power n) (omega (arith, ints, sub_mul z x (C.power n)))
-            (divides_add (m *ℤ C.power n) (v -ℤ z *ℤ C.power n) ((z -ℤ x) *ℤ C.power n) e (divides_scaled m (z -ℤ x) (C.power n) near)));
+        class = record {
+          multiple = λ w n k m. h.class.multiple w n (λ x i. k x (shifted_grows x i)) (λ y j. m y (count_grows t y j));
+          exact = λ n m x k i j.
+              (let z = l.left in
+              let near = j z (shifted_grows z l.in_left) in
+              let e = h.class.exact n m z (λ y f. k y (count_grows t y f)) l.in_left
+              (λ y f. divides_same m (omega (arith, ints)) (divides_sub m (y -ℤ x) (z -ℤ x) (j y (shifted_grows y f)) near)) in
+              divides_same (m *ℤ C.power n) (omega (arith, ints, sub_mul z x (C.power n)))
+              (divides_add (m *ℤ C.power n) (v -ℤ z *ℤ C.power n) ((z -ℤ x) *ℤ C.power n) e (divides_scaled m (z -ℤ x) (C.power n) near)));
+        };
       }
 
   right_shifts_grow : (t : IntType) → InRightShifts t a b v → InRightShifts t c d v

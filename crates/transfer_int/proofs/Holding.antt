@@ -46,6 +46,16 @@ only s z d m e = subst (λ q. Has q z) e m
 
 -- ---- R
 
+pub rem_small : (x y : ℤ) → unsigned_abs x < unsigned_abs y → int_rem x y ≡ x
+rem_small (pos m) y l = ap pos (mod-eq_of_lt l)
+rem_small (negsuc m) y l = ap (λ n. neg_ℤ (pos n)) (mod-eq_of_lt l)
+
+pub powers_divide : (m n : ℕ) → m ≤ n → Divides (C.power m) (C.power n)
+powers_divide m n l = record { quotient = C.power (n - m); is = ap pos (ap (λ (e : ℕ). 2 ^ e) (rest m n l) ∙ pow-add 2 m (n - m)) }
+  where
+    rest : (m n : ℕ) → m ≤ n → n ≡ m + (n - m)
+    rest m n l = omega arith
+
 module _ (a b : Progression) (x y : ℤ) (h : Has a x) (k : Has b y) where
   pub pair_holds : (Takes Takes' : ℤ → ℤ → Type 0) (span : Span → Span → Span) (class : Cong → Cong → Cong) (op : ℤ → ℤ → ℤ) → Takes x y → Takes' x y
       → IL.Holds IL.Always Takes span op → CL.Holds Takes' class op → InRowPair span class a b (op x y)
@@ -69,11 +79,7 @@ module _ (a b : Progression) (x y : ℤ) (h : Has a x) (k : Has b y) where
         subst (λ w. InClass (C.div_row (class_of_set a) d) (int_div x w)) s (Q.div_holds (class_of_set a) d x m g (in_class a x h)));
   }
 
-  rem_small : (x y : ℤ) → unsigned_abs x < unsigned_abs y → int_rem x y ≡ x
-  rem_small (pos m) y l = ap pos (mod-eq_of_lt l)
-  rem_small (negsuc m) y l = ap (λ n. neg_ℤ (pos n)) (mod-eq_of_lt l)
-
-  remainders_hold : y ≢ pos 0 → InRemainders a b (int_rem x y)
+  pub remainders_hold : y ≢ pos 0 → InRemainders a b (int_rem x y)
   remainders_hold n =
       let divisor : IsDivisor b y = record { member = k; not_zero = n } in
       record {
@@ -83,22 +89,18 @@ module _ (a b : Progression) (x y : ℤ) (h : Has a x) (k : Has b y) where
         small = λ l. subst (λ w. Has a w) (sym (rem_small x y (l x y h divisor))) h;
       }
 
-  powers_divide : (m n : ℕ) → m ≤ n → Divides (C.power m) (C.power n)
-  powers_divide m n l = record { quotient = C.power (n - m); is = ap pos (ap (λ (e : ℕ). 2 ^ e) (rest m n l) ∙ pow-add 2 m (n - m)) }
-    where
-      rest : (m n : ℕ) → m ≤ n → n ≡ m + (n - m)
-      rest m n l = omega arith
-
   pub left_shifts_hold : (t : IntType) → pos 0 ≤ℤ x → is_count t y ≡ true → InLeftShifts t a b (I.shift_left x y)
   left_shifts_hold t l c =
       let s : IsShifted a x = record { member = h; not_negative = l } in
       let n : IsCount t b y = record { member = k; count = c } in
       record {
         between = between_holds I.shift_left (IsShifted a) (IsCount t b) s n;
-        multiple = λ d m p q. divides_product d (C.power m) x (C.power (unsigned_abs y)) (p x s) (powers_divide m (unsigned_abs y) (q y n));
-        exact = λ e m z p q r.
-            subst (λ w. Divides (m *ℤ C.power e) (x *ℤ C.power w -ℤ z *ℤ C.power e)) (sym (p y n))
-            (divides_same (m *ℤ C.power e) (sub_mul x z (C.power e)) (divides_scaled m (x -ℤ z) (C.power e) (r x s)));
+        class = record {
+          multiple = λ d m p q. divides_product d (C.power m) x (C.power (unsigned_abs y)) (p x s) (powers_divide m (unsigned_abs y) (q y n));
+          exact = λ e m z p q r.
+              subst (λ w. Divides (m *ℤ C.power e) (x *ℤ C.power w -ℤ z *ℤ C.power e)) (sym (p y n))
+              (divides_same (m *ℤ C.power e) (sub_mul x z (C.power e)) (divides_scaled m (x -ℤ z) (C.power e) (r x s)));
+        };
       }
 
   right_shifts_hold : (t : IntType) → is_count t y ≡ true → InRightShifts t a b (I.shift_right x y)
@@ -132,7 +134,7 @@ module _ (a b : Progression) (x y : ℤ) (h : Has a x) (k : Has b y) where
 
 -- ---- values
 
-inside : (t : IntType) (S : ℤ → Type 0) (z : ℤ) → IsIn t z → S z → IsFitted t S z
+pub inside : (t : IntType) (S : ℤ → Type 0) (z : ℤ) → IsIn t z → S z → IsFitted t S z
 inside t S z i p = fitting_holds Overflow t S z z p (fitted-same Overflow t z i)
 
 pub not_zero : (y : ℤ) → is_zero y ≡ false → y ≢ pos 0

@@ -6,3 +6,14 @@ pub mod Holding
 pub mod Failing
 pub mod Placing
 pub mod Truths
+pub mod Comparing
+pub mod Inside
+pub mod BitSets
+pub mod Fitted
+pub mod RowPairs
+pub mod UnsignedProducts
+pub mod Excluding
+pub mod Spans
+pub mod Dividing
+pub mod Reducing
+pub mod Shifting

@@ -1,3 +1,10 @@
+pub mod Comparisons
 pub mod Operands
 pub mod Rows
 pub mod Values
+pub mod Fittings
+pub mod Outcomes
+pub mod Parts
+pub mod Quotients
+pub mod Remainders
+pub mod Shifts

@@ -3,8 +3,18 @@ use Rattle.std.specs.Prelude.{◌≡◌, ◌≢◌, ℤ, pos, ◌≤ℤ◌, true
 use Rattle.strided_dom.specs.Progression.{Progression, Has, first_of, last_of, stride_of}
 use Rattle.interval_dom.specs.Interval.{Span}
 use Rattle.congruence_dom.specs.declared.classes.Cong.{Cong}
-use Rattle.tm_cint.specs.Operators.{is_count}
+use Rattle.tm_cint.specs.IntTypes.{IsIn}
+use Rattle.tm_cint.specs.Operators.{is_count, IsRightOperand}
 use Rattle.tm_cint.specs.declared.int_types.IntType.{IntType}
+use Rattle.tm_cint.specs.declared.operators.BinOp.{BinOp}
+
+-- Every member is a value of the type.
+pub record AreValues (t : IntType) (a : Progression) : Type 0 where
+  pub all : (x : ℤ) → Has a x → IsIn t x
+
+-- Every member may stand at the right of the operator.
+pub record AreRightOperands (op : BinOp) (t : IntType) (b : Progression) : Type 0 where
+  pub all : (y : ℤ) → Has b y → IsRightOperand op t y
 
 -- From the least to the greatest member.
 abbrev pub span_of_set : Progression → Span

@@ -22,10 +22,18 @@ pub record InRowPair (span : Span → Span → Span) (class : Cong → Cong → 
   pub in_span : InInterval (span (span_of_set a) (span_of_set b)) v
   pub in_class : InClass (class (class_of_set a) (class_of_set b)) v
 
--- A/B: from the least to the greatest quotient; where B is one number that divides all of A, the class of the quotients.
+-- v is the quotient of a member by a member other than 0.
+abbrev pub IsQuotient : Progression → Progression → ℤ → Type 0
+IsQuotient a b = IsResult int_div (Has a) (IsDivisor b)
+
+-- Where B is one number that divides all of A, v is in the class of the quotients.
+abbrev pub InQuotientClass : Progression → Progression → ℤ → Type 0
+InQuotientClass a b v = (d : ℤ) → b ≡ single d → d ≢ pos 0 → DividesAll d (class_of_set a) → InClass (C.div_row (class_of_set a) d) v
+
+-- A/B: from the least to the greatest quotient, and in their class.
 pub record InQuotients (a b : Progression) (v : ℤ) : Type 0 where
-  pub between : IsBetween (IsResult int_div (Has a) (IsDivisor b)) v
-  pub exact : (d : ℤ) → b ≡ single d → d ≢ pos 0 → DividesAll d (class_of_set a) → InClass (C.div_row (class_of_set a) d) v
+  pub between : IsBetween (IsQuotient a b) v
+  pub exact : InQuotientClass a b v
 
 -- A%B, where B has a number other than 0; A itself where each of its numbers is smaller than every divisor.
 pub record InRemainders (a b : Progression) (v : ℤ) : Type 0 where
@@ -34,19 +42,25 @@ pub record InRemainders (a b : Progression) (v : ℤ) : Type 0 where
   pub divisor : IsDivisor b some
   pub small : ((x y : ℤ) → Has a x → IsDivisor b y → unsigned_abs x < unsigned_abs y) → Has a v
 
--- A<<N, of the numbers of A that are not negative by the counts of N: from the least to the greatest result; a multiple of d * 2^n where d divides
--- all these numbers and no count is below n; and where n is the only count, congruent to x * 2^n modulo m * 2^n where all are congruent to x modulo m.
+-- Of numbers with the property P and counts with the property Q: v is a multiple of d * 2^n where d divides all numbers and no count is below n;
+-- and where n is the only count, congruent to x * 2^n modulo m * 2^n where all are congruent to x modulo m.
+pub record InLeftShiftClass (P Q : ℤ → Type 0) (v : ℤ) : Type 0 where
+  pub multiple : (d : ℤ) (n : ℕ) → ((x : ℤ) → P x → Divides d x) → ((y : ℤ) → Q y → n ≤ unsigned_abs y) → Divides (d *ℤ C.power n) v
+  pub exact : (n : ℕ) (m x : ℤ) → ((y : ℤ) → Q y → unsigned_abs y ≡ n) → P x → ((z : ℤ) → P z → Divides m (z -ℤ x)) → Divides (m *ℤ C.power n) (v -ℤ x *ℤ C.power n)
+
+-- A<<N, of the numbers of A that are not negative by the counts of N: from the least to the greatest result, and in their class.
 pub record InLeftShifts (t : IntType) (a b : Progression) (v : ℤ) : Type 0 where
   pub between : IsBetween (IsResult I.shift_left (IsShifted a) (IsCount t b)) v
-  pub multiple : (d : ℤ) (n : ℕ) → ((x : ℤ) → IsShifted a x → Divides d x) → ((y : ℤ) → IsCount t b y → n ≤ unsigned_abs y)
-      → Divides (d *ℤ C.power n) v
-  pub exact : (n : ℕ) (m x : ℤ) → ((y : ℤ) → IsCount t b y → unsigned_abs y ≡ n) → IsShifted a x → ((z : ℤ) → IsShifted a z → Divides m (z -ℤ x))
-      → Divides (m *ℤ C.power n) (v -ℤ x *ℤ C.power n)
+  pub class : InLeftShiftClass (IsShifted a) (IsCount t b) v
 
--- A>>N, rounded down: from the least to the greatest result; where n is the only count and 2^n divides all of A, the class of the quotients.
+-- Where n is the only count with the property Q and 2^n divides all of A, v is in the class of the quotients.
+abbrev pub InRightShiftClass : Progression → (ℤ → Type 0) → ℤ → Type 0
+InRightShiftClass a Q v = (n : ℕ) → ((y : ℤ) → Q y → unsigned_abs y ≡ n) → DividesAll (C.power n) (class_of_set a) → InClass (C.shr_row (class_of_set a) n) v
+
+-- A>>N, rounded down: from the least to the greatest result, and in their class.
 pub record InRightShifts (t : IntType) (a b : Progression) (v : ℤ) : Type 0 where
   pub between : IsBetween (IsResult I.shift_right (Has a) (IsCount t b)) v
-  pub exact : (n : ℕ) → ((y : ℤ) → IsCount t b y → unsigned_abs y ≡ n) → DividesAll (C.power n) (class_of_set a) → InClass (C.shr_row (class_of_set a) n) v
+  pub exact : InRightShiftClass a (IsCount t b) v
 
 -- Where both sets have one element, v is the exact value.
 pub record InBits (f : ℕ → ℕ → ℕ) (t : IntType) (a b : Progression) (v : ℤ) : Type 0 where

@@ -55,7 +55,7 @@ fn wrapped(ty: IntType, a: &Strided) -> Strided
 }
 
 /// The wrapping of a progression that begins at `low` and some turns, and ends `extent` above.
-fn placed(ty: IntType, low: i128, extent: u128, stride: u128) -> Strided
+pub(crate) fn placed(ty: IntType, low: i128, extent: u128, stride: u128) -> Strided
     requires in_type { IsIn ty low }
     requires congruent { stride ∣ extent }
     ensures { (first k : ℤ) → first ≡ low +ℤ turns ty k
@@ -70,7 +70,7 @@ fn placed(ty: IntType, low: i128, extent: u128, stride: u128) -> Strided
 }
 
 /// The numbers from `low` to `low` and `extent` in steps of `stride`.
-fn progression(low: i128, extent: u128, stride: u128) -> Strided
+pub(crate) fn progression(low: i128, extent: u128, stride: u128) -> Strided
     requires from { neg_ℤ (pos (2 ^ 64)) ≤ℤ low }
     requires to { (low +ℤ pos extent) ≤ℤ pos (2 ^ 64) }
     requires congruent { stride ∣ extent }
@@ -83,7 +83,7 @@ fn progression(low: i128, extent: u128, stride: u128) -> Strided
 }
 
 /// 2 to the power of the width.
-fn size(ty: IntType) -> u128
+pub(crate) fn size(ty: IntType) -> u128
     ensures { result ≡ 2 ^ width_of ty }
 {
     1 << ty.width()

@@ -1,4 +1,7 @@
 //! Cases that were worked by hand.
+mod arithmetic;
+mod rows;
+
 use super::converted;
 use strided_dom::Strided;
 use tm_cint::IntType::{self, Bool, Char, Int, LLong, Short, UChar, UInt, ULLong, UShort};
