@@ -1,1 +1,3 @@
 pub mod Refinements
+pub mod PointerFilters
+pub mod PointerLaws

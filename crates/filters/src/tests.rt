@@ -1,7 +1,11 @@
 //! Cases that were worked by hand.
 use super::*;
+use pointer_dom::{Offsets, PointerSet};
+use std::alloc::Global;
+use std::test::Fail;
 use strided_dom::Strided;
 use tm_cint::BinOp::{self, Add, Eq, Ge, Gt, Le, Lt, Ne};
+use tm_lattice::{Keyed, NoMemory};
 
 /// The numbers from the first to the second in steps of the third; none where the second is below the first.
 fn set(row: (i32, i32, u8)) -> Strided {
@@ -52,4 +56,68 @@ fn comparisons(rt: HostRuntime) {
         );
     }
     assert_eq!(rt; left_by(Add, &set(NONE), &set(NONE)), None);
+}
+
+/// Whether null and the invalid pointer are there, and the offsets in object 1, of 10 cells.
+type Row = (bool, bool, (i32, i32, u8));
+
+fn pointers(alloc: Global, row: Row) -> Result<PointerSet, NoMemory> {
+    let mut objects = Keyed::new(alloc);
+    objects.join_at(1, &Offsets::within(10, &set(row.2)))?;
+    Ok(PointerSet::from_parts(row.0, row.1, objects))
+}
+
+/// Whether a comparison leaves these two sets.
+fn leaves(
+    alloc: Global,
+    equal: bool,
+    p: Row,
+    q: Row,
+    left: Row,
+    right: Row,
+) -> Result<bool, NoMemory> {
+    let both = assume_ptr(alloc, equal, &pointers(alloc, p)?, &pointers(alloc, q)?)?;
+    Ok(both.0.same(&pointers(alloc, left)?) & both.1.same(&pointers(alloc, right)?))
+}
+
+#[test]
+fn comparisons_of_pointers(rt: HostRuntime) -> Result<(), Fail> {
+    let none = (false, false, NONE);
+    let null = (true, false, NONE);
+    let invalid = (false, true, NONE);
+    for (equal, p, q, left, right) in [
+        (
+            true,
+            (true, true, (0, 8, 2)),
+            (true, false, (4, 4, 1)),
+            (true, false, (4, 4, 1)),
+            (true, false, (4, 4, 1)),
+        ),
+        (
+            false,
+            (true, false, (0, 8, 2)),
+            null,
+            (false, false, (0, 8, 2)),
+            null,
+        ),
+        (
+            false,
+            (true, false, (0, 2, 1)),
+            (false, false, (1, 1, 1)),
+            (true, false, (0, 2, 2)),
+            (false, false, (1, 1, 1)),
+        ),
+        (
+            false,
+            (true, true, (0, 2, 1)),
+            invalid,
+            (true, true, (0, 2, 1)),
+            invalid,
+        ),
+        (false, null, null, none, none),
+        (false, (true, false, (0, 2, 1)), none, none, none),
+    ] {
+        assert!(rt; leaves(rt.alloc(), equal, p, q, left, right)?);
+    }
+    Ok(())
 }

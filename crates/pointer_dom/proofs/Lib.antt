@@ -1,0 +1,13 @@
+pub mod OffsetFacts
+pub mod MeetFacts
+pub mod ValueFacts
+pub mod Meaning
+pub mod AdvanceFacts
+pub mod WalkFacts
+pub mod StepFacts
+pub mod StandingFacts
+pub mod EqualityFacts
+pub mod OnlyFacts
+pub mod CommonFacts
+pub mod RemovalFacts
+pub mod OperationMeaning

@@ -1,0 +1,16 @@
+pub mod Offset
+pub mod Existence
+pub mod StridedSets
+pub mod Pointer
+pub mod OffsetSets
+pub mod OffsetLaws
+pub mod PointerSets
+pub mod PointerLaws
+pub mod Values
+pub mod ValueLaws
+pub mod Codes
+pub mod Forms
+pub mod Advances
+pub mod Selections
+pub mod Equality
+pub mod PointerForms

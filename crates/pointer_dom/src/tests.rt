@@ -1,0 +1,176 @@
+//! Cases that were worked by hand.
+use super::*;
+use std::alloc::Global;
+use std::test::Fail;
+use strided_dom::{Marks, Strided};
+use tm_lattice::{Keyed, Lattice, NoMemory};
+
+/// The first, the last and the stride of a set of numbers; no number where the last is below the first.
+type Numbers = (i32, i32, u8);
+
+/// Whether null and the invalid pointer are there, and the offsets in object 1, of 10 cells, and in object 2, of 5 cells.
+type Row = (bool, bool, Numbers, Numbers);
+
+const NONE: Numbers = (1, 0, 1);
+
+fn set(row: Numbers) -> Strided {
+    Strided::range(
+        i128::from(row.0),
+        i128::from(row.1),
+        i128::from(row.2.max(1)),
+    )
+}
+
+fn within(size: u32, row: Numbers) -> Offsets {
+    Offsets::within(size, &set(row))
+}
+
+fn pointers(alloc: Global, row: Row) -> Result<PointerSet, NoMemory> {
+    let mut objects = Keyed::new(alloc);
+    objects.join_at(1, &within(10, row.2))?;
+    objects.join_at(2, &within(5, row.3))?;
+    Ok(PointerSet::from_parts(row.0, row.1, objects))
+}
+
+fn is_join(alloc: Global, a: Row, b: Row, both: Row) -> Result<bool, NoMemory> {
+    let joined = pointers(alloc, a)?.join(alloc, &pointers(alloc, b)?)?;
+    Ok(joined.same(&pointers(alloc, both)?))
+}
+
+fn is_meet(alloc: Global, a: Row, b: Row, both: Row) -> Result<bool, NoMemory> {
+    let met = pointers(alloc, a)?.meet(alloc, &pointers(alloc, b)?)?;
+    Ok(met.same(&pointers(alloc, both)?))
+}
+
+fn is_rounding(alloc: Global, a: Row, outer: Row) -> Result<bool, NoMemory> {
+    let marks = marks(alloc)?;
+    let rounded = pointers(alloc, a)?.round(alloc, &marks)?;
+    Ok(rounded.same(&pointers(alloc, outer)?))
+}
+
+/// The thresholds 0, 1 and 8.
+fn marks(alloc: Global) -> Result<Marks, NoMemory> {
+    match Marks::checked(vec![in alloc; 0, 1, 8]?) {
+        None => Err(NoMemory),
+        Some(marks) => Ok(marks),
+    }
+}
+
+fn value(alloc: Global, numbers: Numbers, row: Row) -> Result<AbsValue, NoMemory> {
+    Ok(AbsValue::from_parts(set(numbers), pointers(alloc, row)?))
+}
+
+/// The offsets in an object of the pointer to object 7, of 4 cells, at offset 1.
+fn offsets_of_one(alloc: Global, object: u32) -> Result<Option<Offsets>, NoMemory> {
+    let one = PointerSet::to(alloc, 7, 4, 1)?;
+    Ok(one.offsets_of(object).copied())
+}
+
+/// Whether null is in the set, and whether the invalid pointer is.
+fn flags(set: &PointerSet) -> (bool, bool) {
+    (set.has_null(), set.has_invalid())
+}
+
+/// The letter of the form that the join of two values has.
+fn form_of_join(alloc: Global, a: (Numbers, Row), b: (Numbers, Row)) -> Result<char, NoMemory> {
+    let joined = value(alloc, a.0, a.1)?.join(alloc, &value(alloc, b.0, b.1)?)?;
+    Ok(match joined.parts() {
+        Parts::Int(_) => 'i',
+        Parts::Ptr(_) => 'p',
+        Parts::Both(_, _) => 'b',
+    })
+}
+
+#[test]
+fn offsets_in_an_object(rt: HostRuntime) {
+    for (size, from, kept) in [
+        (10, (-3, 12, 3), (0, 9, 3)),
+        (10, (0, 10, 5), (0, 10, 5)),
+        (10, (11, 20, 1), NONE),
+        (0, (0, 3, 1), (0, 0, 1)),
+    ] {
+        assert_eq!(rt; within(size, from).set(), set(kept));
+    }
+    assert_eq!(rt; within(10, (11, 20, 1)).size(), 0);
+    assert_eq!(rt; within(10, (10, 10, 1)), Offsets::one(10, 10));
+}
+
+#[test]
+fn single_pointers(rt: HostRuntime) -> Result<(), Fail> {
+    let alloc = rt.alloc();
+    assert_eq!(rt; flags(&PointerSet::null(alloc)), (true, false));
+    assert_eq!(rt; flags(&PointerSet::invalid(alloc)), (false, true));
+    assert!(rt; PointerSet::new(alloc).is_nothing());
+    assert_eq!(rt; offsets_of_one(alloc, 7)?, Some(Offsets::one(4, 1)));
+    assert_eq!(rt; offsets_of_one(alloc, 1)?, None);
+    Ok(())
+}
+
+#[test]
+fn joins(rt: HostRuntime) -> Result<(), Fail> {
+    for (a, b, both) in [
+        (
+            (true, false, (2, 2, 1), NONE),
+            (false, true, (6, 8, 2), (4, 4, 1)),
+            (true, true, (2, 8, 2), (4, 4, 1)),
+        ),
+        (
+            (false, false, NONE, NONE),
+            (true, false, NONE, (0, 5, 5)),
+            (true, false, NONE, (0, 5, 5)),
+        ),
+    ] {
+        assert!(rt; is_join(rt.alloc(), a, b, both)?);
+    }
+    Ok(())
+}
+
+#[test]
+fn meets(rt: HostRuntime) -> Result<(), Fail> {
+    for (a, b, both) in [
+        (
+            (true, true, (2, 8, 2), (0, 4, 2)),
+            (true, false, (3, 9, 3), (4, 4, 1)),
+            (true, false, (6, 6, 1), (4, 4, 1)),
+        ),
+        (
+            (false, true, (0, 4, 4), (1, 3, 1)),
+            (true, true, (1, 1, 1), NONE),
+            (false, true, NONE, NONE),
+        ),
+    ] {
+        assert!(rt; is_meet(rt.alloc(), a, b, both)?);
+    }
+    Ok(())
+}
+
+#[test]
+fn roundings(rt: HostRuntime) -> Result<(), Fail> {
+    for (a, outer) in [
+        (
+            (true, false, (2, 5, 3), (2, 4, 1)),
+            (true, false, (2, 8, 3), (1, 5, 1)),
+        ),
+        (
+            (false, true, (9, 10, 1), (2, 2, 1)),
+            (false, true, (8, 10, 1), (2, 2, 1)),
+        ),
+    ] {
+        assert!(rt; is_rounding(rt.alloc(), a, outer)?);
+    }
+    Ok(())
+}
+
+#[test]
+fn forms(rt: HostRuntime) -> Result<(), Fail> {
+    let none = (false, false, NONE, NONE);
+    let null = (true, false, NONE, NONE);
+    for (a, b, form) in [
+        ((NONE, none), (NONE, none), 'i'),
+        (((1, 2, 1), none), (NONE, null), 'b'),
+        ((NONE, null), (NONE, null), 'p'),
+    ] {
+        assert_eq!(rt; form_of_join(rt.alloc(), a, b)?, form);
+    }
+    Ok(())
+}
