@@ -33,7 +33,7 @@ use Rattle.c_expr_parser.proofs.CompleteForms.{Past, Outcome, IsComplete, FormOu
 use Rattle.c_expr_parser.proofs.TypeReading.{type_name_begins}
 use Rattle.c_expr_parser.proofs.DescentSteps.{steps_stop, steps_next}
 
-le_is : (m n : ℕ) → m ≤ n → nat_le m n ≡ true
+pub le_is : (m n : ℕ) → m ≤ n → nat_le m n ≡ true
 le_is m n le = grind (arith, nat_tests)
 
 outcome_of : (o o' : Option (Tree × List Token)) (t : Tree) (rest : List Token) (bound : ℕ) → o' ≡ o → Outcome o t rest bound → Outcome o' t rest bound

@@ -17,9 +17,14 @@ use Rattle.c_expr_parser.specs.Reading.{then_read, and_after, is_mark, after, na
 abbrev pub mark_sign : Mark → Sign
 mark_sign Marks.OpenParenthesis = Signs.OpenParenthesis
 mark_sign Marks.CloseParenthesis = Signs.CloseParenthesis
+mark_sign Marks.OpenBracket = Signs.OpenBracket
 mark_sign Marks.CloseBracket = Signs.CloseBracket
+mark_sign Marks.OpenBrace = Signs.OpenBrace
+mark_sign Marks.CloseBrace = Signs.CloseBrace
 mark_sign Marks.Colon = Signs.Colon
 mark_sign Marks.Comma = Signs.Comma
+mark_sign Marks.Semicolon = Signs.Semicolon
+mark_sign Marks.Equal = Signs.Equal
 
 pub false_true : {P : Type 0} → false ≡ true → P
 false_true e = cc
@@ -33,17 +38,27 @@ from_some e = cc
 is_mark_true : (mark : Mark) (shape : Shape) → is_mark mark shape ≡ true → shape ≡ Shapes.Sign (mark_sign mark)
 is_mark_true Marks.OpenParenthesis (Shapes.Sign Signs.OpenParenthesis) e = refl
 is_mark_true Marks.CloseParenthesis (Shapes.Sign Signs.CloseParenthesis) e = refl
+is_mark_true Marks.OpenBracket (Shapes.Sign Signs.OpenBracket) e = refl
 is_mark_true Marks.CloseBracket (Shapes.Sign Signs.CloseBracket) e = refl
+is_mark_true Marks.OpenBrace (Shapes.Sign Signs.OpenBrace) e = refl
+is_mark_true Marks.CloseBrace (Shapes.Sign Signs.CloseBrace) e = refl
 is_mark_true Marks.Colon (Shapes.Sign Signs.Colon) e = refl
 is_mark_true Marks.Comma (Shapes.Sign Signs.Comma) e = refl
+is_mark_true Marks.Semicolon (Shapes.Sign Signs.Semicolon) e = refl
+is_mark_true Marks.Equal (Shapes.Sign Signs.Equal) e = refl
 is_mark_true _ _ e = false_true e
 
 is_mark_same : (mark : Mark) → is_mark mark (Shapes.Sign (mark_sign mark)) ≡ true
 is_mark_same Marks.OpenParenthesis = refl
 is_mark_same Marks.CloseParenthesis = refl
+is_mark_same Marks.OpenBracket = refl
 is_mark_same Marks.CloseBracket = refl
+is_mark_same Marks.OpenBrace = refl
+is_mark_same Marks.CloseBrace = refl
 is_mark_same Marks.Colon = refl
 is_mark_same Marks.Comma = refl
+is_mark_same Marks.Semicolon = refl
+is_mark_same Marks.Equal = refl
 
 -- a token of another shape
 pub shaped : {a b : Shape} (p : Place) (ts : List Token) → a ≡ b → (record { shape = a; place = p }) ∷ ts ≡ (record { shape = b; place = p }) ∷ ts

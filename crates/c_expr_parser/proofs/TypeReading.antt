@@ -35,7 +35,7 @@ not_alias Words.Static n e = cc
 not_alias _ n e = cc
 
 -- a word that stands for a specifier spells it
-word_spells : (types : List Name) (seen : Bool) (w : Word) (word : SpecWord) (p : Place) (ts rest : List Token) → spec_of w ≡ Some word → Begins (Shapes.Word w) p ts rest → SpellsSpec types seen word p ts rest
+pub word_spells : (types : List Name) (seen : Bool) (w : Word) (word : SpecWord) (p : Place) (ts rest : List Token) → spec_of w ≡ Some word → Begins (Shapes.Word w) p ts rest → SpellsSpec types seen word p ts rest
 word_spells types seen w (Specs.Storage s) p ts rest e b = (w, e, b)
 word_spells types seen w (Specs.Qualifier s) p ts rest e b = (w, e, b)
 word_spells types seen w (Specs.Basic s) p ts rest e b = (w, e, b)
@@ -43,7 +43,7 @@ word_spells types seen w (Specs.Tagged kind n q) p ts rest e b = not_tagged w ki
 word_spells types seen w (Specs.Alias n) p ts rest e b = not_alias w n e
 
 -- what a specifier gives, and what it spells
-abbrev Spelled : List Name → Bool → List Token → Spec × List Token → Type 0
+abbrev pub Spelled : List Name → Bool → List Token → Spec × List Token → Type 0
 Spelled types seen ts x = SpellsSpec types seen x.0.word x.0.place ts x.1
 
 tagged_finds : (types : List Name) (seen : Bool) (kind : TagKind) (p : Place) (ts : List Token) (x : Spec × List Token) → tagged_by kind p (name_at ts) ≡ Some x → Spelled types seen ((record { shape = Shapes.Word (tag_word kind); place = p }) ∷ ts) x
@@ -68,12 +68,12 @@ spec_by_finds types seen (Shapes.Name n) p ts x e =
 spec_by_finds types seen (Shapes.Word w) p ts x e = word_finds types seen (spec_of w) w p ts x refl e
 spec_by_finds types seen _ p ts x e = none_some e
 
-spec_at_finds : (types : List Name) (seen : Bool) (ts : List Token) (x : Spec × List Token) → spec_at types seen ts ≡ Some x → Spelled types seen ts x
+pub spec_at_finds : (types : List Name) (seen : Bool) (ts : List Token) (x : Spec × List Token) → spec_at types seen ts ≡ Some x → Spelled types seen ts x
 spec_at_finds types seen [] x e = none_some e
 spec_at_finds types seen (t ∷ ts) x e = spec_by_finds types seen t.shape t.place ts x e
 
 -- what is spelled is found
-spec_at_spelled : (types : List Name) (seen : Bool) (word : SpecWord) (p : Place) (ts rest : List Token) → SpellsSpec types seen word p ts rest → spec_at types seen ts ≡ Some (record { word = word; place = p }, rest)
+pub spec_at_spelled : (types : List Name) (seen : Bool) (word : SpecWord) (p : Place) (ts rest : List Token) → SpellsSpec types seen word p ts rest → spec_at types seen ts ≡ Some (record { word = word; place = p }, rest)
 spec_at_spelled types seen (Specs.Tagged Tags.Struct n q) p ts rest s = ap (spec_at types seen) s.1 ∙ ap (tagged_by Tags.Struct p) (name_at_spelled n q s.0 rest s.2)
 spec_at_spelled types seen (Specs.Tagged Tags.Enum n q) p ts rest s = ap (spec_at types seen) s.1 ∙ ap (tagged_by Tags.Enum p) (name_at_spelled n q s.0 rest s.2)
 spec_at_spelled types seen (Specs.Alias n) p ts rest s =
@@ -82,7 +82,7 @@ spec_at_spelled types seen (Specs.Storage k) p ts rest s = ap (spec_at types see
 spec_at_spelled types seen (Specs.Qualifier k) p ts rest s = ap (spec_at types seen) s.2 ∙ ap (λ o. word_spec o s.0 p rest) s.1
 spec_at_spelled types seen (Specs.Basic k) p ts rest s = ap (spec_at types seen) s.2 ∙ ap (λ o. word_spec o s.0 p rest) s.1
 
-spec_shorter : (types : List Name) (seen : Bool) (word : SpecWord) (p : Place) (ts rest : List Token) → SpellsSpec types seen word p ts rest → length rest < length ts
+pub spec_shorter : (types : List Name) (seen : Bool) (word : SpecWord) (p : Place) (ts rest : List Token) → SpellsSpec types seen word p ts rest → length rest < length ts
 spec_shorter types seen (Specs.Tagged kind n q) p ts rest s =
     let a = begins_shorter (Shapes.Word (tag_word kind)) p ts s.0 s.1 in let b = begins_shorter (Shapes.Name n) q s.0 rest s.2 in omega arith
 spec_shorter types seen (Specs.Alias n) p ts rest s = begins_shorter (Shapes.Name n) p ts rest s.2
@@ -91,10 +91,10 @@ spec_shorter types seen (Specs.Qualifier k) p ts rest s = begins_shorter (Shapes
 spec_shorter types seen (Specs.Basic k) p ts rest s = begins_shorter (Shapes.Word s.0) p ts rest s.2
 
 -- the specifiers that were read are those before and some that the tokens spell
-abbrev SpecsRead : List Name → Bool → List Spec → List Token → List Spec × List Token → Type 0
+abbrev pub SpecsRead : List Name → Bool → List Spec → List Token → List Spec × List Token → Type 0
 SpecsRead types seen read ts x = (more : List Spec) × (x.0 ≡ read ++ more) × SpellsSpecs types seen more ts x.1
 
-specs_find : (types : List Name) (n : ℕ) (seen : Bool) (read : List Spec) (ts : List Token) → SpecsRead types seen read ts (specs_from types n seen read ts)
+pub specs_find : (types : List Name) (n : ℕ) (seen : Bool) (read : List Spec) (ts : List Token) → SpecsRead types seen read ts (specs_from types n seen read ts)
 unfolding specs_from
 specs_find types zero seen read ts = ([], sym (append-nil read), refl)
 specs_find types (suc n) seen read ts = go (spec_at types seen ts) refl (λ s rest. specs_find types n (seen || is_type_spec s.word) (read ++ s ∷ []) rest)
@@ -106,7 +106,7 @@ specs_find types (suc n) seen read ts = go (spec_at types seen ts) refl (λ s re
         (x.0 ∷ r.0, r.1 ∙ append_assoc read (x.0 ∷ []) r.0, (x.1, spec_at_finds types seen ts x h, r.2))
 
 -- tokens that begin no specifier, whatever stands before
-abbrev EndsSpecs : List Name → List Token → Type 0
+abbrev pub EndsSpecs : List Name → List Token → Type 0
 EndsSpecs types ts = (seen : Bool) → spec_at types seen ts ≡ None
 
 specs_pair : (a b : List Spec) (ts rest : List Token) → a ≡ b → ts ≡ rest → ◌≡◌ {A = List Spec × List Token} (a, ts) (b, rest)
@@ -145,10 +145,10 @@ pointer_at_spelled Pointers.Restrict p ts rest e = (ap (pointer_at true) e, ap w
 starts_with : (w : PointerWord) (words : List PointerWord) → w ≡ Pointers.Star → BeginsWithStar (w ∷ words)
 starts_with w words e = subst (λ v. BeginsWithStar (v ∷ words)) (sym e) tt
 
-abbrev PointersRead : Bool → List PointerWord → List Token → List PointerWord × List Token → Type 0
+abbrev pub PointersRead : Bool → List PointerWord → List Token → List PointerWord × List Token → Type 0
 PointersRead started read ts x = (more : List PointerWord) × (x.0 ≡ read ++ more) × SpellsPointers more ts x.1 × ((started ≡ false) → BeginsWithStar more)
 
-pointers_find : (n : ℕ) (started : Bool) (read : List PointerWord) (ts : List Token) → PointersRead started read ts (pointers_from n started read ts)
+pub pointers_find : (n : ℕ) (started : Bool) (read : List PointerWord) (ts : List Token) → PointersRead started read ts (pointers_from n started read ts)
 unfolding pointers_from
 pointers_find zero started read ts = ([], sym (append-nil read), refl, λ f. tt)
 pointers_find (suc n) started read ts = go (pointer_at started ts) refl (λ w. pointers_find n true (read ++ w ∷ []) (without_first ts))
@@ -187,7 +187,7 @@ none_before (t ∷ ts) e = go t.shape e
     go (Shapes.Integer _) e = refl
     go (Shapes.Character _) e = refl
 
-pointers_spelled : (words : List PointerWord) (ts rest : List Token) → SpellsPointers words ts rest → BeginsWithStar words → pointer_at true rest ≡ None → pointers_from (length ts) false [] ts ≡ (words, rest)
+pub pointers_spelled : (words : List PointerWord) (ts rest : List Token) → SpellsPointers words ts rest → BeginsWithStar words → pointer_at true rest ≡ None → pointers_from (length ts) false [] ts ≡ (words, rest)
 pointers_spelled [] ts rest s star ends =
     pointers_stop (length ts) false [] ts (ap (pointer_at false) s ∙ none_before rest ends) ∙ pointers_pair _ _ _ _ refl s
 pointers_spelled (Pointers.Star ∷ words) ts rest s star ends =
@@ -258,7 +258,7 @@ specs_shorter types seen (x ∷ specs) ts rest s =
     let a = spec_shorter types seen x.word x.place ts s.0 s.1 in
     let b = specs_shorter types (seen || is_type_spec x.word) specs s.0 rest s.2 in omega arith
 
-pointers_shorter : (words : List PointerWord) (ts rest : List Token) → SpellsPointers words ts rest → length rest ≤ length ts
+pub pointers_shorter : (words : List PointerWord) (ts rest : List Token) → SpellsPointers words ts rest → length rest ≤ length ts
 pointers_shorter [] ts rest s = let n : length ts ≡ length rest = ap length s in omega arith
 pointers_shorter (w ∷ words) ts rest s =
     let a = begins_shorter (pointer_shape w) s.0 ts s.1 s.2 in let b = pointers_shorter words s.1 rest s.3 in omega arith

@@ -1,4 +1,4 @@
--- A recursive descent over lists of tokens: what the code computes.
+-- A recursive descent over lists of tokens: what the code computes, here and in the parser of whole files.
 use Rattle.std.specs.Prelude.{ℕ, zero, suc, Bool, true, false, not, cond, ◌||◌, ◌&&◌, List, [], ◌∷◌, ◌++◌, length, Option, Some, None}
 use Rattle.std.specs.Borrow.{Bor}
 use Rattle.tm_terms.specs.declared.places.Place.{Place}
@@ -60,9 +60,14 @@ seen_name (Some found) = Some ((found.0, found.1), found.2.now)
 abbrev pub is_mark : Mark → Shape → Bool
 is_mark Marks.OpenParenthesis (Shapes.Sign Signs.OpenParenthesis) = true
 is_mark Marks.CloseParenthesis (Shapes.Sign Signs.CloseParenthesis) = true
+is_mark Marks.OpenBracket (Shapes.Sign Signs.OpenBracket) = true
 is_mark Marks.CloseBracket (Shapes.Sign Signs.CloseBracket) = true
+is_mark Marks.OpenBrace (Shapes.Sign Signs.OpenBrace) = true
+is_mark Marks.CloseBrace (Shapes.Sign Signs.CloseBrace) = true
 is_mark Marks.Colon (Shapes.Sign Signs.Colon) = true
 is_mark Marks.Comma (Shapes.Sign Signs.Comma) = true
+is_mark Marks.Semicolon (Shapes.Sign Signs.Semicolon) = true
+is_mark Marks.Equal (Shapes.Sign Signs.Equal) = true
 is_mark _ _ = false
 
 -- what follows the mark, if it comes first

@@ -1,10 +1,11 @@
+//! The levels at which expressions stand (C99 6.5).
 ghost use Rattle.std.specs.Prelude.{◌≡◌, ◌<◌, suc};
 ghost use Rattle.tm_terms.specs.ExprTrees.{rank, binary_level, infix_level, left_level, right_level, operand_level, level, tree_of};
 
 use tm_terms::{Binary, Expr, Infix, Level, Prefix};
 
-// The levels as numbers, loosest first.
-pub(crate) fn rank(level: Level) -> u32
+/// The levels as numbers, loosest first.
+pub fn rank(level: Level) -> u32
     ensures { result ≡ rank level }
 {
     match level {

@@ -4,14 +4,14 @@
 mod descents;
 mod found;
 pub mod laws;
-mod levels;
-mod marks;
+pub mod levels;
+pub mod marks;
 mod nodes;
 mod operators;
 mod parses;
-mod spec_lists;
+pub mod spec_lists;
 #[cfg(test)]
 mod tests;
-mod type_names;
+pub mod type_names;
 
 pub use parses::{MAX_HEIGHT, Parsed, parse_at, parse_expr};

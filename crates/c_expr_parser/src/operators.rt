@@ -74,6 +74,7 @@ pub(crate) fn spec_of(word: Word) -> Option<SpecWord>
         Word::Volatile => Some(SpecWord::Qualifier(Qualifier::Volatile)),
         Word::Restrict => Some(SpecWord::Qualifier(Qualifier::Restrict)),
         Word::Void => Some(SpecWord::Basic(Basic::Void)),
+        Word::Bool => Some(SpecWord::Basic(Basic::Bool)),
         Word::Char => Some(SpecWord::Basic(Basic::Char)),
         Word::Short => Some(SpecWord::Basic(Basic::Short)),
         Word::Int => Some(SpecWord::Basic(Basic::Int)),

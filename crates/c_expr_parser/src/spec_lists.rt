@@ -1,10 +1,11 @@
+//! Lists of specifiers (C99 6.7, 6.7.2).
 ghost use Rattle.std.specs.Prelude.{◌≡◌, ◌<◌, ◌≤◌, ◌^◌, length, count_by};
-ghost use Rattle.tm_terms.specs.ExprSpelling.{is_type_spec, is_basic, is_storage, is_typedef_word, is_declared_type, many, is_integer_list, is_type_list, is_type_name_list};
+ghost use Rattle.tm_terms.specs.ExprSpelling.{is_type_spec, is_basic, is_lone, is_storage, is_typedef_word, is_declared_type, many, is_integer_list, is_type_list, is_type_name_list};
 
 use tm_terms::{Basic, Spec, SpecWord, Storage};
 
-// Whether the specifier says what type is meant.
-pub(crate) fn is_type_spec(word: SpecWord) -> bool
+/// Whether the specifier says what type is meant.
+pub fn is_type_spec(word: SpecWord) -> bool
     ensures { result ≡ is_type_spec word }
 {
     match word {
@@ -18,6 +19,7 @@ fn is_basic(basic: Basic, word: SpecWord) -> bool
 {
     match (basic, word) {
         (Basic::Void, SpecWord::Basic(Basic::Void)) => true,
+        (Basic::Bool, SpecWord::Basic(Basic::Bool)) => true,
         (Basic::Char, SpecWord::Basic(Basic::Char)) => true,
         (Basic::Short, SpecWord::Basic(Basic::Short)) => true,
         (Basic::Int, SpecWord::Basic(Basic::Int)) => true,
@@ -26,6 +28,12 @@ fn is_basic(basic: Basic, word: SpecWord) -> bool
         (Basic::Unsigned, SpecWord::Basic(Basic::Unsigned)) => true,
         _ => false,
     }
+}
+
+fn is_lone(word: SpecWord) -> bool
+    ensures { result ≡ is_lone word }
+{
+    matches!(word, SpecWord::Basic(Basic::Void | Basic::Bool))
 }
 
 fn is_storage(word: SpecWord) -> bool
@@ -54,13 +62,21 @@ fn count(basic: Basic, specs: &[Spec]) -> usize
     specs.iter().filter(|s| is_basic(basic, s.word)).count()
 }
 
-fn count_storages(specs: &[Spec]) -> usize
+fn count_lone(specs: &[Spec]) -> usize
+    ensures { result ≡ many is_lone specs.now }
+{
+    specs.iter().filter(|s| is_lone(s.word)).count()
+}
+
+/// How many storage words stand in the list.
+pub fn count_storages(specs: &[Spec]) -> usize
     ensures { result ≡ many is_storage specs.now }
 {
     specs.iter().filter(|s| is_storage(s.word)).count()
 }
 
-fn count_typedefs(specs: &[Spec]) -> usize
+/// How many words `typedef` stand in the list.
+pub fn count_typedefs(specs: &[Spec]) -> usize
     ensures { result ≡ many is_typedef_word specs.now }
 {
     specs.iter().filter(|s| is_typedef_word(s.word)).count()
@@ -84,8 +100,8 @@ fn is_integer_list(chars: usize, shorts: usize, ints: usize, longs: usize, signs
         || (chars == 0 && shorts == 0 && ints <= 1 && longs <= 2 && 1 <= ints + longs + signs)
 }
 
-// Whether the list names exactly one type.
-fn is_type_list(specs: &[Spec]) -> bool
+/// Whether the list names exactly one type.
+pub fn is_type_list(specs: &[Spec]) -> bool
     ensures { result ≡ is_type_list specs.now }
 {
     let chars = count(Basic::Char, specs);
@@ -95,14 +111,14 @@ fn is_type_list(specs: &[Spec]) -> bool
     let signed = count(Basic::Signed, specs);
     let unsigned = count(Basic::Unsigned, specs);
     let named = count_declared_types(specs);
-    let voids = count(Basic::Void, specs);
+    let lone = count_lone(specs);
     let basics = chars + shorts + ints + longs + signed + unsigned;
-    (named + voids == 1 && basics == 0)
-        || (named + voids == 0 && is_integer_list(chars, shorts, ints, longs, signed + unsigned))
+    (named + lone == 1 && basics == 0)
+        || (named + lone == 0 && is_integer_list(chars, shorts, ints, longs, signed + unsigned))
 }
 
-// Whether these may be the specifiers of a type name.
-pub(crate) fn is_type_name_list(specs: &[Spec]) -> bool
+/// Whether these may be the specifiers of a type name.
+pub fn is_type_name_list(specs: &[Spec]) -> bool
     ensures { result ≡ is_type_name_list specs.now }
 {
     is_type_list(specs) && count_storages(specs) <= 1 && count_typedefs(specs) == 0

@@ -1,3 +1,4 @@
+//! Specifiers, pointer parts and type names (C99 6.7, 6.7.5, 6.7.6).
 ghost use Rattle.std.specs.Prelude.{◌≡◌, ◌||◌, [], ◌∷◌, ◌++◌, length, false, IfOk, OnOk};
 ghost use Rattle.tm_terms.specs.ExprTrees.{type_tree};
 ghost use Rattle.tm_terms.specs.ExprSpelling.{is_type_spec};
@@ -12,8 +13,8 @@ use tm_terms::{
     Name, Names, Place, PointerWord, Shape, Sign, Spec, SpecWord, TagKind, Token, TypeName, Word,
 };
 
-// The specifier that comes first, where `seen` says whether a type stands before it.
-fn spec_at<'a>(types: &Names, seen: bool, tokens: &'a [Token]) -> Option<(Spec, &'a [Token])>
+/// The specifier that comes first, where `seen` says whether a type stands before it in the list.
+pub fn spec_at<'a>(types: &Names, seen: bool, tokens: &'a [Token]) -> Option<(Spec, &'a [Token])>
     ensures { seen_pair result ≡ spec_at types.now seen tokens.now }
 {
     if let [first, rest @ ..] = tokens {
@@ -73,8 +74,8 @@ fn tagged<'a>(kind: TagKind, place: Place, rest: &'a [Token]) -> Option<(Spec, &
     }
 }
 
-// Whether the first token begins a type name.
-pub(crate) fn begins_type(types: &Names, tokens: &[Token]) -> bool
+/// Whether the first token begins a type name.
+pub fn begins_type(types: &Names, tokens: &[Token]) -> bool
     ensures { result ≡ begins_type types.now tokens.now }
 {
     if let [first, ..] = tokens {
@@ -182,8 +183,8 @@ fn read_specs<'a>(
     Ok((specs, rest))
 }
 
-// The pointer part that comes first.
-fn read_pointers<'a>(
+/// The pointer part that comes first.
+pub fn read_pointers<'a>(
     alloc: Global,
     tokens: &'a [Token],
 ) -> Result<(Vec<PointerWord>, &'a [Token]), NoMemory>

@@ -120,6 +120,7 @@ spec_of Words.Const = Some (Specs.Qualifier Qualifiers.Const)
 spec_of Words.Volatile = Some (Specs.Qualifier Qualifiers.Volatile)
 spec_of Words.Restrict = Some (Specs.Qualifier Qualifiers.Restrict)
 spec_of Words.Void = Some (Specs.Basic Basics.Void)
+spec_of Words.Bool = Some (Specs.Basic Basics.Bool)
 spec_of Words.Char = Some (Specs.Basic Basics.Char)
 spec_of Words.Short = Some (Specs.Basic Basics.Short)
 spec_of Words.Int = Some (Specs.Basic Basics.Int)
@@ -160,6 +161,7 @@ SpellsSpecs types seen (s ∷ specs) ts rest =
 -- a specifier is this type word
 abbrev pub is_basic : Basic → SpecWord → Bool
 is_basic Basics.Void (Specs.Basic Basics.Void) = true
+is_basic Basics.Bool (Specs.Basic Basics.Bool) = true
 is_basic Basics.Char (Specs.Basic Basics.Char) = true
 is_basic Basics.Short (Specs.Basic Basics.Short) = true
 is_basic Basics.Int (Specs.Basic Basics.Int) = true
@@ -167,6 +169,12 @@ is_basic Basics.Long (Specs.Basic Basics.Long) = true
 is_basic Basics.Signed (Specs.Basic Basics.Signed) = true
 is_basic Basics.Unsigned (Specs.Basic Basics.Unsigned) = true
 is_basic _ _ = false
+
+-- a specifier is a type word that makes a type alone
+abbrev pub is_lone : SpecWord → Bool
+is_lone (Specs.Basic Basics.Void) = true
+is_lone (Specs.Basic Basics.Bool) = true
+is_lone _ = false
 
 -- a specifier is a storage word, or the one of typedefs
 abbrev pub is_storage : SpecWord → Bool
@@ -194,12 +202,12 @@ is_integer_list chars shorts ints longs signs =
     || ((chars == 0) && (shorts == 1) && nat_le ints 1 && (longs == 0))
     || ((chars == 0) && (shorts == 0) && nat_le ints 1 && nat_le longs 2 && nat_le 1 (ints + longs + signs)))
 
--- exactly one type is named: `void`, a list of type words, a structure, an enumeration, or a typedef's name
+-- exactly one type is named: `void`, `_Bool`, a list of type words, a structure, an enumeration, or a typedef's name
 abbrev pub is_type_list : List Spec → Bool
 is_type_list specs =
     let basics = many (is_basic Basics.Char) specs + many (is_basic Basics.Short) specs + many (is_basic Basics.Int) specs + many (is_basic Basics.Long) specs + many (is_basic Basics.Signed) specs + many (is_basic Basics.Unsigned) specs in
-    ((many is_declared_type specs + many (is_basic Basics.Void) specs == 1) && (basics == 0))
-    || ((many is_declared_type specs + many (is_basic Basics.Void) specs == 0)
+    ((many is_declared_type specs + many is_lone specs == 1) && (basics == 0))
+    || ((many is_declared_type specs + many is_lone specs == 0)
     && is_integer_list (many (is_basic Basics.Char) specs) (many (is_basic Basics.Short) specs) (many (is_basic Basics.Int) specs) (many (is_basic Basics.Long) specs) (many (is_basic Basics.Signed) specs + many (is_basic Basics.Unsigned) specs))
 
 -- the specifiers of a type name: one type, at most one storage word, and no `typedef`

@@ -31,6 +31,7 @@ pub enum Qualifier {
 #[derive(Clone, Copy, PartialEq, Eq, Debug)]
 pub enum Basic {
     Void,
+    Bool,
     Char,
     Short,
     Int,
