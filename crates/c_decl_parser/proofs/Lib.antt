@@ -1,0 +1,14 @@
+pub mod DeclarationReading
+pub mod DeclarationSteps
+pub mod DeclaratorReading
+pub mod EnumeratorReading
+pub mod ExpressionReading
+pub mod Longest
+pub mod MarkReading
+pub mod RepetitionReading
+pub mod RepetitionSteps
+pub mod SpecifierReading
+pub mod SpecifierStarts
+pub mod SpecifierSteps
+pub mod TypeLists
+pub mod ValueReading

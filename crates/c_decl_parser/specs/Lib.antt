@@ -1,0 +1,4 @@
+pub mod DeclarationDescent
+pub mod Openings
+pub mod Reading
+pub mod Repetitions

@@ -1,0 +1,233 @@
+//! Declarators (C99 6.7.5).
+ghost use Rattle.std.specs.Prelude.{◌≡◌, ◌≤◌, [], ◌∷◌, ◌++◌, length, map, true, Some, IfOk, OnOk};
+ghost use Rattle.c_expr_parser.specs.Reading.{then_read};
+ghost use Rattle.tm_trees.specs.DeclarationTrees.{length_tree, a_declared_name, a_nested, declarator_tree};
+ghost use Rattle.c_decl_parser.specs.Reading.{seen};
+ghost use Rattle.c_decl_parser.specs.Repetitions.{separated, one_or_more};
+ghost use Rattle.c_decl_parser.specs.DeclarationDescent.{lengths, declarator_after, declarator};
+
+use crate::expressions::until;
+use crate::reads::Read;
+use crate::tokens::{declared_at, place_after};
+use c_expr_parser::marks::{Mark, after};
+use c_expr_parser::type_names::read_pointers;
+use std::alloc::Global;
+use tm_lattice::NoMemory;
+use tm_terms::{Level, Name, Names, Place, PointerWord, Token};
+use tm_trees::{Declarator, Length};
+
+fn push_length(lengths: &mut Vec<Length>, length: Length) -> Result<(), NoMemory>
+    ensures { OnOk result (map length_tree lengths.new.items ≡ map length_tree lengths.old.items ++ length_tree length ∷ []) }
+{
+    match lengths.push(length) {
+        Ok(()) => Ok(()),
+        Err(_) => Err(NoMemory),
+    }
+}
+
+/// All lengths of arrays that come first.
+pub fn lengths<'a>(
+    alloc: Global,
+    types: &Names,
+    allowed: u32,
+    tokens: &'a [Token],
+) -> Result<Read<'a, Vec<Length>>, NoMemory>
+    requires { allowed ≤ 500 }
+    ensures { IfOk result (λ read. seen (λ v. map length_tree v.items) read ≡ lengths types.now allowed tokens.now) }
+{
+    let mut found = Vec::new(alloc);
+    let mut rest = tokens;
+    let limit = tokens.len();
+    'lengths: for _i in 0..limit {
+        match place_after(Mark::OpenBracket, rest) {
+            None => return Ok(Read::Found(found, rest)),
+            Some((place, inside)) => {
+                match until(
+                    alloc,
+                    types,
+                    allowed,
+                    Level::Condition,
+                    Mark::CloseBracket,
+                    inside,
+                )? {
+                    Read::Stuck(at) => return Ok(Read::Stuck(at)),
+                    Read::Found(value, next) => {
+                        push_length(&mut found, Length { value, place })?;
+                        rest = next;
+                    }
+                }
+            }
+        }
+    }
+    Ok(Read::Found(found, rest))
+}
+
+// The declarator of a name, whose lengths follow.
+fn named<'a>(
+    alloc: Global,
+    types: &Names,
+    allowed: u32,
+    pointers: Vec<PointerWord>,
+    name: Name,
+    place: Place,
+    tokens: &'a [Token],
+) -> Result<Read<'a, Declarator>, NoMemory>
+    requires { allowed ≤ 500 }
+    ensures { IfOk result (λ read. seen declarator_tree read ≡ then_read (lengths types.now allowed tokens.now) (λ sizes rest. Some (a_declared_name pointers.items name place sizes, rest))) }
+{
+    match lengths(alloc, types, allowed, tokens)? {
+        Read::Stuck(at) => Ok(Read::Stuck(at)),
+        Read::Found(lengths, rest) => Ok(Read::Found(
+            Declarator::Name {
+                pointers,
+                name,
+                lengths,
+                place,
+            },
+            rest,
+        )),
+    }
+}
+
+fn boxed(alloc: Global, declarator: Declarator) -> Result<Box<Declarator>, NoMemory>
+    ensures { IfOk result (λ b. b.value ≡ declarator) }
+{
+    match Box::new(alloc, declarator) {
+        Ok(declarator) => Ok(declarator),
+        Err(_) => Err(NoMemory),
+    }
+}
+
+// The declarator around one in parentheses, whose lengths follow.
+fn nested<'a>(
+    alloc: Global,
+    types: &Names,
+    allowed: u32,
+    pointers: Vec<PointerWord>,
+    inside: Declarator,
+    tokens: &'a [Token],
+) -> Result<Read<'a, Declarator>, NoMemory>
+    requires { allowed ≤ 500 }
+    ensures { IfOk result (λ read. seen declarator_tree read ≡ then_read (lengths types.now allowed tokens.now) (λ sizes rest. Some (a_nested pointers.items (declarator_tree inside) sizes, rest))) }
+{
+    let inside = boxed(alloc, inside)?;
+    match lengths(alloc, types, allowed, tokens)? {
+        Read::Stuck(at) => Ok(Read::Stuck(at)),
+        Read::Found(lengths, rest) => Ok(Read::Found(
+            Declarator::Nested {
+                pointers,
+                inside,
+                lengths,
+            },
+            rest,
+        )),
+    }
+}
+
+/// The declarator whose pointer part was read.
+#[cycle(declarator)]
+#[tactic(auto, unfolding(crate::specs::DeclarationDescent::declarator_after))]
+pub fn declarator_after<'a>(
+    alloc: Global,
+    types: &Names,
+    member: bool,
+    allowed: u32,
+    pointers: Vec<PointerWord>,
+    tokens: &'a [Token],
+) -> Result<Read<'a, Declarator>, NoMemory>
+    requires { allowed ≤ 500 }
+    ensures { IfOk result (λ read. seen declarator_tree read ≡ declarator_after member types.now allowed pointers.items tokens.now) }
+{
+    if allowed == 0 {
+        return Ok(Read::Stuck(tokens));
+    }
+    match after(Mark::OpenParenthesis, tokens) {
+        None => match declared_at(types, member, tokens) {
+            None => Ok(Read::Stuck(tokens)),
+            Some((name, place, rest)) => {
+                named(alloc, types, allowed - 1, pointers, name, place, rest)
+            }
+        },
+        Some(opened) => match declarator(alloc, types, member, allowed - 1, opened)? {
+            Read::Stuck(at) => Ok(Read::Stuck(at)),
+            Read::Found(inside, next) => match after(Mark::CloseParenthesis, next) {
+                None => Ok(Read::Stuck(next)),
+                Some(rest) => nested(alloc, types, allowed - 1, pointers, inside, rest),
+            },
+        },
+    }
+}
+
+/// A declarator.
+#[cycle(declarator)]
+pub fn declarator<'a>(
+    alloc: Global,
+    types: &Names,
+    member: bool,
+    allowed: u32,
+    tokens: &'a [Token],
+) -> Result<Read<'a, Declarator>, NoMemory>
+    requires { allowed ≤ 500 }
+    ensures { IfOk result (λ read. seen declarator_tree read ≡ declarator member types.now allowed tokens.now) }
+{
+    let (pointers, rest) = read_pointers(alloc, tokens)?;
+    declarator_after(alloc, types, member, allowed, pointers, rest)
+}
+
+fn push_declarator(
+    declarators: &mut Vec<Declarator>,
+    declarator: Declarator,
+) -> Result<(), NoMemory>
+    ensures { OnOk result (map declarator_tree declarators.new.items ≡ map declarator_tree declarators.old.items ++ declarator_tree declarator ∷ []) }
+{
+    match declarators.push(declarator) {
+        Ok(()) => Ok(()),
+        Err(_) => Err(NoMemory),
+    }
+}
+
+// Behind the first declarator of members the further ones, each after a `,`.
+fn further_members<'a>(
+    alloc: Global,
+    types: &Names,
+    allowed: u32,
+    first: Declarator,
+    tokens: &'a [Token],
+) -> Result<Read<'a, Vec<Declarator>>, NoMemory>
+    requires { allowed ≤ 500 }
+    ensures { IfOk result (λ read. seen (λ v. map declarator_tree v.items) read ≡ separated (declarator true types.now allowed) (length tokens.now) (declarator_tree first ∷ []) tokens.now) }
+{
+    let mut found = Vec::new(alloc);
+    push_declarator(&mut found, first)?;
+    let mut rest = tokens;
+    let limit = tokens.len();
+    'declarators: for _i in 0..limit {
+        match after(Mark::Comma, rest) {
+            None => return Ok(Read::Found(found, rest)),
+            Some(parted) => match declarator(alloc, types, true, allowed, parted)? {
+                Read::Stuck(at) => return Ok(Read::Stuck(at)),
+                Read::Found(declarator, next) => {
+                    push_declarator(&mut found, declarator)?;
+                    rest = next;
+                }
+            },
+        }
+    }
+    Ok(Read::Found(found, rest))
+}
+
+/// The declarators of members: at least one.
+pub fn member_declarators<'a>(
+    alloc: Global,
+    types: &Names,
+    allowed: u32,
+    tokens: &'a [Token],
+) -> Result<Read<'a, Vec<Declarator>>, NoMemory>
+    requires { allowed ≤ 500 }
+    ensures { IfOk result (λ read. seen (λ v. map declarator_tree v.items) read ≡ one_or_more (declarator true types.now allowed) tokens.now) }
+{
+    match declarator(alloc, types, true, allowed, tokens)? {
+        Read::Stuck(at) => Ok(Read::Stuck(at)),
+        Read::Found(first, rest) => further_members(alloc, types, allowed, first, rest),
+    }
+}

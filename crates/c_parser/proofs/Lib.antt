@@ -1,0 +1,11 @@
+pub mod BracketSteps
+pub mod FileAnswers
+pub mod FileComplete
+pub mod FileSound
+pub mod FileStarts
+pub mod FileSteps
+pub mod FirstWords
+pub mod StatementComplete
+pub mod StatementSound
+pub mod StatementStarts
+pub mod StatementSteps

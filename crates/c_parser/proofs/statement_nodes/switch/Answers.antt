@@ -1,0 +1,8 @@
+use Rattle.std.proofs.Common.{◌≡◌, IfOk, subst}
+use Rattle.tm_trees.specs.FileTrees.{StatementTree}
+use Rattle.tm_trees.proofs.StatementNodes.{statement_tree-switch}
+use Rattle.c_parser.specs.Founds.{boxed_tree}
+use Rattle.c_parser.proofs.statement_nodes.switch.Goals as goal
+
+pub returns : goal.returns
+returns c = subst (λ (t : StatementTree). IfOk c.boxed.result (λ s. boxed_tree s ≡ t)) (statement_tree-switch c.args.value c.args.parts) c.boxed.ensures

@@ -1,0 +1,2 @@
+pub mod FileDescent
+pub mod Founds

@@ -1,0 +1,212 @@
+//! Parameters of functions (C99 6.7.5.3).
+ghost use Rattle.std.specs.Prelude.{◌≡◌, ◌≤◌, [], ◌∷◌, length, map, IfOk};
+ghost use Rattle.c_expr_parser.specs.Reading.{then_read, seen_rest};
+ghost use Rattle.tm_trees.specs.DeclarationTrees.{specifier_tree};
+ghost use Rattle.tm_trees.specs.FileTrees.{parameter_tree, parameters_tree};
+ghost use Rattle.c_decl_parser.specs.Reading.{seen};
+ghost use Rattle.c_decl_parser.specs.Repetitions.{separated};
+ghost use Rattle.c_decl_parser.specs.DeclarationDescent.{specifiers};
+ghost use Rattle.c_parser.specs.FileDescent.{only_void_at, declares, declares_by, parameter_by, parameter_after, parameter, list_by, parameters};
+
+use c_decl_parser::declarators::declarator_after;
+use c_decl_parser::reads::{Read, push};
+use c_decl_parser::specifiers::{names_type, specifiers};
+use c_decl_parser::tokens::{Keyword, after_word};
+use c_expr_parser::marks::{Mark, after};
+use c_expr_parser::type_names::read_pointers;
+use std::alloc::Global;
+use tm_lattice::NoMemory;
+use tm_terms::{Names, PointerWord, Shape, Sign, Token};
+use tm_trees::{Parameter, Parameters, Specifier};
+
+// What follows `void` alone and the `)`.
+#[tactic(auto, unfolding(crate::specs::FileDescent::only_void_at))]
+pub(crate) fn only_void_at(tokens: &[Token]) -> Option<&[Token]>
+    ensures { seen_rest result ≡ only_void_at tokens.now }
+{
+    match after_word(Keyword::Void, tokens) {
+        None => None,
+        Some(rest) => after(Mark::CloseParenthesis, rest),
+    }
+}
+
+fn declares_by(shape: Shape) -> bool
+    ensures { result ≡ declares_by shape }
+{
+    match shape {
+        Shape::Name(_) => true,
+        Shape::Sign(Sign::OpenParenthesis) => true,
+        _ => false,
+    }
+}
+
+// Whether a name or a declarator in parentheses comes first.
+fn declares(tokens: &[Token]) -> bool
+    ensures { result ≡ declares tokens.now }
+{
+    if let [first, ..] = tokens {
+        return declares_by(first.shape);
+    }
+    false
+}
+
+// A parameter behind its specifiers and its pointer part.
+fn parameter_behind<'a>(
+    alloc: Global,
+    types: &Names,
+    allowed: u32,
+    specifiers: Vec<Specifier>,
+    pointers: Vec<PointerWord>,
+    tokens: &'a [Token],
+) -> Result<Read<'a, Parameter>, NoMemory>
+    requires { allowed ≤ 500 }
+    ensures { IfOk result (λ read. seen parameter_tree read ≡ parameter_by types.now allowed (map specifier_tree specifiers.items) pointers.items (declares tokens.now) tokens.now) }
+{
+    if !declares(tokens) {
+        return Ok(Read::Found(
+            Parameter::Unnamed {
+                specifiers,
+                pointers,
+            },
+            tokens,
+        ));
+    }
+    match declarator_after(alloc, types, false, allowed, pointers, tokens)? {
+        Read::Stuck(at) => Ok(Read::Stuck(at)),
+        Read::Found(declarator, rest) => Ok(Read::Found(
+            Parameter::Named {
+                specifiers,
+                declarator,
+            },
+            rest,
+        )),
+    }
+}
+
+// A parameter behind its specifiers.
+fn parameter_after<'a>(
+    alloc: Global,
+    types: &Names,
+    allowed: u32,
+    specifiers: Vec<Specifier>,
+    tokens: &'a [Token],
+) -> Result<Read<'a, Parameter>, NoMemory>
+    requires { allowed ≤ 500 }
+    ensures { IfOk result (λ read. seen parameter_tree read ≡ parameter_after types.now allowed (map specifier_tree specifiers.items) tokens.now) }
+{
+    let named = names_type(alloc, &specifiers)?;
+    if named {
+        let (pointers, behind) = read_pointers(alloc, tokens)?;
+        parameter_behind(alloc, types, allowed, specifiers, pointers, behind)
+    } else {
+        Ok(Read::Stuck(tokens))
+    }
+}
+
+// A parameter of at most the allowed height.
+fn parameter<'a>(
+    alloc: Global,
+    types: &Names,
+    allowed: u32,
+    tokens: &'a [Token],
+) -> Result<Read<'a, Parameter>, NoMemory>
+    requires { allowed ≤ 500 }
+    ensures { IfOk result (λ read. seen parameter_tree read ≡ parameter types.now allowed tokens.now) }
+{
+    if allowed == 0 {
+        return Ok(Read::Stuck(tokens));
+    }
+    parameter_within(alloc, types, allowed - 1, tokens)
+}
+
+// A parameter whose parts have at most the allowed height.
+fn parameter_within<'a>(
+    alloc: Global,
+    types: &Names,
+    allowed: u32,
+    tokens: &'a [Token],
+) -> Result<Read<'a, Parameter>, NoMemory>
+    requires { allowed ≤ 500 }
+    ensures { IfOk result (λ read. seen parameter_tree read ≡ then_read (specifiers types.now allowed tokens.now) (λ found rest. parameter_after types.now allowed found rest)) }
+{
+    match specifiers(alloc, types, allowed, tokens)? {
+        Read::Stuck(at) => Ok(Read::Stuck(at)),
+        Read::Found(specifiers, behind) => {
+            parameter_after(alloc, types, allowed, specifiers, behind)
+        }
+    }
+}
+
+// Further parameters, each after a `,`.
+fn further_parameters<'a>(
+    alloc: Global,
+    types: &Names,
+    allowed: u32,
+    first: Parameter,
+    tokens: &'a [Token],
+) -> Result<Read<'a, Vec<Parameter>>, NoMemory>
+    requires { allowed ≤ 500 }
+    ensures { IfOk result (λ read. seen (λ v. map parameter_tree v.items) read ≡ separated (parameter types.now allowed) (length tokens.now) (parameter_tree first ∷ []) tokens.now) }
+{
+    let mut found = Vec::new(alloc);
+    push(&mut found, first)?;
+    let mut rest = tokens;
+    let limit = tokens.len();
+    'parameters: for _i in 0..limit {
+        match after(Mark::Comma, rest) {
+            None => return Ok(Read::Found(found, rest)),
+            Some(parted) => match parameter(alloc, types, allowed, parted)? {
+                Read::Stuck(at) => return Ok(Read::Stuck(at)),
+                Read::Found(one, next) => {
+                    push(&mut found, one)?;
+                    rest = next;
+                }
+            },
+        }
+    }
+    Ok(Read::Found(found, rest))
+}
+
+// At least one parameter, and the `)`.
+fn parameter_list<'a>(
+    alloc: Global,
+    types: &Names,
+    allowed: u32,
+    tokens: &'a [Token],
+) -> Result<Read<'a, Parameters>, NoMemory>
+    requires { allowed ≤ 500 }
+    ensures { IfOk result (λ read. seen parameters_tree read ≡ list_by types.now allowed None tokens.now) }
+{
+    match parameter(alloc, types, allowed, tokens)? {
+        Read::Stuck(at) => Ok(Read::Stuck(at)),
+        Read::Found(first, behind) => {
+            match further_parameters(alloc, types, allowed, first, behind)? {
+                Read::Stuck(at) => Ok(Read::Stuck(at)),
+                Read::Found(found, end) => match after(Mark::CloseParenthesis, end) {
+                    None => Ok(Read::Stuck(end)),
+                    Some(rest) => Ok(Read::Found(Parameters::List(found), rest)),
+                },
+            }
+        }
+    }
+}
+
+// The parameters behind the `(`, and the `)`.
+#[tactic(auto, unfolding(crate::specs::FileDescent::parameters))]
+pub(crate) fn parameters<'a>(
+    alloc: Global,
+    types: &Names,
+    allowed: u32,
+    tokens: &'a [Token],
+) -> Result<Read<'a, Parameters>, NoMemory>
+    requires { allowed ≤ 500 }
+    ensures { IfOk result (λ read. seen parameters_tree read ≡ parameters types.now allowed tokens.now) }
+{
+    match only_void_at(tokens) {
+        Some(rest) => Ok(Read::Found(Parameters::Void, rest)),
+        None => match after(Mark::CloseParenthesis, tokens) {
+            Some(rest) => Ok(Read::Found(Parameters::List(Vec::new(alloc)), rest)),
+            None => parameter_list(alloc, types, allowed, tokens),
+        },
+    }
+}
