@@ -11,10 +11,14 @@ use Rattle.tm_terms.specs.Spelling.{Lexes}
 use Rattle.tm_terms.specs.Texts.{refusal_text, usage_text}
 use Rattle.analyser.specs.declared.statuses.Status.{Status}
 use Rattle.analyser.specs.declared.statuses.Status.TheVariants.{NoAlarm, Alarms, Refused, Usage, ReadFault, WriteFault, NoMemory}
-use Rattle.analyser.specs.Form.{Program, IsProgram}
-use Rattle.analyser.specs.Answers.{IsAccepted, IsLeastReport, Reports, IsRefused, too_long, not_lexed, not_built, unbuilt, HasAnswer, IsAnalyse, IsReported, IsStop, IsWhole, IsReadOut, MayGive, Answers, TakesFront, Told}
-use Rattle.analyser.specs.Replies.{AnswersTokens, AnswersSource, TakesAnswerFront}
+use Rattle.analyser.specs.Form.{Program, IsProgramOf, IsProgram}
+use Rattle.tm_trees.specs.FileTrees.{ItemTree}
+use Rattle.tm_trees.specs.Parsing.{Parses, too_deep, spells, spells_none}
+use Rattle.analyser.specs.Answers.{IsAccepted, IsLeastReport, Reports, IsRefusedAs, not_parsed, not_built, IsRefused, too_long, not_lexed, not_read, unbuilt, HasAnswer, IsAnalyse, IsReported, IsStop, IsWhole, IsReadOut, MayGive, Answers, TakesFront, Told}
+use Rattle.analyser.specs.Replies.{GivesReport, AnswersFile, AnswersTokens, AnswersSource, TakesAnswerFront}
 use Rattle.c_lexer.proofs.AnswerLemmas.{one_answer}
+use Rattle.c_parser.specs.FileDescent.{file}
+use Rattle.c_parser.proofs.FileComplete.{file_complete}
 
 -- what an answer says is what it says of another fact that follows
 pub if_ok_by : {A E : Type 0} {P Q : A → Type 0} (r : Result A E) → IfOk r P → ((a : A) → P a → Q a) → IfOk r Q
@@ -36,7 +40,7 @@ module _ (bytes : List ℕ) (short : length bytes ≤ SOURCE) where
   pub tokens_answered : (tokens : List Token) → Lexes bytes (Ok tokens) → (status : Status) (text : List ℕ) → AnswersTokens tokens status text → HasAnswer bytes status text
   tokens_answered tokens lexed NoAlarm text (p, program, (answer, e)) = (reports tokens lexed p program [] answer, e)
   tokens_answered tokens lexed Alarms text (p, program, (report, has, answer, e)) = (report, has, reports tokens lexed p program report answer, e)
-  tokens_answered tokens lexed Refused text (none, e) = (unbuilt, not_built short lexed none, e)
+  tokens_answered tokens lexed Refused text (refusal, h, e) = (refusal, not_read short lexed h, e)
   tokens_answered tokens lexed Usage text (p, program, h) = absurd h
   tokens_answered tokens lexed ReadFault text (p, program, h) = absurd h
   tokens_answered tokens lexed WriteFault text (p, program, h) = absurd h
@@ -61,7 +65,7 @@ answer_is_whole bytes NoMemory text h = absurd h
 longer_refused : (bytes more : List ℕ) (refusal : Refusal) → SOURCE < length bytes → IsRefused bytes refusal → IsRefused (bytes ++ more) refusal
 longer_refused bytes more refusal h (too_long k) = too_long (omega (arith, length-append bytes more))
 longer_refused bytes more refusal h (not_lexed k l) = absurd (omega arith)
-longer_refused bytes more refusal h (not_built k l n) = absurd (omega arith)
+longer_refused bytes more refusal h (not_read k l r) = absurd (omega arith)
 
 -- a source that is too long has its answer already where only its front is known
 pub longer_answered : (bytes more : List ℕ) → SOURCE < length bytes → (status : Status) (text : List ℕ) → HasAnswer bytes status text → HasAnswer (bytes ++ more) status text
@@ -107,7 +111,7 @@ sent_whole left taken taken' status result text sent k e f h = record {
   bytes = k.bytes;
   told = k.told;
   text = text;
-  has = subst (λ s. HasAnswer k.bytes s text) (sym f) k.has;
+  may = subst (λ s. HasAnswer k.bytes s text) (sym f) k.has;
   appended = h ∙ ap (append_known taken) e;
 }
 
@@ -118,7 +122,7 @@ sent_front left taken taken' status text sent part rest k e f h = record {
   told = k.told;
   status = status;
   text = text;
-  has = k.has;
+  may = k.has;
   front = part;
   rest = rest;
   split = sym e ∙ f;
@@ -145,7 +149,7 @@ words_answered words left taken taken' status w a = record {
   bytes = a.bytes;
   told = a.told;
   text = a.text;
-  may = may_give words a.bytes w status a.text a.has;
+  may = may_give words a.bytes w status a.text a.may;
   appended = a.appended;
 }
 
@@ -157,7 +161,7 @@ words_front words left taken taken' w (inr a) = inr (record {
   told = a.told;
   status = a.status;
   text = a.text;
-  may = may_give words a.bytes w a.status a.text a.has;
+  may = may_give words a.bytes w a.status a.text a.may;
   front = a.front;
   rest = a.rest;
   split = a.split;
@@ -186,13 +190,22 @@ told_bytes : (left : Option (List ℕ)) (known bytes : List ℕ) → left ≡ So
 told_bytes None known bytes e t = absurd (cc)
 told_bytes (Some b) known bytes e t = let f : b ≡ known = cc in sym f ∙ t
 
+parsed_is_not_refused : (tokens : List Token) (items : List ItemTree) (refusal : Refusal) (answer : Result (List ItemTree) Refusal) → Parses tokens (Ok items) → Parses tokens answer → answer ≡ Err refusal → ⊥
+parsed_is_not_refused tokens items refusal _ (spells flat f) (too_deep deep) e = absurd (cc)
+parsed_is_not_refused tokens items refusal _ (spells flat f) (spells _ g) e = absurd (cc)
+parsed_is_not_refused tokens items refusal _ (spells flat f) (spells_none _ none place) e = none items f
+
+program_is_not_refused : (tokens : List Token) (p : Program) (refusal : Refusal) → IsProgram p tokens → IsRefusedAs tokens refusal → ⊥
+program_is_not_refused tokens p refusal a (not_parsed r) = parsed_is_not_refused tokens a.items refusal (Err refusal) a.parsed r refl
+program_is_not_refused tokens p refusal a (not_built parsed none) = none p a
+
 pub accepted_is_not_refused : (bytes : List ℕ) (p : Program) (refusal : Refusal) → IsAccepted bytes p → IsRefused bytes refusal → ⊥
 accepted_is_not_refused bytes p refusal a (too_long h) = absurd (let k : length bytes ≤ SOURCE = a.short in omega arith)
 accepted_is_not_refused bytes p refusal a (not_lexed h l) = let e : Ok a.tokens ≡ Err refusal = one_answer bytes a.lexed l in cc
-accepted_is_not_refused bytes p refusal a (not_built {tokens} h l none) =
+accepted_is_not_refused bytes p refusal a (not_read {tokens} h l r) =
     let e : Ok a.tokens ≡ Ok tokens = one_answer bytes a.lexed l in
     let f : a.tokens ≡ tokens = cc in
-    none p (subst (λ ts. IsProgram p ts) f a.program)
+    program_is_not_refused tokens p refusal (subst (λ ts. IsProgram p ts) f a.program) r
 
 -- the statuses that an accepted source may come to
 accepted_comes : (bytes : List ℕ) (p : Program) → IsAccepted bytes p → (status : Status) (text : List ℕ) → HasAnswer bytes status text → IsReported status
@@ -230,7 +243,7 @@ accepted_reported left taken taken' status h bytes p e a = by_case (whole_or_sto
     by_case (inr s) = inr s
     by_case (inl w) =
         let f : bytes ≡ (h w).bytes = told_bytes left bytes (h w).bytes e (h w).told in
-        inl (accepted_comes (h w).bytes p (subst (λ b. IsAccepted b p) f a) status (h w).text (h w).has)
+        inl (accepted_comes (h w).bytes p (subst (λ b. IsAccepted b p) f a) status (h w).text (h w).may)
 
 pub refused_refused : (left taken taken' : Option (List ℕ)) (status : Status) → (IsWhole status → AnswersSource left taken taken' status)
     → (bytes : List ℕ) (refusal : Refusal) → left ≡ Some bytes → IsRefused bytes refusal → (status ≡ Refused) ⊎ IsStop status
@@ -240,7 +253,7 @@ refused_refused left taken taken' status h bytes refusal e r = by_case (whole_or
     by_case (inr s) = inr s
     by_case (inl w) =
         let f : bytes ≡ (h w).bytes = told_bytes left bytes (h w).bytes e (h w).told in
-        inl (refused_comes (h w).bytes refusal (subst (λ b. IsRefused b refusal) f r) status (h w).text (h w).has)
+        inl (refused_comes (h w).bytes refusal (subst (λ b. IsRefused b refusal) f r) status (h w).text (h w).may)
 
 pub not_analyse : (words : List (List ℕ)) → IsTrue false ↔ IsAnalyse words → IsAnalyse words → ⊥
 not_analyse words h w = let no : IsTrue false = h.1 w in cc
@@ -248,3 +261,56 @@ not_analyse words h w = let no : IsTrue false = h.1 w in cc
 pub as_usage : (words : List (List ℕ)) (left taken taken' : Option (List ℕ)) (status : Status) → status ≡ Usage → Answers words left taken taken' Usage
     → Answers words left taken taken' status
 as_usage words left taken taken' status e h = subst (Answers words left taken taken') (sym e) h
+
+-- ---- from the answer to the file to the answer to the tokens
+
+ok_same : {A B : Type 0} {a b : A} → ◌≡◌ {A = Result A B} (Ok a) (Ok b) → a ≡ b
+ok_same e = cc
+
+file_is : (tokens : List Token) (wanted : List ItemTree) (answer : Result (List ItemTree) Refusal) → Parses tokens answer → answer ≡ Ok wanted → file tokens ≡ Some wanted
+file_is tokens wanted _ (too_deep deep) e = absurd (cc)
+file_is tokens wanted _ (spells {items} flat f) e = file_complete tokens items f ∙ ap Some (ok_same e)
+file_is tokens wanted _ (spells_none flat none place) e = absurd (cc)
+
+-- tokens that parse spell one file
+one_file : (tokens : List Token) (items others : List ItemTree) → Parses tokens (Ok items) → Parses tokens (Ok others) → items ≡ others
+one_file tokens items others h k =
+    let e : Some items ≡ Some others = sym (file_is tokens items (Ok items) h refl) ∙ file_is tokens others (Ok others) k refl in cc
+
+module _ (tokens : List Token) (items : List ItemTree) (parsed : Parses tokens (Ok items)) where
+  program : (p : Program) → IsProgramOf p items → length tokens ≤ 400 → IsProgram p tokens
+  program p h short = record { items = items; parsed = parsed; program = h; short = short }
+
+  none_of : ((p : Program) → IsProgramOf p items → ⊥) → (p : Program) → IsProgram p tokens → ⊥
+  none_of none p h = none p (subst (IsProgramOf p) (one_file tokens h.items items h.parsed parsed) h.program)
+
+  pub file_answered : length tokens ≤ 400 → (status : Status) (text : List ℕ) → AnswersFile items status text → AnswersTokens tokens status text
+  file_answered short NoAlarm text (p, h, g) = (p, program p h short, g)
+  file_answered short Alarms text (p, h, g) = (p, program p h short, g)
+  file_answered short Refused text (none, e) = (unbuilt, not_built parsed (none_of none), e)
+  file_answered short Usage text (p, h, g) = absurd g
+  file_answered short ReadFault text (p, h, g) = absurd g
+  file_answered short WriteFault text (p, h, g) = absurd g
+  file_answered short NoMemory text (p, h, g) = absurd g
+
+  pub long_answered : 400 < length tokens → (status : Status) (text : List ℕ) → status ≡ Refused → text ≡ refusal_text unbuilt → AnswersTokens tokens status text
+  long_answered long status text e f =
+      let none : (p : Program) → IsProgram p tokens → ⊥ = λ p h. absurd (let k : length tokens ≤ 400 = h.short in omega arith) in
+      subst (λ s. AnswersTokens tokens s text) (sym e) (unbuilt, not_built parsed none, f)
+
+pub parse_refused : (tokens : List Token) (refusal : Refusal) → Parses tokens (Err refusal) → (status : Status) (text : List ℕ) → status ≡ Refused
+    → text ≡ refusal_text refusal → AnswersTokens tokens status text
+parse_refused tokens refusal h status text e f = subst (λ s. AnswersTokens tokens s text) (sym e) (refusal, not_parsed h, f)
+
+pub file_unbuilt : (items : List ItemTree) → ((p : Program) → IsProgramOf p items → ⊥) → (status : Status) (text : List ℕ) → status ≡ Refused
+    → text ≡ refusal_text unbuilt → AnswersFile items status text
+file_unbuilt items none status text e f = subst (λ s. AnswersFile items s text) (sym e) (none, f)
+
+pub file_reported : (items : List ItemTree) (p : Program) → IsProgramOf p items → (status : Status) (text : List ℕ) → GivesReport p status text → AnswersFile items status text
+file_reported items p h NoAlarm text g = (p, h, g)
+file_reported items p h Alarms text g = (p, h, g)
+file_reported items p h Refused text g = absurd g
+file_reported items p h Usage text g = absurd g
+file_reported items p h ReadFault text g = absurd g
+file_reported items p h WriteFault text g = absurd g
+file_reported items p h NoMemory text g = absurd g

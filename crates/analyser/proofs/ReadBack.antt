@@ -1,201 +1,311 @@
--- Reading the marks of a program gives the program, and what is read has those marks.
+-- What the code reads of a file is its program, where that is one of those that are analysed.
+use Rattle.std.proofs.Common.{◌≡◌, ◌+◌, ◌<◌, ◌≤◌, ℤ, Bool, true, false, List, [], ◌∷◌, ◌++◌, append_assoc, length, refl, arith, sym, ◌∙◌, ap, subst}
 use Rattle.std.proofs.lemmas.List.{append-nil}
-use Rattle.std.proofs.Common.{◌≡◌, ◌+◌, ◌<◌, ◌≤◌, ℤ, List, [], ◌∷◌, ◌++◌, append_assoc, length, refl, arith, sym, ◌∙◌, ap, subst}
-use Rattle.std.specs.Prelude.{Option, Some, None, option_map, option_and_then}
-use Rattle.std.specs.Prelude.{Vec}
+use Rattle.std.specs.Prelude.{Option, Some, None, option_map}
+use Rattle.std.specs.Prelude.{Vec, map, if◌then◌else◌, pos}
 use Rattle.std.specs.declared.alloc.Global.{Global as Heap}
 use Rattle.tm_terms.specs.declared.places.Place.{Place}
-use Rattle.tm_terms.specs.declared.tokens.Token.{Token}
 use Rattle.tm_terms.specs.declared.tokens.Name.{Name}
-use Rattle.analyser.specs.declared.marks.Mark.{Mark}
-use Rattle.analyser.specs.declared.marks.Mark.TheVariants as Marks
+use Rattle.tm_terms.specs.declared.exprs.Infix.{Infix}
+use Rattle.tm_terms.specs.declared.exprs.Infix.TheVariants.{Comma, Assign, AssignBy, Binary as ByBinary}
+use Rattle.tm_terms.specs.ExprTrees.{Tree, a_name, an_integer, a_character, in_parentheses, an_input, an_islocked, a_call, a_prefix, a_sizeof_type, a_cast, an_infix, a_conditional, a_subscript, a_member, a_postfix}
+use Rattle.tm_trees.specs.FileTrees.{a_value, PartTree, a_local, a_step, PartTrees, no_parts, and_part, ItemTree, a_declaration, a_function, an_empty_item, a_mutex, a_task}
+use Rattle.tm_trees.specs.declared.declarations.Specifier.{Specifier}
+use Rattle.tm_trees.specs.declared.statements.BlockPart.{BlockPart}
+use Rattle.tm_trees.specs.DeclarationTrees.{SpecifierTree, a_plain, a_struct, an_enum, SpecifierTrees, and_specifier, specifier_tree, specifier_trees}
+use Rattle.tm_trees.specs.FileTrees.{as_parts, part_tree}
 use Rattle.analyser.specs.declared.operators.Operator.{Operator}
-use Rattle.analyser.specs.declared.programs.Initial.{Initial}
 use Rattle.analyser.specs.declared.programs.Global.{Global}
 use Rattle.analyser.specs.declared.programs.Atom.{Atom}
 use Rattle.analyser.specs.declared.programs.Atom.TheVariants as Atoms
 use Rattle.analyser.specs.declared.programs.Operation.{Operation as OneOperation}
 use Rattle.analyser.specs.declared.programs.Assignment.{Assignment as ShortAssignment}
 use Rattle.analyser.specs.declared.programs.Task.{Task as ShortTask}
-use Rattle.analyser.specs.Form.{Expr, Number, Variable, Operation, Assignment, Task, Program, initial_before, globals_before, expr_before, body_before, task_marks, program_marks, marks_of, operators_in, IsBuiltBody, body_of_task, IsLawful, IsProgram}
-use Rattle.analyser.specs.Programs.{atom_expr, value_expr, plain_body, plain_task, plain}
-use Rattle.analyser.specs.Reading.{global_then, with_global, globals_then, atom_of, value_of, body_of, task_of}
+use Rattle.analyser.specs.Form.{Expr, Number, Variable, Operation, Assignment, Task, Program, operators_in, IsBuiltBody, body_of_task, IsLawful, IsProgramOf, is_int_constant, operator_of, joined, operation_of, expr_of, target_of, assigned, assignment_of_tree, assignment_of, listed, assignments_of, number_of, global_of, is_int, task_with, task_of, from_item, program_of}
+use Rattle.analyser.specs.Programs.{atom_expr, value_expr, plain_assignment, plain_body, plain_task, plain}
+use Rattle.analyser.specs.Reading.{atom_of, single, pair, operation_by, value_of, short_assigned, short_tree, short_assignment, some_body, short_body, short_with, short_task, global_then, globals_by, globals_then, some_task, ending_of}
 
--- ---- what is written is read
+from_some : {A : Type 0} {x y : A} → Some x ≡ Some y → x ≡ y
+from_some e = cc
 
-global_read : (n : Name) (p : Place) (i : Option Initial) (rest : List Mark)
-    → globals_then (Marks.Int ∷ Marks.Name n p ∷ initial_before i (Marks.Semicolon ∷ rest)) ≡ with_global (record { name = n; place = p; initial = i }) (globals_then rest)
-global_read n p None rest = refl
-global_read n p (Some i) rest = refl
+none_some : {A P : Type 0} {x : A} → None ≡ Some x → P
+none_some e = cc
 
-pub globals_read : (gs : List Global) (rest : List Mark) → globals_then rest ≡ ([], rest) → globals_then (globals_before gs rest) ≡ (gs, rest)
-globals_read [] rest h = h
-globals_read (g ∷ gs) rest h =
-    global_read g.name g.place g.initial (globals_before gs rest) ∙ ap (with_global g) (globals_read gs rest h)
+-- what a short form stands for, and that the long form is that
+abbrev Stands : {A B : Type 0} → (A → B) → Option A → Option B → Type 0
+Stands f (Some a) o = o ≡ Some (f a)
+Stands f None o = Unit {0}
 
-pub task_is_no_global : (t : Option Task) → globals_then (task_marks t) ≡ ([], task_marks t)
-task_is_no_global None = refl
-task_is_no_global (Some t) = refl
+-- ---- right sides
 
--- the right side e is read as v
-record IsReadAs (e : Expr) : Type 0 where
-  pub left : Atom
-  pub operation : Option OneOperation
-  pub read : value_of (expr_before e (Marks.Semicolon ∷ Marks.CloseBlock ∷ [])) ≡ Some (left, operation)
-  pub same : value_expr (atom_expr left) operation ≡ e
+abbrev expr_at : Atom × Option OneOperation → Expr
+expr_at v = value_expr (atom_expr v.0) v.1
 
-value_read : (e : Expr) → operators_in e ≤ 1 → IsReadAs e
-value_read (Number v p) h = record { left = Atoms.Number v p; operation = None; read = refl; same = refl }
-value_read (Variable n p) h = record { left = Atoms.Variable n p; operation = None; read = refl; same = refl }
-value_read (Operation op (Number v p) (Number w q) o) h =
-    record { left = Atoms.Number v p; operation = Some (record { operator = op; place = o; right = Atoms.Number w q }); read = refl; same = refl }
-value_read (Operation op (Number v p) (Variable m q) o) h =
-    record { left = Atoms.Number v p; operation = Some (record { operator = op; place = o; right = Atoms.Variable m q }); read = refl; same = refl }
-value_read (Operation op (Variable n p) (Number w q) o) h =
-    record { left = Atoms.Variable n p; operation = Some (record { operator = op; place = o; right = Atoms.Number w q }); read = refl; same = refl }
-value_read (Operation op (Variable n p) (Variable m q) o) h =
-    record { left = Atoms.Variable n p; operation = Some (record { operator = op; place = o; right = Atoms.Variable m q }); read = refl; same = refl }
-value_read (Operation op (Operation op' l l' o') r o) h = absurd (omega arith)
-value_read (Operation op (Number v p) (Operation op' r r' o') o) h = absurd (omega arith)
-value_read (Operation op (Variable n p) (Operation op' r r' o') o) h = absurd (omega arith)
+atom_stands : (t : Tree) → Stands atom_expr (atom_of t) (expr_of t)
+atom_stands (an_integer c p) = go (is_int_constant c)
+  where
+    go : (b : Bool) → Stands atom_expr (if b then Some (Atoms.Number (pos c.value) p) else None) (if b then Some (Number (pos c.value) p) else None)
+    go true = refl
+    go false = tt
+atom_stands (a_name n p) = refl
+atom_stands _ = tt
 
-record IsBodyReadAs (body : List Assignment) : Type 0 where
-  pub short : Option ShortAssignment
-  pub read : body_of (body_before body (Marks.CloseBlock ∷ [])) ≡ Some short
-  pub same : plain_body short ≡ body
+pair_stands : (op : Option Operator) (p : Place) (l r : Option Atom) (x y : Option Expr) → Stands atom_expr l x → Stands atom_expr r y → Stands expr_at (pair op p l r) (joined op p x y)
+pair_stands (Some op) p (Some l) (Some r) x y e f = ap (λ z. joined (Some op) p z y) e ∙ ap (λ z. joined (Some op) p (Some (atom_expr l)) z) f
+pair_stands (Some op) p (Some l) None x y e f = tt
+pair_stands (Some op) p None r x y e f = tt
+pair_stands None p l r x y e f = tt
 
-body_read : (body : List Assignment) → IsBuiltBody body → IsBodyReadAs body
-body_read [] h = record { short = None; read = refl; same = refl }
-body_read (a ∷ []) h =
-    let r : IsReadAs a.value = value_read a.value h in
-    record {
-      short = Some (record { target = a.target; target_place = a.target_place; place = a.place; left = r.left; operation = r.operation });
-      read = ap (option_map (λ v. Some (record { target = a.target; target_place = a.target_place; place = a.place; left = v.0; operation = v.1 }))) r.read;
-      same = ap (λ e. record { target = a.target; target_place = a.target_place; place = a.place; value = e } ∷ []) r.same;
-    }
-body_read (a ∷ b ∷ body) h = absurd h
+operation_stands : (op : Infix) (p : Place) (l r : Option Atom) (x y : Option Expr) → Stands atom_expr l x → Stands atom_expr r y → Stands expr_at (operation_by op p l r) (operation_of op p x y)
+operation_stands (ByBinary o) p l r x y e f = pair_stands (operator_of o) p l r x y e f
+operation_stands _ p l r x y e f = tt
 
-pub record IsTaskReadAs (t : Option Task) : Type 0 where
-  pub short : Option ShortTask
-  pub read : task_of (task_marks t) ≡ Some short
-  pub same : option_map plain_task short ≡ t
+single_stands : (a : Option Atom) (x : Option Expr) → Stands atom_expr a x → Stands expr_at (single a) x
+single_stands (Some a) x e = e
+single_stands None x e = tt
 
-pub task_read : (t : Option Task) → IsBuiltBody (body_of_task t) → IsTaskReadAs t
-task_read None h = record { short = None; read = refl; same = refl }
-task_read (Some t) h =
-    let r : IsBodyReadAs t.body = body_read t.body h in
-    record {
-      short = Some (record { priority = t.priority; priority_place = t.priority_place; name = t.name; name_place = t.name_place; body = r.short });
-      read = ap (option_map (λ b. Some (record { priority = t.priority; priority_place = t.priority_place; name = t.name; name_place = t.name_place; body = b }))) r.read;
-      same = ap (λ b. Some (record { priority = t.priority; priority_place = t.priority_place; name = t.name; name_place = t.name_place; body = b })) r.same;
-    }
+value_stands : (t : Tree) → Stands expr_at (value_of t) (expr_of t)
+value_stands (an_infix l op p r) = operation_stands op p (atom_of l) (atom_of r) (expr_of l) (expr_of r) (atom_stands l) (atom_stands r)
+value_stands (an_integer c p) = single_stands (atom_of (an_integer c p)) (expr_of (an_integer c p)) (atom_stands (an_integer c p))
+value_stands (a_name n p) = refl
+value_stands _ = tt
 
--- ---- one global after another
+-- an expression without operator is an atom, one with at most one operator is a short value
+abbrev IsRead : {A : Type 0} → Option A → Type 0
+IsRead (Some a) = Unit {0}
+IsRead None = ⊥
 
-abbrev some_global : List Mark → Global → List Mark → Type 0
-some_global marks g rest = (globals_then marks ≡ with_global g (globals_then rest)) × (length rest < length marks)
+-- a long form with a property has a short one
+abbrev Reached : {A B : Type 0} → (B → Type 0) → Option A → Option B → Type 0
+Reached P o (Some b) = P b → IsRead o
+Reached P o None = Unit {0}
 
-abbrev found_global : Global → List Mark → Option (Global × List Mark)
-found_global g rest = Some (g, rest)
+operators_some : (op : Operator) (l r : Expr) (p : Place) → operators_in (Operation op l r p) ≤ 0 → ⊥
+operators_some op l r p n = omega arith
 
-found_same : (a b : Global × List Mark) → found_global a.0 a.1 ≡ found_global b.0 b.1 → a ≡ b
-found_same a b e = cc
+atom_reached : (t : Tree) → Reached (λ e. operators_in e ≤ 0) (atom_of t) (expr_of t)
+atom_reached (an_integer c p) = go (is_int_constant c)
+  where
+    go : (b : Bool) → Reached (λ e. operators_in e ≤ 0) (if b then Some (Atoms.Number (pos c.value) p) else None) (if b then Some (Number (pos c.value) p) else None)
+    go true = λ n. tt
+    go false = tt
+atom_reached (a_name n p) = λ h. tt
+atom_reached (an_infix l op p r) = by_infix op (expr_of l) (expr_of r)
+  where
+    by_joined : (o : Option Operator) (x y : Option Expr) → Reached {A = Atom} (λ e. operators_in e ≤ 0) None (joined o p x y)
+    by_joined (Some o) (Some x) (Some y) = λ n. operators_some o x y p n
+    by_joined (Some o) (Some x) None = tt
+    by_joined (Some o) None y = tt
+    by_joined None x y = tt
 
-taken_global : (marks m : List Mark) (h g : Global) (rest : List Mark) → some_global marks h m → found_global h m ≡ found_global g rest → some_global marks g rest
-taken_global marks m h g rest k e =
-    subst (λ r. some_global marks r.0 r.1) (found_same (h, m) (g, rest) e) k
+    by_infix : (op : Infix) (x y : Option Expr) → Reached {A = Atom} (λ e. operators_in e ≤ 0) None (operation_of op p x y)
+    by_infix (ByBinary o) x y = by_joined (operator_of o) x y
+    by_infix _ x y = tt
+atom_reached _ = tt
 
-pub global_step : (marks : List Mark) (g : Global) (rest : List Mark) → global_then marks ≡ Some (g, rest) → some_global marks g rest
-global_step (Marks.Int ∷ Marks.Name n p ∷ Marks.Semicolon ∷ m) g rest e =
-    taken_global (Marks.Int ∷ Marks.Name n p ∷ Marks.Semicolon ∷ m) m (record { name = n; place = p; initial = None }) g rest (refl, omega arith) e
-global_step (Marks.Int ∷ Marks.Name n p ∷ Marks.Equal q ∷ Marks.Number v r ∷ Marks.Semicolon ∷ m) g rest e =
-    taken_global (Marks.Int ∷ Marks.Name n p ∷ Marks.Equal q ∷ Marks.Number v r ∷ Marks.Semicolon ∷ m) m
-    (record { name = n; place = p; initial = Some (record { equal = q; value = v; place = r }) }) g rest (refl, omega arith) e
-global_step _ g rest e = absurd (cc)
+pair_reached : (op : Option Operator) (p : Place) (l r : Option Atom) (x y : Option Expr)
+    → Reached (λ e. operators_in e ≤ 0) l x → Reached (λ e. operators_in e ≤ 0) r y → Reached (λ e. operators_in e ≤ 1) (pair op p l r) (joined op p x y)
+pair_reached (Some op) p l r (Some x) (Some y) h k = λ n. both l r (h (omega arith)) (k (omega arith))
+  where
+    both : (l r : Option Atom) → IsRead l → IsRead r → IsRead (pair (Some op) p l r)
+    both (Some a) (Some b) s t = tt
+    both (Some a) None s t = t
+    both None r s t = s
+pair_reached (Some op) p l r (Some x) None h k = tt
+pair_reached (Some op) p l r None y h k = tt
+pair_reached None p l r x y h k = tt
 
-pub no_global : (marks : List Mark) → global_then marks ≡ None → globals_then marks ≡ ([], marks)
-no_global (Marks.Int ∷ Marks.Name n p ∷ Marks.Semicolon ∷ m) e = absurd (cc)
-no_global (Marks.Int ∷ Marks.Name n p ∷ Marks.Equal q ∷ Marks.Number v r ∷ Marks.Semicolon ∷ m) e = absurd (cc)
-no_global _ e = refl
+value_reached : (t : Tree) → Reached (λ e. operators_in e ≤ 1) (value_of t) (expr_of t)
+value_reached (an_infix l op p r) = by_infix op
+  where
+    by_infix : (op : Infix) → Reached (λ e. operators_in e ≤ 1) (operation_by op p (atom_of l) (atom_of r)) (operation_of op p (expr_of l) (expr_of r))
+    by_infix (ByBinary o) = pair_reached (operator_of o) p (atom_of l) (atom_of r) (expr_of l) (expr_of r) (atom_reached l) (atom_reached r)
+    by_infix _ = tt
+value_reached (an_integer c p) = go (is_int_constant c)
+  where
+    go : (b : Bool) → Reached (λ e. operators_in e ≤ 1) (single (if b then Some (Atoms.Number (pos c.value) p) else None)) (if b then Some (Number (pos c.value) p) else None)
+    go true = λ n. tt
+    go false = tt
+value_reached (a_name n p) = λ h. tt
+value_reached _ = tt
 
--- ---- what is read is written
+-- ---- assignments
 
-pub globals_written : (marks : List Mark) → globals_before (globals_then marks).0 (globals_then marks).1 ≡ marks
-globals_written (Marks.Int ∷ Marks.Name n p ∷ Marks.Semicolon ∷ rest) =
-    ap (λ m. Marks.Int ∷ Marks.Name n p ∷ Marks.Semicolon ∷ m) (globals_written rest)
-globals_written (Marks.Int ∷ Marks.Name n p ∷ Marks.Equal q ∷ Marks.Number v r ∷ Marks.Semicolon ∷ rest) =
-    ap (λ m. Marks.Int ∷ Marks.Name n p ∷ Marks.Equal q ∷ Marks.Number v r ∷ Marks.Semicolon ∷ m) (globals_written rest)
-globals_written _ = refl
+assigned_stands : (x : Option (Name × Place)) (q : Place) (v : Option (Atom × Option OneOperation)) (e : Option Expr) → Stands expr_at v e
+    → Stands plain_assignment (short_assigned x q v) (assigned x q e)
+assigned_stands (Some x) q (Some v) e h = ap (assigned (Some x) q) h
+assigned_stands (Some x) q None e h = tt
+assigned_stands None q v e h = tt
 
-atom_written : (m : Mark) (a : Atom) (rest : List Mark) → atom_of m ≡ Some a → expr_before (atom_expr a) rest ≡ m ∷ rest
-atom_written (Marks.Number v p) a rest e = let f : Atoms.Number v p ≡ a = cc in ap (λ b. expr_before (atom_expr b) rest) (sym f)
-atom_written (Marks.Name n p) a rest e = let f : Atoms.Variable n p ≡ a = cc in ap (λ b. expr_before (atom_expr b) rest) (sym f)
-atom_written _ a rest e = absurd (cc)
+assigned_reached : (x : Option (Name × Place)) (q : Place) (v : Option (Atom × Option OneOperation)) (e : Option Expr) → Reached (λ e. operators_in e ≤ 1) v e
+    → Reached (λ a. operators_in a.value ≤ 1) (short_assigned x q v) (assigned x q e)
+assigned_reached (Some x) q v (Some e) h = λ n. go v (h n)
+  where
+    go : (v : Option (Atom × Option OneOperation)) → IsRead v → IsRead (short_assigned (Some x) q v)
+    go (Some v) t = tt
+    go None t = t
+assigned_reached (Some x) q v None h = tt
+assigned_reached None q v e h = tt
 
-some_map : {A B : Type 0} (f : A → B) (o : Option A) (b : B) → option_map f o ≡ Some b → (a : A) × (o ≡ Some a) × (f a ≡ b)
-some_map f None b e = absurd (cc)
-some_map f (Some a) b e = (a, refl, cc)
+tree_stands : (t : Tree) → Stands plain_assignment (short_tree t) (assignment_of_tree t)
+tree_stands (an_infix l Assign q r) = assigned_stands (target_of l) q (value_of r) (expr_of r) (value_stands r)
+tree_stands _ = tt
 
-abbrev operation_by : Operator → Place → Atom → Option OneOperation
-operation_by op p r = Some (record { operator = op; place = p; right = r })
+tree_reached : (t : Tree) → Reached (λ a. operators_in a.value ≤ 1) (short_tree t) (assignment_of_tree t)
+tree_reached (an_infix l Assign q r) = assigned_reached (target_of l) q (value_of r) (expr_of r) (value_reached r)
+tree_reached _ = tt
 
-abbrev ended : List Mark
-ended = Marks.Semicolon ∷ Marks.CloseBlock ∷ []
+part_stands : (part : PartTree) → Stands plain_assignment (short_assignment part) (assignment_of part)
+part_stands (a_step (a_value (Some t))) = tree_stands t
+part_stands _ = tt
 
-abbrev value_marks : Atom × Option OneOperation → List Mark
-value_marks v = expr_before (value_expr (atom_expr v.0) v.1) ended
+part_reached : (part : PartTree) → Reached (λ a. operators_in a.value ≤ 1) (short_assignment part) (assignment_of part)
+part_reached (a_step (a_value (Some t))) = tree_reached t
+part_reached _ = tt
 
-abbrev alone : Atom → Atom × Option OneOperation
-alone l = (l, None)
+-- ---- bodies
 
-one_written : (left : Mark) (v : Atom × Option OneOperation) → option_map alone (atom_of left) ≡ Some v
-    → value_marks v ≡ left ∷ ended
-one_written left v e =
-    let f = some_map alone (atom_of left) v e in
-    ap value_marks (sym f.2) ∙ atom_written left f.0 ended f.1
+body_stands : (parts : PartTrees) → Stands plain_body (short_body parts) (assignments_of parts)
+body_stands no_parts = refl
+body_stands (and_part part no_parts) = go (short_assignment part) (assignment_of part) (part_stands part)
+  where
+    go : (s : Option ShortAssignment) (o : Option Assignment) → Stands plain_assignment s o → Stands plain_body (some_body s) (listed o (Some []))
+    go (Some s) o h = ap (λ x. listed x (Some [])) h
+    go None o h = tt
+body_stands (and_part part (and_part other parts)) = tt
 
-two_written : (left right : Mark) (op : Operator) (p : Place) (v : Atom × Option OneOperation) (l : Option Atom) → atom_of left ≡ l
-    → option_and_then (λ l. option_map (λ r. (l, operation_by op p r)) (atom_of right)) l ≡ Some v
-    → value_marks v ≡ left ∷ Marks.Operator op p ∷ right ∷ ended
-two_written left right op p v None h e = absurd (cc)
-two_written left right op p v (Some l) h e =
-    let f = some_map (λ r. (l, operation_by op p r)) (atom_of right) v e in
-    ap value_marks (sym f.2)
-    ∙ atom_written left l (Marks.Operator op p ∷ expr_before (atom_expr f.0) ended) h
-    ∙ ap (λ m. left ∷ Marks.Operator op p ∷ m) (atom_written right f.0 ended f.1)
+body_reached : (parts : PartTrees) → Reached IsBuiltBody (short_body parts) (assignments_of parts)
+body_reached no_parts = λ h. tt
+body_reached (and_part part no_parts) = go (short_assignment part) (assignment_of part) (part_reached part)
+  where
+    some : (s : Option ShortAssignment) → IsRead s → IsRead (some_body s)
+    some (Some s) t = tt
+    some None t = t
 
-value_written : (marks : List Mark) (v : Atom × Option OneOperation) → value_of marks ≡ Some v → value_marks v ≡ marks
-value_written (left ∷ Marks.Semicolon ∷ Marks.CloseBlock ∷ []) v e = one_written left v e
-value_written (left ∷ Marks.Operator op p ∷ right ∷ Marks.Semicolon ∷ Marks.CloseBlock ∷ []) v e = two_written left right op p v (atom_of left) refl e
-value_written _ v e = absurd (cc)
+    go : (s : Option ShortAssignment) (o : Option Assignment) → Reached (λ a. operators_in a.value ≤ 1) s o → Reached IsBuiltBody (some_body s) (listed o (Some []))
+    go s (Some a) h = λ n. some s (h n)
+    go s None h = tt
+body_reached (and_part part (and_part other parts)) = go (assignment_of part) (assignment_of other) (assignments_of parts)
+  where
+    go : (x y : Option Assignment) (l : Option (List Assignment)) → Reached {A = Option ShortAssignment} IsBuiltBody None (listed x (listed y l))
+    go (Some x) (Some y) (Some l) = λ h. h
+    go (Some x) (Some y) None = tt
+    go (Some x) None l = tt
+    go None y l = tt
 
-abbrev assigned : Name → Place → Place → Atom × Option OneOperation → Option ShortAssignment
-assigned n p q v = Some (record { target = n; target_place = p; place = q; left = v.0; operation = v.1 })
+-- ---- tasks
 
-body_written : (marks : List Mark) (b : Option ShortAssignment) → body_of marks ≡ Some b → body_before (plain_body b) (Marks.CloseBlock ∷ []) ≡ marks
-body_written (Marks.CloseBlock ∷ []) b e =
-    let f : None ≡ b = cc in ap (λ c. body_before (plain_body c) (Marks.CloseBlock ∷ [])) (sym f)
-body_written (Marks.Name n p ∷ Marks.Equal q ∷ rest) b e =
-    let f = some_map (assigned n p q) (value_of rest) b e in
-    ap (λ c. body_before (plain_body c) (Marks.CloseBlock ∷ [])) (sym f.2)
-    ∙ ap (λ m. Marks.Name n p ∷ Marks.Equal q ∷ m) (value_written rest f.0 f.1)
-body_written _ b e = absurd (cc)
+with_stands : (x : Option (ℤ × Place)) (n : Name) (q : Place) (s : Option (Option ShortAssignment)) (b : Option (List Assignment)) → Stands plain_body s b
+    → Stands plain_task (short_with x n q s) (task_with x n q b)
+with_stands (Some x) n q (Some s) b h = ap (task_with (Some x) n q) h
+with_stands (Some x) n q None b h = tt
+with_stands None n q s b h = tt
 
-abbrev tasked : ℤ → Place → Name → Place → Option ShortAssignment → Option ShortTask
-tasked v p n q b = Some (record { priority = v; priority_place = p; name = n; name_place = q; body = b })
+with_reached : (x : Option (ℤ × Place)) (n : Name) (q : Place) (s : Option (Option ShortAssignment)) (b : Option (List Assignment)) → Reached IsBuiltBody s b
+    → Reached (λ t. IsBuiltBody t.body) (short_with x n q s) (task_with x n q b)
+with_reached (Some x) n q s (Some b) h = λ k. go s (h k)
+  where
+    go : (s : Option (Option ShortAssignment)) → IsRead s → IsRead (short_with (Some x) n q s)
+    go (Some s) t = tt
+    go None t = t
+with_reached (Some x) n q s None h = tt
+with_reached None n q s b h = tt
 
-pub task_written : (marks : List Mark) (t : Option ShortTask) → task_of marks ≡ Some t → task_marks (option_map plain_task t) ≡ marks
-task_written [] t e = let f : None ≡ t = cc in ap (λ u. task_marks (option_map plain_task u)) (sym f)
-task_written (Marks.Task ∷ Marks.Open ∷ Marks.Number v p ∷ Marks.Close ∷ Marks.Void ∷ Marks.Name n q ∷ Marks.Open ∷ Marks.Void ∷ Marks.Close ∷ Marks.OpenBlock ∷ rest) t e =
-    let f = some_map (tasked v p n q) (body_of rest) t e in
-    ap (λ u. task_marks (option_map plain_task u)) (sym f.2)
-    ∙ ap (λ m. Marks.Task ∷ Marks.Open ∷ Marks.Number v p ∷ Marks.Close ∷ Marks.Void ∷ Marks.Name n q ∷ Marks.Open ∷ Marks.Void ∷ Marks.Close ∷ Marks.OpenBlock ∷ m) (body_written rest f.0 f.1)
-task_written _ t e = absurd (cc)
+task_stands : (i : ItemTree) → Stands plain_task (short_task i) (task_of i)
+task_stands (a_task t n q parts p) = with_stands (number_of t) n q (short_body parts) (assignments_of parts) (body_stands parts)
+task_stands _ = tt
 
--- ---- whole programs
+task_reached : (i : ItemTree) → Reached (λ t. IsBuiltBody t.body) (short_task i) (task_of i)
+task_reached (a_task t n q parts p) = with_reached (number_of t) n q (short_body parts) (assignments_of parts) (body_reached parts)
+task_reached _ = tt
+
+-- ---- whole files
 
 abbrev program_by : List Global → Option Task → Program
 program_by gs t = record { globals = gs; task = t }
+
+abbrev prepended : List Global → Option Program → Option Program
+prepended gs None = None
+prepended gs (Some p) = Some (record { globals = gs ++ p.globals; task = p.task })
+
+-- an item that is a global is no task
+no_task : (i : ItemTree) (g : Global) → global_of i ≡ Some g → task_of i ≡ None
+no_task (a_declaration d) g e = refl
+no_task (a_function f) g e = refl
+no_task an_empty_item g e = refl
+no_task (a_mutex n p) g e = refl
+no_task (a_task t n q parts p) g e = none_some e
+
+prepend_more : (g : Global) (gs : List Global) (items : List ItemTree) (o : Option Program) → from_item None (Some g) items (prepended gs o) ≡ prepended (g ∷ gs) o
+prepend_more g gs items None = refl
+prepend_more g gs items (Some p) = refl
+
+prepend_none : (o : Option Program) → o ≡ prepended [] o
+prepend_none None = refl
+prepend_none (Some p) = refl
+
+-- the program of a file is its globals and the program of the rest
+program_split : (items : List ItemTree) → program_of items ≡ prepended (globals_then items).0 (program_of (globals_then items).1)
+program_split [] = refl
+program_split (i ∷ items) = go (program_split items) (global_of i) refl
+  where
+    go : program_of items ≡ prepended (globals_then items).0 (program_of (globals_then items).1) → (o : Option Global) → global_of i ≡ o → program_of (i ∷ items) ≡ prepended (globals_by o (i ∷ items) (globals_then items)).0 (program_of (globals_by o (i ∷ items) (globals_then items)).1)
+    go h None e = prepend_none (program_of (i ∷ items))
+    go h (Some g) e =
+        ap (λ t. from_item t (global_of i) items (program_of items)) (no_task i g e)
+        ∙ ap (λ o. from_item None o items (program_of items)) e
+        ∙ ap (from_item None (Some g) items) h
+        ∙ prepend_more g (globals_then items).0 items (program_of (globals_then items).1)
+
+-- what is left begins with no global
+rest_begins : (items : List ItemTree) → globals_then (globals_then items).1 ≡ ([], (globals_then items).1)
+rest_begins [] = refl
+rest_begins (i ∷ items) = go (rest_begins items) (global_of i) refl
+  where
+    go : globals_then (globals_then items).1 ≡ ([], (globals_then items).1) → (o : Option Global) → global_of i ≡ o → globals_then (globals_by o (i ∷ items) (globals_then items)).1 ≡ ([], (globals_by o (i ∷ items) (globals_then items)).1)
+    go h None e = ap (λ o. globals_by o (i ∷ items) (globals_then items)) e
+    go h (Some g) e = h
+
+-- the items behind the globals
+abbrev BeginsNoGlobal : List ItemTree → Type 0
+BeginsNoGlobal [] = Unit {0}
+BeginsNoGlobal (i ∷ items) = global_of i ≡ None
+
+begins_none : (rest : List ItemTree) → globals_then rest ≡ ([], rest) → BeginsNoGlobal rest
+begins_none [] e = tt
+begins_none (i ∷ items) e = go (global_of i) refl e
+  where
+    go : (o : Option Global) → global_of i ≡ o → globals_by o (i ∷ items) (globals_then items) ≡ ([], i ∷ items) → global_of i ≡ None
+    go None h e = h
+    go (Some g) h e = let f : g ∷ (globals_then items).0 ≡ [] = ap (λ r. r.0) e in absurd (cc)
+
+ending_stands : (rest : List ItemTree) → BeginsNoGlobal rest → Stands (λ t. program_by [] (option_map plain_task t)) (ending_of rest) (program_of rest)
+ending_stands [] e = refl
+ending_stands (i ∷ []) e = go (short_task i) (task_of i) (task_stands i)
+  where
+    go : (s : Option ShortTask) (o : Option Task) → Stands plain_task s o → Stands (λ t. program_by [] (option_map plain_task t)) (some_task s) (from_item o (global_of i) [] (Some (program_by [] None)))
+    go (Some s) o h = ap (λ x. from_item x (global_of i) [] (Some (program_by [] None))) h
+    go None o h = tt
+ending_stands (i ∷ j ∷ items) e = tt
+
+ending_reached : (rest : List ItemTree) → BeginsNoGlobal rest → Reached (λ p. IsBuiltBody (body_of_task p.task)) (ending_of rest) (program_of rest)
+ending_reached [] e = λ h. tt
+ending_reached (i ∷ []) e = go (short_task i) (task_of i) (global_of i) e (task_reached i)
+  where
+    some : (s : Option ShortTask) → IsRead s → IsRead (some_task s)
+    some (Some s) t = tt
+    some None t = t
+
+    go : (s : Option ShortTask) (o : Option Task) (g : Option Global) → g ≡ None → Reached (λ t. IsBuiltBody t.body) s o → Reached (λ p. IsBuiltBody (body_of_task p.task)) (some_task s) (from_item o g [] (Some (program_by [] None)))
+    go s (Some t) g e h = λ n. some s (h n)
+    go s None None e h = tt
+    go s None (Some g) e h = none_some (sym e)
+ending_reached (i ∷ j ∷ items) e = go (task_of i) (global_of i) e (program_of (j ∷ items))
+  where
+    go : (o : Option Task) (g : Option Global) → g ≡ None → (p : Option Program) → Reached {A = Option ShortTask} (λ p. IsBuiltBody (body_of_task p.task)) None (from_item o g (j ∷ items) p)
+    go (Some t) g e p = tt
+    go None None e p = tt
+    go None (Some g) e p = none_some (sym e)
 
 built_value : (a : Atom) (o : Option OneOperation) → operators_in (value_expr (atom_expr a) o) ≤ 1
 built_value (Atoms.Number v p) None = omega arith
@@ -219,53 +329,82 @@ built_task : (t : Option ShortTask) → IsBuiltBody (body_of_task (option_map pl
 built_task None = tt
 built_task (Some t) = built_body t.body
 
-module _ (tokens : List Token) (globals : Vec Global Heap) (rest : List Mark) (read : (globals.items, rest) ≡ globals_then (marks_of tokens)) where
-  pub program_found : (t : Option ShortTask) → task_of rest ≡ Some t → IsLawful (plain (record { globals = globals; task = t })) → length tokens ≤ 400
-      → IsProgram (plain (record { globals = globals; task = t })) tokens
-  program_found t e lawful short = record {
-    spelled = sym (globals_written (marks_of tokens)) ∙ ap (λ r. globals_before r.0 r.1) (sym read) ∙ ap (globals_before globals.items) (sym (task_written rest t e));
-    lawful = lawful;
-    built = built_task t;
-    short = short;
-  }
+module _ (items : List ItemTree) (globals : Vec Global Heap) (rest : List ItemTree) (read : (globals.items, rest) ≡ globals_then items) where
+  no_global : BeginsNoGlobal rest
+  no_global = begins_none rest (subst (λ r. globals_then r ≡ ([], r)) (sym (ap (λ r. r.1) read)) (rest_begins items))
 
-  split : (p : Program) → marks_of tokens ≡ program_marks p → (globals.items ≡ p.globals) × (rest ≡ task_marks p.task)
-  split p e =
-      let f : (globals.items, rest) ≡ (p.globals, task_marks p.task) =
-      read ∙ ap globals_then e ∙ globals_read p.globals (task_marks p.task) (task_is_no_global p.task) in
-      (ap (λ r. r.0) f, ap (λ r. r.1) f)
+  whole : program_of items ≡ prepended globals.items (program_of rest)
+  whole = program_split items ∙ ap (λ r. prepended r.0 (program_of r.1)) (sym read)
 
-  pub program_none : task_of rest ≡ None → (p : Program) → IsProgram p tokens → ⊥
-  program_none e p h =
-      let s : (globals.items ≡ p.globals) × (rest ≡ task_marks p.task) = split p h.spelled in
-      let r : IsTaskReadAs p.task = task_read p.task h.built in
-      let f : task_of (task_marks p.task) ≡ None = ap task_of (sym s.1) ∙ e in
-      let g : task_of (task_marks p.task) ≡ Some r.short = r.read in
-      cc
+  read_as : (t : Option ShortTask) → ending_of rest ≡ Some t → program_of items ≡ Some (plain (record { globals = globals; task = t }))
+  read_as t e =
+      let s = subst (λ o. Stands (λ t. program_by [] (option_map plain_task t)) o (program_of rest)) e (ending_stands rest no_global) in
+      whole ∙ ap (prepended globals.items) s ∙ ap (λ gs. Some (program_by gs (option_map plain_task t))) (append-nil globals.items)
 
-  pub program_only : (t : Option ShortTask) → task_of rest ≡ Some t → (p : Program) → IsProgram p tokens
+  pub program_found : (t : Option ShortTask) → ending_of rest ≡ Some t → IsLawful (plain (record { globals = globals; task = t }))
+      → IsProgramOf (plain (record { globals = globals; task = t })) items
+  program_found t e lawful = record { read = read_as t e; lawful = lawful; built = built_task t }
+
+  pub program_none : ending_of rest ≡ None → (p : Program) → IsProgramOf p items → ⊥
+  program_none e p h = go (program_of rest) refl (ending_reached rest no_global) whole
+    where
+      go : (o : Option Program) → program_of rest ≡ o → Reached (λ p. IsBuiltBody (body_of_task p.task)) (ending_of rest) o → program_of items ≡ prepended globals.items o → ⊥
+      go None f r w = none_some (sym w ∙ h.read)
+      go (Some q) f r w =
+          let same : program_by (globals.items ++ q.globals) q.task ≡ p = from_some (sym w ∙ h.read) in
+          let built : IsBuiltBody (body_of_task q.task) = subst (λ x. IsBuiltBody (body_of_task x)) (sym (ap (λ x. x.task) same)) h.built in
+          subst IsRead e (r built)
+
+  pub program_only : (t : Option ShortTask) → ending_of rest ≡ Some t → (p : Program) → IsProgramOf p items
       → plain (record { globals = globals; task = t }) ≡ p
-  program_only t e p h =
-      let s : (globals.items ≡ p.globals) × (rest ≡ task_marks p.task) = split p h.spelled in
-      let r : IsTaskReadAs p.task = task_read p.task h.built in
-      let f : task_of (task_marks p.task) ≡ Some t = ap task_of (sym s.1) ∙ e in
-      let g : task_of (task_marks p.task) ≡ Some r.short = r.read in
-      let k : t ≡ r.short = cc in
-      ap (λ gs. program_by gs (option_map plain_task t)) s.0 ∙ ap (λ u. program_by p.globals (option_map plain_task u)) k ∙ ap (program_by p.globals) r.same
+  program_only t e p h = from_some (sym (read_as t e) ∙ h.read)
 
 -- ---- one more global behind those that are read
 
-abbrev read_so_far : List Global → List Mark → List Global × List Mark
+abbrev read_so_far : List Global → List ItemTree → List Global × List ItemTree
 read_so_far gs rest = (gs ++ (globals_then rest).0, (globals_then rest).1)
 
-pub step_kept : (gs : List Global) (rest : List Mark) (g : Global) (behind : List Mark) (gs' : List Global) (all : List Global × List Mark)
+abbrev some_global : List ItemTree → Global → List ItemTree → Type 0
+some_global items g rest = globals_then items ≡ (g ∷ (globals_then rest).0, (globals_then rest).1)
+
+global_step : (items : List ItemTree) (g : Global) (rest : List ItemTree) → global_then items ≡ Some (g, rest) → some_global items g rest
+global_step [] g rest e = none_some e
+global_step (i ∷ items) g rest e = go (global_of i) refl e
+  where
+    go : (o : Option Global) → global_of i ≡ o → option_map {U = Global × List ItemTree} (λ g. (g, items)) o ≡ Some (g, rest) → some_global (i ∷ items) g rest
+    go None h e = none_some e
+    go (Some x) h e =
+        let f : (x, items) ≡ (g, rest) = from_some e in
+        subst (λ (r : Global × List ItemTree). some_global (i ∷ items) r.0 r.1) f (ap (λ o. globals_by o (i ∷ items) (globals_then items)) h)
+
+no_global_left : (items : List ItemTree) → global_then items ≡ None → globals_then items ≡ ([], items)
+no_global_left [] e = refl
+no_global_left (i ∷ items) e = go (global_of i) refl e
+  where
+    go : (o : Option Global) → global_of i ≡ o → option_map {U = Global × List ItemTree} (λ g. (g, items)) o ≡ None → globals_then (i ∷ items) ≡ ([], i ∷ items)
+    go None h e = ap (λ o. globals_by o (i ∷ items) (globals_then items)) h
+    go (Some x) h e = none_some (sym e)
+
+pub step_kept : (gs : List Global) (rest : List ItemTree) (g : Global) (behind : List ItemTree) (gs' : List Global) (all : List Global × List ItemTree)
     → global_then rest ≡ Some (g, behind) → gs' ≡ gs ++ g ∷ [] → read_so_far gs rest ≡ all → read_so_far gs' behind ≡ all
 step_kept gs rest g behind gs' all e f h =
     ap (λ x. read_so_far x behind) f
     ∙ ap (λ x. (x, (globals_then behind).1)) (append_assoc gs (g ∷ []) (globals_then behind).0)
-    ∙ ap (λ r. (gs ++ r.0, r.1)) (sym (global_step rest g behind e).0)
+    ∙ ap (λ r. (gs ++ r.0, r.1)) (sym (global_step rest g behind e))
     ∙ h
 
-pub rest_is_read : (gs : List Global) (rest : List Mark) (all : List Global × List Mark) → global_then rest ≡ None → read_so_far gs rest ≡ all → (gs, rest) ≡ all
+pub rest_is_read : (gs : List Global) (rest : List ItemTree) (all : List Global × List ItemTree) → global_then rest ≡ None → read_so_far gs rest ≡ all → (gs, rest) ≡ all
 rest_is_read gs rest all e h =
-    ap (λ x. (x, rest)) (sym (append-nil gs)) ∙ ap (λ r. (gs ++ r.0, r.1)) (sym (no_global rest e)) ∙ h
+    ap (λ x. (x, rest)) (sym (append-nil gs)) ∙ ap (λ r. (gs ++ r.0, r.1)) (sym (no_global_left rest e)) ∙ h
+
+-- ---- lists of two or more
+
+pub many_specifiers : (l : List Specifier) → 2 ≤ length l → is_int (specifier_trees l) ≡ false
+many_specifiers [] e = absurd (omega arith)
+many_specifiers (s ∷ []) e = absurd (omega arith)
+many_specifiers (s ∷ t ∷ l) e = refl
+
+pub many_parts : (l : List BlockPart) → 2 ≤ length l → short_body (as_parts (map part_tree l)) ≡ None
+many_parts [] e = absurd (omega arith)
+many_parts (p ∷ []) e = absurd (omega arith)
+many_parts (p ∷ q ∷ l) e = refl

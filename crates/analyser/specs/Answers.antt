@@ -12,6 +12,8 @@ use Rattle.tm_terms.specs.declared.limits.TheConstants.{SOURCE}
 use Rattle.tm_terms.specs.declared.tokens.Token.{Token}
 use Rattle.tm_terms.specs.Spelling.{Lexes}
 use Rattle.tm_terms.specs.Texts.{report_text, refusal_text, usage_text}
+use Rattle.tm_trees.specs.FileTrees.{ItemTree}
+use Rattle.tm_trees.specs.Parsing.{Parses}
 use Rattle.analyser.specs.declared.statuses.Status.{Status}
 use Rattle.analyser.specs.declared.statuses.Status.TheVariants.{NoAlarm, Alarms, Refused, Usage, ReadFault, WriteFault, NoMemory}
 use Rattle.analyser.specs.Form.{Program, IsProgram}
@@ -33,12 +35,16 @@ source_limit = record { kind = Kinds.Limit; place = record { line = 0; col = 0 }
 abbrev pub unbuilt : Refusal
 unbuilt = record { kind = Kinds.Unbuilt; place = record { line = 1; col = 1 }; limit = None }
 
--- Why these bytes are refused: they are too many; or else the lexis refuses them; or else they spell no program that is
--- analysed.
+-- Why tokens are refused: the grammar refuses them; or else they spell no program that is analysed.
+pub data IsRefusedAs (tokens : List Token) : Refusal → Type 0 where
+  not_parsed : {refusal : Refusal} → Parses tokens (Err refusal) → IsRefusedAs tokens refusal
+  not_built : {items : List ItemTree} → Parses tokens (Ok items) → ((p : Program) → IsProgram p tokens → ⊥) → IsRefusedAs tokens unbuilt
+
+-- Why these bytes are refused: they are too many; or else the lexis refuses them; or else their tokens are refused.
 pub data IsRefused (bytes : List ℕ) : Refusal → Type 0 where
   too_long : SOURCE < length bytes → IsRefused bytes source_limit
   not_lexed : {refusal : Refusal} → length bytes ≤ SOURCE → Lexes bytes (Err refusal) → IsRefused bytes refusal
-  not_built : {tokens : List Token} → length bytes ≤ SOURCE → Lexes bytes (Ok tokens) → ((p : Program) → IsProgram p tokens → ⊥) → IsRefused bytes unbuilt
+  not_read : {tokens : List Token} {refusal : Refusal} → length bytes ≤ SOURCE → Lexes bytes (Ok tokens) → IsRefusedAs tokens refusal → IsRefused bytes refusal
 
 -- ## Reports
 
@@ -99,25 +105,32 @@ MayGive words bytes status text = IsAnalyse words × HasAnswer bytes status text
 abbrev pub Told : Option (List ℕ) → List ℕ → Type 0
 Told left bytes = IfSome left (λ known. known ≡ bytes)
 
--- the sink has taken the whole text that goes with the status
-pub record Answers (words : List (List ℕ)) (left taken taken' : Option (List ℕ)) (status : Status) : Type 0 where
+-- the sink has taken the whole of a text that may come with the status, for the bytes of the source
+pub record TakesWhole (May : List ℕ → Status → List ℕ → Type 0) (left taken taken' : Option (List ℕ)) (status : Status) : Type 0 where
   pub bytes : List ℕ
   pub told : Told left bytes
   pub text : List ℕ
-  pub may : MayGive words bytes status text
+  pub may : May bytes status text
   pub appended : taken' ≡ append_known taken text
 
--- the sink has taken a front of a text that these words and bytes may give
-pub record TakesFront (words : List (List ℕ)) (left taken taken' : Option (List ℕ)) : Type 0 where
+-- the sink has taken a front of a text that may come with some status
+pub record TakesPart (May : List ℕ → Status → List ℕ → Type 0) (left taken taken' : Option (List ℕ)) : Type 0 where
   pub bytes : List ℕ
   pub told : Told left bytes
   pub status : Status
   pub text : List ℕ
-  pub may : MayGive words bytes status text
+  pub may : May bytes status text
   pub front : List ℕ
   pub rest : List ℕ
   pub split : text ≡ front ++ rest
   pub appended : taken' ≡ append_known taken front
+
+-- the same of the texts that these words may give
+abbrev pub Answers : List (List ℕ) → Option (List ℕ) → Option (List ℕ) → Option (List ℕ) → Status → Type 0
+Answers words left taken taken' status = TakesWhole (MayGive words) left taken taken' status
+
+abbrev pub TakesFront : List (List ℕ) → Option (List ℕ) → Option (List ℕ) → Option (List ℕ) → Type 0
+TakesFront words left taken taken' = TakesPart (MayGive words) left taken taken'
 
 -- the statuses that come with a whole text
 abbrev pub IsWhole : Status → Type 0

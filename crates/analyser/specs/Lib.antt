@@ -1,4 +1,3 @@
-pub mod Marks
 pub mod Form
 pub mod Programs
 pub mod Reading

@@ -1,13 +1,14 @@
 -- The parts of an answer, as the code makes them.
-use Rattle.std.specs.Prelude.{◌≡◌, ℕ, List, [], ◌++◌, Option}
-use Rattle.std.specs.Io.KnownBytes.{append_known}
+use Rattle.std.specs.Prelude.{◌≡◌, ℕ, List, [], Option}
 use Rattle.tm_terms.specs.declared.alarms.Alarm.{Alarm}
+use Rattle.tm_terms.specs.declared.refusals.Refusal.{Refusal}
 use Rattle.tm_terms.specs.declared.tokens.Token.{Token}
 use Rattle.tm_terms.specs.Texts.{report_text, refusal_text}
+use Rattle.tm_trees.specs.FileTrees.{ItemTree}
 use Rattle.analyser.specs.declared.statuses.Status.{Status}
 use Rattle.analyser.specs.declared.statuses.Status.TheVariants.{NoAlarm, Alarms, Refused, Usage, ReadFault, WriteFault, NoMemory}
-use Rattle.analyser.specs.Form.{Program, IsProgram}
-use Rattle.analyser.specs.Answers.{HasAlarm, HasAnswer, IsLeastReport, Told, unbuilt}
+use Rattle.analyser.specs.Form.{Program, IsProgramOf, IsProgram}
+use Rattle.analyser.specs.Answers.{HasAlarm, HasAnswer, IsLeastReport, IsRefusedAs, TakesWhole, TakesPart, unbuilt}
 
 -- the text and the status of the report of a program
 abbrev pub GivesReport : Program → Status → List ℕ → Type 0
@@ -21,25 +22,17 @@ GivesReport p NoMemory text = ⊥
 
 -- the answer to the tokens of a source
 abbrev pub AnswersTokens : List Token → Status → List ℕ → Type 0
-AnswersTokens tokens Refused text = ((p : Program) → IsProgram p tokens → ⊥) × (text ≡ refusal_text unbuilt)
+AnswersTokens tokens Refused text = (refusal : Refusal) × IsRefusedAs tokens refusal × (text ≡ refusal_text refusal)
 AnswersTokens tokens status text = (p : Program) × IsProgram p tokens × GivesReport p status text
 
--- the sink has taken the whole answer to the bytes of the source
-pub record AnswersSource (left taken taken' : Option (List ℕ)) (status : Status) : Type 0 where
-  pub bytes : List ℕ
-  pub told : Told left bytes
-  pub text : List ℕ
-  pub has : HasAnswer bytes status text
-  pub appended : taken' ≡ append_known taken text
+-- the answer to the file of a source
+abbrev pub AnswersFile : List ItemTree → Status → List ℕ → Type 0
+AnswersFile items Refused text = ((p : Program) → IsProgramOf p items → ⊥) × (text ≡ refusal_text unbuilt)
+AnswersFile items status text = (p : Program) × IsProgramOf p items × GivesReport p status text
 
--- the sink has taken a front of it
-pub record TakesAnswerFront (left taken taken' : Option (List ℕ)) : Type 0 where
-  pub bytes : List ℕ
-  pub told : Told left bytes
-  pub status : Status
-  pub text : List ℕ
-  pub has : HasAnswer bytes status text
-  pub front : List ℕ
-  pub rest : List ℕ
-  pub split : text ≡ front ++ rest
-  pub appended : taken' ≡ append_known taken front
+-- the sink has taken the whole answer to the bytes of the source, or a front of it
+abbrev pub AnswersSource : Option (List ℕ) → Option (List ℕ) → Option (List ℕ) → Status → Type 0
+AnswersSource left taken taken' status = TakesWhole HasAnswer left taken taken' status
+
+abbrev pub TakesAnswerFront : Option (List ℕ) → Option (List ℕ) → Option (List ℕ) → Type 0
+TakesAnswerFront left taken taken' = TakesPart HasAnswer left taken taken'

@@ -5,7 +5,6 @@ mod faults;
 mod input;
 mod lawful;
 pub mod laws;
-mod marks;
 mod operators;
 mod output;
 mod programs;

@@ -3,8 +3,9 @@
 ghost use Rattle.std.specs.Prelude.{◌≡◌, ◌≤◌, IfOk, length, string_bytes};
 ghost use Rattle.tm_terms.specs.Texts.{refusal_text};
 ghost use Rattle.tm_terms.specs.declared.limits.TheConstants.{SOURCE as SOURCE_LIMIT};
-ghost use Rattle.analyser.specs.Answers.{HasAnswer};
-ghost use Rattle.analyser.specs.Replies.{AnswersTokens, GivesReport};
+ghost use Rattle.tm_trees.specs.FileTrees.{file_tree};
+ghost use Rattle.analyser.specs.Answers.{HasAnswer, unbuilt};
+ghost use Rattle.analyser.specs.Replies.{AnswersFile, AnswersTokens, GivesReport};
 ghost use Rattle.analyser.specs.Programs.{plain};
 
 use crate::faults::report_of;
@@ -12,9 +13,11 @@ use crate::programs::Program;
 use crate::reader::read_program;
 use crate::statuses::Status;
 use c_lexer::lex;
+use c_parser::parse;
 use std::alloc::Global as Heap;
 use tm_lattice::NoMemory;
 use tm_terms::{Fail, Kind, Place, Refusal, Token, plain as plain_text, refusal_line};
+use tm_trees::File;
 
 /// A status and the whole text that goes with it.
 #[derive(Drop)]
@@ -22,6 +25,9 @@ pub struct Reply {
     pub status: Status,
     pub text: String,
 }
+
+/// The greatest number of tokens of the built form.
+const MAX_TOKENS: usize = 400;
 
 /// The place of a refusal that stands for the whole source.
 const START: Place = Place { line: 1, col: 1 };
@@ -52,20 +58,45 @@ fn reported(alloc: Heap, program: &Program) -> Result<Reply, NoMemory>
     Ok(Reply { status, text })
 }
 
+/// The refusal of a source that is not analysed.
+fn unbuilt(alloc: Heap) -> Result<Reply, NoMemory>
+    ensures status { IfOk result (λ reply. reply.status ≡ Status.Refused) }
+    ensures text { IfOk result (λ reply. string_bytes reply.text ≡ refusal_text unbuilt) }
+{
+    refused(
+        alloc,
+        Refusal {
+            kind: Kind::Unbuilt,
+            place: START,
+            limit: None,
+        },
+    )
+}
+
+/// The answer to a file.
+fn reply_to_file(alloc: Heap, file: &File) -> Result<Reply, NoMemory>
+    ensures { IfOk result (λ reply. AnswersFile (file_tree file.now) reply.status (string_bytes reply.text)) }
+{
+    match read_program(alloc, file)? {
+        Some(program) => reported(alloc, &program),
+        None => unbuilt(alloc),
+    }
+}
+
 /// The answer to the tokens of a source that the lexis accepts.
 fn reply_to(alloc: Heap, tokens: &[Token]) -> Result<Reply, NoMemory>
     ensures { IfOk result (λ reply. AnswersTokens tokens.now reply.status (string_bytes reply.text)) }
 {
-    match read_program(alloc, tokens)? {
-        Some(program) => reported(alloc, &program),
-        None => refused(
-            alloc,
-            Refusal {
-                kind: Kind::Unbuilt,
-                place: START,
-                limit: None,
-            },
-        ),
+    match parse(alloc, tokens) {
+        Ok(file) => {
+            if tokens.len() > MAX_TOKENS {
+                unbuilt(alloc)
+            } else {
+                reply_to_file(alloc, &file)
+            }
+        }
+        Err(Fail::Refused(refusal)) => refused(alloc, refusal),
+        Err(Fail::NoMemory) => Err(NoMemory),
     }
 }
 

@@ -51,7 +51,13 @@ fn sources(rt: HostRuntime) -> Result<(), Fail> {
         b"2:27 DIV\nalarms 1\n",
     )?;
     expect(&rt, alloc, b"", Status::NoAlarm, none)?;
-    expect(&rt, alloc, b"int x", Status::Refused, unbuilt)?;
+    expect(
+        &rt,
+        alloc,
+        b"int x",
+        Status::Refused,
+        b"1:5 refused Syntax\n",
+    )?;
     expect(
         &rt,
         alloc,
@@ -123,6 +129,92 @@ fn limits(rt: HostRuntime) -> Result<(), Fail> {
         Status::Refused,
         b"refused Limit tokens 200000\n",
     )
+}
+
+/// The front, so many of the middle, and the back.
+fn repeated(
+    alloc: Global,
+    front: &[u8],
+    middle: &[u8],
+    count: usize,
+    back: &[u8],
+) -> Result<Vec<u8>, Fail> {
+    let mut text = front.to_vec(alloc)?;
+    for _i in 0..count {
+        text.extend_from_slice(middle)?;
+    }
+    text.extend_from_slice(back)?;
+    Ok(text)
+}
+
+#[test]
+fn grammar(rt: HostRuntime) -> Result<(), Fail> {
+    let alloc = rt.alloc();
+    for (source, line) in [
+        ("__task(1) void t(void){", "1:23 refused Syntax\n"),
+        ("int x=1+;", "1:9 refused Syntax\n"),
+        (
+            "int a[2]={1,2,};int f(int,char*b),c;",
+            "1:34 refused Syntax\n",
+        ),
+        (
+            "typedef struct N N;struct N{int v;N*next;};",
+            "1:1 refused Unbuilt\n",
+        ),
+        ("typedef int T;int T;", "1:19 refused Syntax\n"),
+        (
+            "typedef int T;T*f(void){return(T*)0;}",
+            "1:1 refused Unbuilt\n",
+        ),
+        (
+            "int f(int a){if(a)if(a>1)return 2;else return 1;return 0;}",
+            "1:1 refused Unbuilt\n",
+        ),
+        ("void f(void){if(1)else;}", "1:19 refused Syntax\n"),
+        (
+            "void f(void){switch(1){case 1:{case 2:;}}}",
+            "1:32 refused Syntax\n",
+        ),
+        ("void f(void){typedef int T;}", "1:26 refused Syntax\n"),
+    ] {
+        expect(
+            &rt,
+            alloc,
+            source.as_bytes(),
+            Status::Refused,
+            line.as_bytes(),
+        )?;
+    }
+    Ok(())
+}
+
+#[test]
+fn heights(rt: HostRuntime) -> Result<(), Fail> {
+    let alloc = rt.alloc();
+    let unbuilt = b"1:1 refused Unbuilt\n";
+    let open = repeated(alloc, b"int x=", b"(", 201, b"")?;
+    expect(&rt, alloc, &open, Status::Refused, b"1:207 refused Deep\n")?;
+    let mut closed = repeated(alloc, b"int x=", b"(", 200, b"1")?;
+    closed.extend_from_slice(&repeated(alloc, b"", b")", 200, b";")?)?;
+    expect(&rt, alloc, &closed, Status::Refused, unbuilt)?;
+    let high = repeated(alloc, b"int x=1", b"+1", 599, b";")?;
+    expect(
+        &rt,
+        alloc,
+        &high,
+        Status::Refused,
+        b"1:1206 refused Syntax\n",
+    )?;
+    let deep = repeated(alloc, b"void f(void){", b"if(1)", 40_000, b"")?;
+    expect(
+        &rt,
+        alloc,
+        &deep,
+        Status::Refused,
+        b"1:2498 refused Syntax\n",
+    )?;
+    let signs = filled(alloc, b';', 200_000)?;
+    expect(&rt, alloc, &signs, Status::Refused, unbuilt)
 }
 
 /// A writer that takes nothing.
