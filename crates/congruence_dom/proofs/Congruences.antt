@@ -4,13 +4,14 @@ use Rattle.std.specs.Prelude.{int_div, int_rem}
 use Rattle.std.proofs.lemmas.Int.{ints, quot-rem}
 use Rattle.std.proofs.Math.IntN.{*ℤ_comm}
 use Rattle.congruence_dom.specs.declared.classes.Cong.{Cong}
-use Rattle.congruence_dom.specs.Class.{Divides, InClass, IsWithin}
-use Rattle.congruence_dom.specs.Gcd.{int_gcd}
-use Rattle.congruence_dom.specs.Laws.{All, Grows, Holds, IsByDivision, IsDivisor}
+use Rattle.congruence_dom.specs.Class.{InClass, IsSubclass}
+use Rattle.tm_numbers.specs.Divisors.{Divides, int_gcd}
+use Rattle.congruence_dom.specs.Laws.{Grows, Holds, IsSubclassByDivision}
+use Rattle.tm_numbers.specs.Operands.{AnyNumbers, NotByZero}
 use Rattle.congruence_dom.specs.Rows.{add_row, sub_row, mul_row, rem_row}
-use Rattle.congruence_dom.proofs.Divisibility.{divides_same, divides_zero, divides_self, divides_add, divides_sub, divides_times, divides_trans, divides_product, divides_scaled}
-use Rattle.congruence_dom.proofs.Gcds.{is_greatest}
-use Rattle.congruence_dom.proofs.Integers.{product_difference, mul_sub}
+use Rattle.tm_numbers.proofs.Divisibility.{divides_same, divides_zero, divides_self, divides_add, divides_sub, divides_times, divides_trans, divides_product, divides_scaled}
+use Rattle.tm_numbers.proofs.Gcds.{is_greatest}
+use Rattle.tm_numbers.proofs.Integers.{product_difference, mul_sub}
 
 -- ---- inclusion by division
 
@@ -33,22 +34,22 @@ same_class c x y h k = divides_same c.modulus (apart x y c.residue) (divides_sub
     apart : (x y r : ℤ) → (x -ℤ r) -ℤ (y -ℤ r) ≡ x -ℤ y
     apart x y r = omega (arith, ints)
 
-pub within_modulus : (a b : Cong) → IsWithin a b → Divides b.modulus a.modulus
+pub within_modulus : (a b : Cong) → IsSubclass a b → Divides b.modulus a.modulus
 within_modulus a b w = divides_same b.modulus (next a.residue a.modulus) (same_class b _ _ (w _ (from_next a)) (w _ (from_residue a)))
   where
     next : (r m : ℤ) → (r +ℤ m) -ℤ r ≡ m
     next r m = omega (arith, ints)
 
-pub within_residue : (a b : Cong) → IsWithin a b → InClass b a.residue
+pub within_residue : (a b : Cong) → IsSubclass a b → InClass b a.residue
 within_residue a b w = w _ (from_residue a)
 
-pub within : (a b : Cong) → Divides b.modulus a.modulus → InClass b a.residue → IsWithin a b
+pub within : (a b : Cong) → Divides b.modulus a.modulus → InClass b a.residue → IsSubclass a b
 within a b h k x i = divides_same b.modulus (joined x a.residue b.residue) (divides_add b.modulus _ _ (divides_trans b.modulus a.modulus _ h i) k)
   where
     joined : (x r s : ℤ) → (x -ℤ r) +ℤ (r -ℤ s) ≡ x -ℤ s
     joined x r s = omega (arith, ints)
 
-pub is_by_division : IsByDivision
+pub is_by_division : IsSubclassByDivision
 is_by_division a b = (λ w. (within_modulus a b w, within_residue a b w), λ h. within a b h.0 h.1)
 
 -- ---- sums and differences
@@ -62,7 +63,7 @@ right a b = is_greatest.right a b
 gcd_grows : (a b c d : ℤ) → Divides c a → Divides d b → Divides (int_gcd c d) (int_gcd a b)
 gcd_grows a b c d h k = is_greatest.greatest _ a b (divides_trans _ c a (left c d) h) (divides_trans _ d b (right c d) k)
 
-pub add_holds : Holds All add_row ◌+ℤ◌
+pub add_holds : Holds AnyNumbers add_row ◌+ℤ◌
 add_holds a b x y takes h k = divides_same _ (paired x y a.residue b.residue)
     (divides_add _ _ _ (divides_trans _ a.modulus _ (left a.modulus b.modulus) h) (divides_trans _ b.modulus _ (right a.modulus b.modulus) k))
   where
@@ -74,7 +75,7 @@ add_grows a b c d h k = within _ _
     (gcd_grows _ _ _ _ (within_modulus a c h) (within_modulus b d k))
     (add_holds c d _ _ tt (within_residue a c h) (within_residue b d k))
 
-pub sub_holds : Holds All sub_row ◌-ℤ◌
+pub sub_holds : Holds AnyNumbers sub_row ◌-ℤ◌
 sub_holds a b x y takes h k = divides_same _ (paired x y a.residue b.residue)
     (divides_sub _ _ _ (divides_trans _ a.modulus _ (left a.modulus b.modulus) h) (divides_trans _ b.modulus _ (right a.modulus b.modulus) k))
   where
@@ -100,7 +101,7 @@ third p q r = right (int_gcd p q) r
 all_three : (g p q r : ℤ) → Divides g p → Divides g q → Divides g r → Divides g (int_gcd (int_gcd p q) r)
 all_three g p q r h k j = is_greatest.greatest g _ r (is_greatest.greatest g p q h k) j
 
-pub mul_holds : Holds All mul_row ◌*ℤ◌
+pub mul_holds : Holds AnyNumbers mul_row ◌*ℤ◌
 mul_holds a b x y takes h k =
     let g = (mul_row a b).modulus in
     let m = a.modulus in
@@ -144,7 +145,7 @@ mul_grows a b c d h k =
 
 -- ---- remainders
 
-pub rem_holds : Holds IsDivisor rem_row int_rem
+pub rem_holds : Holds NotByZero rem_row int_rem
 rem_holds a b x y takes h k =
     let g = (rem_row a b).modulus in
     let divisor : Divides g y = divides_same g (whole y b.residue)

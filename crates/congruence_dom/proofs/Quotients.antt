@@ -6,14 +6,15 @@ use Rattle.std.proofs.Math.Nat.{div-eq_of_lt-le, div-mul_cancel}
 use Rattle.std.proofs.lemmas.Int.{ints}
 use Rattle.std.proofs.lemmas.Nat.{pow_pos, pow-add}
 use Rattle.congruence_dom.specs.declared.classes.Cong.{Cong}
-use Rattle.congruence_dom.specs.Class.{Divides, InClass}
-use Rattle.congruence_dom.specs.Gcd.{int_gcd}
+use Rattle.congruence_dom.specs.Class.{InClass}
+use Rattle.tm_numbers.specs.Divisors.{Divides, int_gcd}
 use Rattle.congruence_dom.specs.Laws.{DivGrows, DivHolds, ShlFromGrows, ShlFromHolds, ShlGrows, ShlHolds, ShrGrows, ShrHolds}
-use Rattle.congruence_dom.specs.Rows.{power, shl_from_row, shr_row}
+use Rattle.congruence_dom.specs.Rows.{shl_from_row, shr_row}
+use Rattle.tm_numbers.specs.Powers.{power}
 use Rattle.congruence_dom.proofs.Congruences.{within, within_modulus, within_residue}
-use Rattle.congruence_dom.proofs.Divisibility.{divides_abs, divides_same, divides_zero, divides_add, divides_trans, divides_product, divides_scaled, quotient_by_abs, quotient_divides, quotient_sub, to_natural}
-use Rattle.congruence_dom.proofs.Gcds.{is_greatest}
-use Rattle.congruence_dom.proofs.Integers.{sub_mul}
+use Rattle.tm_numbers.proofs.Divisibility.{divides_abs, divides_same, divides_zero, divides_add, divides_trans, divides_product, divides_scaled, quotient_by_abs, quotient_divides, quotient_sub, to_natural}
+use Rattle.tm_numbers.proofs.Gcds.{is_greatest}
+use Rattle.tm_numbers.proofs.Integers.{sub_mul}
 
 -- ---- quotients
 

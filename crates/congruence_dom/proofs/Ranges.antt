@@ -6,10 +6,10 @@ use Rattle.std.proofs.lemmas.Nat.{mul-le}
 use Rattle.std.proofs.lemmas.Int.{ints, to_z-of_z, fits_signed_mul, unsigned_abs-mul}
 use Rattle.std.proofs.lemmas.Nat.Gcd.{le_of_dvd, dvd_trans}
 use Rattle.congruence_dom.specs.declared.classes.Cong.{Cong}
-use Rattle.congruence_dom.specs.Class.{HasSignedValues, HasTypeValues}
-use Rattle.congruence_dom.specs.Gcd.{gcd}
+use Rattle.congruence_dom.specs.Class.{IsSignedClass, IsTypeClass}
+use Rattle.tm_numbers.specs.Divisors.{gcd}
 use Rattle.congruence_dom.specs.Rows.{mul_row}
-use Rattle.congruence_dom.proofs.Gcds.{gcd_below_right, gcd_bound, gcd_is}
+use Rattle.tm_numbers.proofs.Gcds.{gcd_below_right, gcd_bound, gcd_is}
 
 pub back : (z : ℤ) → FitsSigned w128 z → to_z w128 (of_z w128 z) ≡ z
 back z f = to_z-of_z w128 z f
@@ -30,16 +30,16 @@ same_parts {p} {q} e f = with_residue p.modulus e ∙ with_modulus q.residue f
 pub of_two : (f : ℤ → ℤ → ℤ) {x y r : ℤ} → FitsSigned w128 x → FitsSigned w128 y → r ≡ f (to_z w128 (of_z w128 x)) (to_z w128 (of_z w128 y)) → r ≡ f x y
 of_two f {x} {y} g h e = e ∙ ap (λ (z : ℤ). f z (to_z w128 (of_z w128 y))) (back x g) ∙ ap (λ (z : ℤ). f x z) (back y h)
 
-pub residue_fits : (a : Cong) → HasTypeValues a → FitsSigned w128 a.residue
+pub residue_fits : (a : Cong) → IsTypeClass a → FitsSigned w128 a.residue
 residue_fits a h = omega (arith, ints, h.low, h.high)
 
-pub modulus_fits : (a : Cong) → HasTypeValues a → FitsSigned w128 a.modulus
+pub modulus_fits : (a : Cong) → IsTypeClass a → FitsSigned w128 a.modulus
 modulus_fits a h = omega (arith, ints, h.modulus_low, h.modulus_high)
 
 pub fits_from_size : (z : ℤ) → unsigned_abs z < 2 ^ 64 → FitsSigned w128 z
 fits_from_size z h = omega (arith, ints)
 
-pub signed_is_type : (a : Cong) → HasSignedValues a → HasTypeValues a
+pub signed_is_type : (a : Cong) → IsSignedClass a → IsTypeClass a
 signed_is_type a h = record {
   low = h.low;
   high = omega (arith, ints, h.low, h.high, h.modulus_low);
@@ -78,10 +78,10 @@ divisor_cases m (suc n) (suc r) zero hm hn hr hs zr zs = by_factor _ (suc n) (su
 divisor_cases zero n r (suc s) hm hn hr hs zr zs = all_below _ _ _ _ (omega arith) (omega arith) (by_factor _ n r (omega arith) hn hr)
 divisor_cases (suc m) n r (suc s) hm hn hr hs zr zs = by_factor _ (suc m) (suc s) (below_second _ (suc m * suc s) _ (omega arith)) hm hs
 
-sizes : (a : Cong) → HasSignedValues a → (unsigned_abs a.modulus < 2 ^ 64) × (unsigned_abs a.residue ≤ 2 ^ 63) × (unsigned_abs a.residue ≡ 0 → unsigned_abs a.modulus < 2 ^ 63)
+sizes : (a : Cong) → IsSignedClass a → (unsigned_abs a.modulus < 2 ^ 64) × (unsigned_abs a.residue ≤ 2 ^ 63) × (unsigned_abs a.residue ≡ 0 → unsigned_abs a.modulus < 2 ^ 63)
 sizes a h = (omega (arith, ints, h.low, h.high, h.modulus_low), omega (arith, ints, h.low, h.high, h.modulus_low), λ e. omega (arith, ints, h.low, h.high, h.modulus_low))
 
-pub divisor_fits : (a b : Cong) (d : ℕ) → HasSignedValues a → HasSignedValues b → pos d ≡ (mul_row a b).modulus → d < 2 ^ 127
+pub divisor_fits : (a b : Cong) (d : ℕ) → IsSignedClass a → IsSignedClass b → pos d ≡ (mul_row a b).modulus → d < 2 ^ 127
 divisor_fits a b d ha hb e =
     let m = unsigned_abs a.modulus in
     let n = unsigned_abs b.modulus in

@@ -1,4 +1,4 @@
+-- Classes (Class), the rows (Rows), and what they promise (Laws).
 pub mod Class
-pub mod Gcd
 pub mod Laws
 pub mod Rows

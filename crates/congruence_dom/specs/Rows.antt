@@ -1,7 +1,8 @@
 -- The rows: the class that holds an operator's results, from the classes that hold its operands.
-use Rattle.std.specs.Prelude.{ℕ, ◌^◌, ℤ, pos, ◌+ℤ◌, ◌-ℤ◌, ◌*ℤ◌, unsigned_abs, int_div}
+use Rattle.std.specs.Prelude.{ℕ, ℤ, pos, ◌+ℤ◌, ◌-ℤ◌, ◌*ℤ◌, unsigned_abs, int_div}
 use Rattle.congruence_dom.specs.declared.classes.Cong.{Cong}
-use Rattle.congruence_dom.specs.Gcd.{int_gcd}
+use Rattle.tm_numbers.specs.Divisors.{int_gcd}
+use Rattle.tm_numbers.specs.Powers.{power}
 
 abbrev pub add_row : Cong → Cong → Cong
 add_row a b = record { residue = a.residue +ℤ b.residue; modulus = int_gcd a.modulus b.modulus }
@@ -22,10 +23,6 @@ rem_row a b = record { residue = a.residue; modulus = int_gcd (int_gcd a.modulus
 -- by one divisor that divides residue and modulus
 abbrev pub div_row : Cong → ℤ → Cong
 div_row a b = record { residue = int_div a.residue b; modulus = int_div a.modulus (pos (unsigned_abs b)) }
-
--- 2^n
-abbrev pub power : ℕ → ℤ
-power n = pos (2 ^ n)
 
 -- by one count
 abbrev pub shl_row : Cong → ℕ → Cong

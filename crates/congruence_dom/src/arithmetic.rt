@@ -1,17 +1,17 @@
 //! The rows of `+`, `-`, `*`, `/` and `%` (C99 6.5.5, 6.5.6).
 ghost use Rattle.std.specs.Prelude.{◌*ℤ◌, ◌<◌, ◌^◌, ◌≡◌, ◌≢◌, ◌≤◌, int_div, pos, unsigned_abs};
-ghost use Rattle.congruence_dom.specs.Class.{HasSignedValues, HasTypeValues, HasUnsignedValues, class_of_unsigned};
-ghost use Rattle.congruence_dom.specs.Gcd.{int_gcd};
+ghost use Rattle.congruence_dom.specs.Class.{IsSignedClass, IsTypeClass, IsUnsignedClass, class_of_unsigned};
+ghost use Rattle.tm_numbers.specs.Divisors.{int_gcd};
 ghost use Rattle.congruence_dom.specs.Laws.{DividesAll};
 ghost use Rattle.congruence_dom.specs.Rows.{add_row, div_row, mul_row, rem_row, sub_row};
 
 use super::classes::{Cong, CongU};
-use super::divisors::common_divisor;
+use tm_numbers::gcd;
 
 /// Every sum of a number of `a` and one of `b`.
 pub fn add(a: Cong, b: Cong) -> Cong
-    requires left { HasTypeValues a }
-    requires right { HasTypeValues b }
+    requires left { IsTypeClass a }
+    requires right { IsTypeClass b }
     ensures { result ≡ add_row a b }
 {
     Cong {
@@ -22,8 +22,8 @@ pub fn add(a: Cong, b: Cong) -> Cong
 
 /// Every difference of a number of `a` and one of `b`.
 pub fn sub(a: Cong, b: Cong) -> Cong
-    requires left { HasTypeValues a }
-    requires right { HasTypeValues b }
+    requires left { IsTypeClass a }
+    requires right { IsTypeClass b }
     ensures { result ≡ sub_row a b }
 {
     Cong {
@@ -32,11 +32,11 @@ pub fn sub(a: Cong, b: Cong) -> Cong
     }
 }
 
-/// Every product of a number of `a` and one of `b`, whose residues, also with the modulus added, are values of the signed
-/// type of 64 bits.
+/// Every product of a number of `a` and one of `b`, whose residues, also with the modulus added, are values of the
+/// signed type of 64 bits.
 pub fn mul(a: Cong, b: Cong) -> Cong
-    requires left { HasSignedValues a }
-    requires right { HasSignedValues b }
+    requires left { IsSignedClass a }
+    requires right { IsSignedClass b }
     ensures { result ≡ mul_row a b }
 {
     let modulus = product_divisor(a, b);
@@ -48,8 +48,8 @@ pub fn mul(a: Cong, b: Cong) -> Cong
 
 /// The same row for residues and moduli from 0 to 2^64 - 1, whose products pass the range of `i128`.
 pub fn mul_u(a: Cong, b: Cong) -> CongU
-    requires left { HasUnsignedValues a }
-    requires right { HasUnsignedValues b }
+    requires left { IsUnsignedClass a }
+    requires right { IsUnsignedClass b }
     ensures { class_of_unsigned result ≡ mul_row a b }
 {
     CongU {
@@ -60,8 +60,8 @@ pub fn mul_u(a: Cong, b: Cong) -> CongU
 
 /// Every remainder of a number of `a` by a number of `b` other than 0.
 pub fn rem(a: Cong, b: Cong) -> Cong
-    requires left { HasTypeValues a }
-    requires right { HasTypeValues b }
+    requires left { IsTypeClass a }
+    requires right { IsTypeClass b }
     ensures { result ≡ rem_row a b }
 {
     Cong {
@@ -72,7 +72,7 @@ pub fn rem(a: Cong, b: Cong) -> Cong
 
 /// Every quotient of a number of `a` by `b`, which is not 0 and divides the residue and the modulus.
 pub fn div(a: Cong, b: i128) -> Cong
-    requires class { HasTypeValues a }
+    requires class { IsTypeClass a }
     requires divisor { b ≢ pos 0 }
     requires divides { DividesAll b a }
     ensures { result ≡ div_row a b }
@@ -85,14 +85,14 @@ pub fn div(a: Cong, b: i128) -> Cong
 
 // The greatest common divisor of the three products of a row.
 fn product_divisor(a: Cong, b: Cong) -> u128
-    requires left { HasTypeValues a }
-    requires right { HasTypeValues b }
+    requires left { IsTypeClass a }
+    requires right { IsTypeClass b }
     ensures { pos result ≡ (mul_row a b).modulus }
 {
     let moduli = size_of_product(a.modulus, b.modulus);
     let left = size_of_product(a.modulus, b.residue);
     let right = size_of_product(b.modulus, a.residue);
-    common_divisor(common_divisor(moduli, left), right)
+    gcd(gcd(moduli, left), right)
 }
 
 pub(crate) fn common(x: i128, y: i128) -> i128
@@ -101,7 +101,7 @@ pub(crate) fn common(x: i128, y: i128) -> i128
     ensures value { result ≡ int_gcd x y }
     ensures bound { unsigned_abs result < 2 ^ 64 }
 {
-    common_divisor(x.unsigned_abs(), y.unsigned_abs()) as i128
+    gcd(x.unsigned_abs(), y.unsigned_abs()) as i128
 }
 
 pub(crate) fn product(x: i128, y: i128) -> i128

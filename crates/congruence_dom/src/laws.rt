@@ -1,45 +1,37 @@
 //! What the rows promise, each as the contract of a function that does nothing: a row holds every result (`holds`), and
 //! operands that hold less have a row that holds less (`grows`).
 ghost use Rattle.std.specs.Prelude.{◌*ℤ◌, ◌+ℤ◌, ◌-ℤ◌, int_rem};
-ghost use Rattle.congruence_dom.specs.Laws.{All, DivGrows, DivHolds, Grows, Holds, IsByDivision, IsByRemainder, IsDivisor, IsGreatest, ShlFromGrows, ShlFromHolds, ShlGrows, ShlHolds, ShrGrows, ShrHolds};
+ghost use Rattle.congruence_dom.specs.Laws.{DivGrows, DivHolds, Grows, Holds, IsSubclassByDivision, ShlFromGrows};
+ghost use Rattle.congruence_dom.specs.Laws.{ShlFromHolds, ShlGrows, ShlHolds, ShrGrows, ShrHolds};
+ghost use Rattle.tm_numbers.specs.Operands.{AnyNumbers, NotByZero};
 ghost use Rattle.congruence_dom.specs.Rows.{add_row, mul_row, rem_row, sub_row};
-
-/// The greatest common divisor, of 0 and 0 too.
-pub fn gcd()
-    ensures { IsGreatest }
-{}
-
-/// When one number divides another.
-pub fn remainder()
-    ensures { IsByRemainder }
-{}
 
 /// When one class lies within another.
 pub fn inclusion()
-    ensures { IsByDivision }
+    ensures { IsSubclassByDivision }
 {}
 
 /// Sums.
 pub fn add()
-    ensures holds { Holds All add_row ◌+ℤ◌ }
+    ensures holds { Holds AnyNumbers add_row ◌+ℤ◌ }
     ensures grows { Grows add_row }
 {}
 
 /// Differences.
 pub fn sub()
-    ensures holds { Holds All sub_row ◌-ℤ◌ }
+    ensures holds { Holds AnyNumbers sub_row ◌-ℤ◌ }
     ensures grows { Grows sub_row }
 {}
 
 /// Products.
 pub fn mul()
-    ensures holds { Holds All mul_row ◌*ℤ◌ }
+    ensures holds { Holds AnyNumbers mul_row ◌*ℤ◌ }
     ensures grows { Grows mul_row }
 {}
 
 /// Remainders of truncated quotients.
 pub fn rem()
-    ensures holds { Holds IsDivisor rem_row int_rem }
+    ensures holds { Holds NotByZero rem_row int_rem }
     ensures grows { Grows rem_row }
 {}
 

@@ -8,9 +8,9 @@ use Rattle.tm_lattice.specs.Tables.{IsBelow}
 use Rattle.pointer_dom.specs.OffsetSets.{OffsetSet, IsOffsetsBelow}
 use Rattle.pointer_dom.specs.Pointer.{Pointer, null, invalid, to}
 use Rattle.pointer_dom.specs.PointerSets.{Pointers, IsPointers, IsPointer, IsPointersBelow, IsMeet, HaveEqualSizes, no_pointer}
-use Rattle.pointer_dom.specs.PointerLaws.{pointers_order}
+use Rattle.pointer_dom.specs.laws.PointerLaws.{pointers_order}
 use Rattle.pointer_dom.specs.Selections.{IsHullOfPointers, IsOtherPointer}
-use Rattle.pointer_dom.specs.Equality.{IsTruthOf, IsOnly, HasNoneOrTwo}
+use Rattle.pointer_dom.specs.Equality.{IsEqualityOf, IsOnly, HasNoneOrTwo}
 use Rattle.pointer_dom.proofs.EqualityFacts.{not_in_none}
 use Rattle.pointer_dom.proofs.Meaning.{included, below_from, in_meet, meet_below, meet_greatest}
 use Rattle.pointer_dom.proofs.OperationMeaning.{hull_holds, hull_below}
@@ -21,7 +21,7 @@ use Rattle.filters.proofs.PointerFilters.{hull_all, hull_by, unequal_two, unequa
 not_one : pos 1 ≡ pos 0 → ⊥
 not_one e = omega (arith, ints, e)
 
-pub pair_kept : (equal : Bool) (p q left right : Pointers) (x y : Pointer) → ArePointersAssumed equal p q left right → IsPointer p x → IsPointer q y → IsTruthOf equal x y (pos 1) → IsPointer left x × IsPointer right y
+pub pair_kept : (equal : Bool) (p q left right : Pointers) (x y : Pointer) → ArePointersAssumed equal p q left right → IsPointer p x → IsPointer q y → IsEqualityOf equal x y (pos 1) → IsPointer left x × IsPointer right y
 pair_kept true p q left right x y h m n t = ⊎_elim
     (λ e. (
       (in_meet p q left x h.0).1 (m, subst (IsPointer q) (sym e.1) n),

@@ -2,16 +2,17 @@
 use Rattle.std.proofs.Common.{◌≡◌, ◌≢◌, ℤ, pos, ◌+ℤ◌, ◌-ℤ◌, ◌≤ℤ◌, nat_abs, Bool, true, false, int_le, refl, sym, subst, arith, to_z, of_z}
 use Rattle.std.specs.Int.{w128}
 use Rattle.std.proofs.lemmas.Int.{ints, to_z-of_z}
-use Rattle.strided_dom.specs.Progression.{Progression, empty, Has, IsBelow, IsExactly, IsHull, IsSpaced, IsInReach, IsLeast, IsGreatest}
+use Rattle.strided_dom.specs.Progression.{Progression, empty, Has, IsSubset, IsExactly, IsHull, IsSpaced, IsInReach, IsLeastNumber, IsGreatestNumber}
 use Rattle.strided_dom.specs.Combinations.{IsAnother}
 use Rattle.strided_dom.proofs.Members.{not_in_empty}
-use Rattle.strided_dom.proofs.Congruences.{cong_up}
+use Rattle.tm_numbers.proofs.Congruences.{cong_up}
 use Rattle.strided_dom.proofs.Reach.{kept}
-use Rattle.filters.specs.Partners.{HasPartner, IsComparison, Compares, IsAssumed}
+use Rattle.filters.specs.Partners.{HasPartner, Compares, IsAssumed}
+use Rattle.tm_cint.specs.Operators.{IsComparison}
 use Rattle.tm_cint.specs.declared.operators.BinOp.{BinOp}
 use Rattle.tm_cint.specs.declared.operators.BinOp.TheVariants.{Add, Sub, Mul, Div, Rem, Shl, Shr, And, Or, Xor, Lt, Le, Gt, Ge, Eq, Ne}
 
-empty_by : (s r : Progression) → r ≡ empty → IsBelow r s
+empty_by : (s r : Progression) → r ≡ empty → IsSubset r s
 empty_by s r e = record { within = λ v h. absurd (not_in_empty v (subst (λ x. Has x v) e h)) }
 
 -- no number has a partner in the empty set
@@ -89,7 +90,7 @@ assumed o op a b left right e h k = subst (λ p. IsAssumed p a b left right) (sy
 -- both ends are one number, so each member is it
 pub hull_one : (R : ℤ → ℤ → Type 0) (a b r : Progression) (lo hi w : ℤ)
     → ((v : ℤ) → v ≢ lo → R v lo) → ((v u : ℤ) → R v u → v ≢ u)
-    → IsLeast (Has b) lo → IsGreatest (Has b) hi → lo ≡ hi → w ≡ lo → IsHull (IsAnother a w) r → IsHull (HasPartner R a b) r
+    → IsLeastNumber (Has b) lo → IsGreatestNumber (Has b) hi → lo ≡ hi → w ≡ lo → IsHull (IsAnother a w) r → IsHull (HasPartner R a b) r
 hull_one R a b r lo hi w from to least greatest e f h =
     hull_another R a b r lo from
     (λ v u m k g. to v u k (omega (arith, ints, least.bound u m, greatest.bound u m)))

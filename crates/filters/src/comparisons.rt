@@ -1,7 +1,8 @@
 //! Filters by the six comparisons.
 ghost use Rattle.std.specs.Prelude.{◌≡◌, ◌≢◌, ◌≤ℤ◌, ◌<ℤ◌, ℤ};
 ghost use Rattle.strided_dom.specs.Progression.{Has, IsExactly, IsHull};
-ghost use Rattle.filters.specs.Partners.{IsComparison, HasPartner, IsAssumed};
+ghost use Rattle.filters.specs.Partners.{HasPartner, IsAssumed};
+ghost use Rattle.tm_cint.specs.Operators.{IsComparison};
 
 use strided_dom::Strided;
 use tm_cint::BinOp;

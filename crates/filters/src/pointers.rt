@@ -7,10 +7,10 @@ use pointer_dom::{PointerSet, PointerValue};
 use std::alloc::Global;
 use tm_lattice::{Lattice, NoMemory};
 
-/// What is left of `p` and `q` where `x == y` is known of a pointer x of `p` and a pointer y of `q`, or `x != y` where `equal` is
-/// false (C99 6.5.9). Of `==` that is what both have. Of `!=`, where one side is null alone, or one object at one offset, the
-/// other side loses it; what is left of its offsets is the least strided set. An invalid pointer alone removes nothing: two invalid
-/// pointers are not told apart. Both are empty where one operand is.
+/// What is left of `p` and `q` where `x == y` is known of a pointer x of `p` and a pointer y of `q`, or `x != y` where
+/// `equal` is false (C99 6.5.9). Of `==` that is what both have. Of `!=`, where one side is null alone, or one object
+/// at one offset, the other side loses it; what is left of its offsets is the least strided set. An invalid pointer
+/// alone removes nothing: two invalid pointers are not told apart. Both are empty where one operand is.
 pub fn assume_ptr(
     alloc: Global,
     equal: bool,

@@ -5,7 +5,8 @@ use Rattle.std.specs.Int.{int_shr}
 use Rattle.std.proofs.Math.Nat.{pow-le-pow_right, mul-le-mul}
 use Rattle.std.proofs.lemmas.Nat.{pow_pos}
 use Rattle.std.proofs.lemmas.Int.{ints}
-use Rattle.interval_dom.specs.Laws.{All, AreCounts, AreNotNegative, Grows, Holds}
+use Rattle.interval_dom.specs.Laws.{AreCounts, AreNotNegative, Grows, Holds}
+use Rattle.tm_numbers.specs.Operands.{AnyNumbers}
 use Rattle.interval_dom.specs.Rows.{shift_left, shift_right, shl_row, shr_row}
 use Rattle.interval_dom.proofs.Corners.{Between, rising, falling, in_spanned, spanned_within, holds_lo, holds_hi, ≤ℤ_trans}
 use Rattle.interval_dom.proofs.Quotients.{div_mono, div_anti}
@@ -28,7 +29,7 @@ count_between (negsuc a) l h n p q =
     let j = div_anti a (2 ^ l) (2 ^ n) (pow_pos l) p in
     let k = div_anti a (2 ^ n) (2 ^ h) (pow_pos n) q in rising (omega (arith, ints)) (omega (arith, ints))
 
-pub shr_holds : Holds AreCounts All shr_row shift_right
+pub shr_holds : Holds AreCounts AnyNumbers shr_row shift_right
 shr_holds a b x y guard takes h k = in_spanned _ _ _ _ (shift_right a.lo y) (shift_right a.hi y) _
     (count_between a.lo _ _ _ (powers b.lo y guard k.low) (powers y b.hi (≤ℤ_trans guard k.low) k.high))
     (count_between a.hi _ _ _ (powers b.lo y guard k.low) (powers y b.hi (≤ℤ_trans guard k.low) k.high))
@@ -47,7 +48,7 @@ shift_rises (pos a) (pos b) m n s t h k = let j : a * 2 ^ unsigned_abs m ≤ b *
 shift_rises (pos a) (negsuc b) m n s t h k = absurd (omega (arith, ints))
 shift_rises (negsuc a) b m n s t h k = absurd (omega (arith, ints))
 
-pub shl_holds : Holds AreNotNegative All shl_row shift_left
+pub shl_holds : Holds AreNotNegative AnyNumbers shl_row shift_left
 shl_holds a b x y guard takes h k = record {
   low = shift_rises a.lo x b.lo y guard.0 guard.1 h.low k.low;
   high = shift_rises x a.hi y b.hi (≤ℤ_trans guard.0 h.low) (≤ℤ_trans guard.1 k.low) h.high k.high;

@@ -4,7 +4,8 @@ use Rattle.std.proofs.Math.IntN.{*ℤ_comm}
 use Rattle.std.proofs.Math.Nat.{mul-le-mul_right}
 use Rattle.std.proofs.lemmas.Int.{ints}
 use borrow.Author.Differences.{le_out}
-use Rattle.interval_dom.specs.Laws.{All, Always, Grows, Holds}
+use Rattle.interval_dom.specs.Laws.{Always, Grows, Holds}
+use Rattle.tm_numbers.specs.Operands.{AnyNumbers}
 use Rattle.interval_dom.specs.Rows.{mul_row}
 use Rattle.interval_dom.proofs.Corners.{Between, rising, falling, in_spanned, spanned_within, holds_lo, holds_hi}
 
@@ -26,7 +27,7 @@ product_between_second l h x y p q =
     (subst (λ (z : ℤ). Between (x *ℤ l) z (y *ℤ x)) (*ℤ_comm h x)
     (subst (λ (z : ℤ). Between z (h *ℤ x) (y *ℤ x)) (*ℤ_comm l x) (product_between l h y x p q)))
 
-pub mul_holds : Holds Always All mul_row ◌*ℤ◌
+pub mul_holds : Holds Always AnyNumbers mul_row ◌*ℤ◌
 mul_holds a b x y guard takes h k = in_spanned _ _ _ _ (a.lo *ℤ y) (a.hi *ℤ y) _
     (product_between_second b.lo b.hi a.lo y k.low k.high)
     (product_between_second b.lo b.hi a.hi y k.low k.high)

@@ -5,7 +5,8 @@ use Rattle.std.proofs.lemmas.Nat.{le-div}
 use Rattle.std.proofs.lemmas.Int.{ints}
 use Rattle.std.specs.Prelude.{int_div}
 use Rattle.interval_dom.specs.Interval.{Span, InInterval}
-use Rattle.interval_dom.specs.Laws.{All, AreDivisors, Grows, Holds}
+use Rattle.interval_dom.specs.Laws.{AreDivisors, Grows, Holds}
+use Rattle.tm_numbers.specs.Operands.{AnyNumbers}
 use Rattle.interval_dom.specs.Rows.{div_row, IsOneSided}
 use Rattle.interval_dom.proofs.Corners.{Between, rising, falling, in_spanned, spanned_within, holds_lo, holds_hi}
 
@@ -74,7 +75,7 @@ side_of : (b : Span) (y : ℤ) → IsOneSided b → InInterval b y → (y <ℤ p
 side_of b y (inl s) h = inl (omega (arith, ints))
 side_of b y (inr s) h = inr (omega (arith, ints))
 
-pub div_holds : Holds AreDivisors All div_row int_div
+pub div_holds : Holds AreDivisors AnyNumbers div_row int_div
 div_holds a b x y guard takes h k = in_spanned _ _ _ _ (int_div a.lo y) (int_div a.hi y) _
     (divisor_between b.lo b.hi a.lo y guard k.low k.high)
     (divisor_between b.lo b.hi a.hi y guard k.low k.high)

@@ -5,7 +5,8 @@ use Rattle.std.specs.Int.{int_min, int_max}
 use Rattle.std.proofs.Math.Nat.{mod-le}
 use Rattle.std.proofs.lemmas.Int.{ints, clamps, rem_below}
 use Rattle.interval_dom.specs.Interval.{Span, IsOrdered, IsWithin}
-use Rattle.interval_dom.specs.Laws.{Always, IsDivisor, Grows, Holds}
+use Rattle.interval_dom.specs.Laws.{Always, Grows, Holds}
+use Rattle.tm_numbers.specs.Operands.{NotByZero}
 use Rattle.interval_dom.specs.Rows.{rem_limit, rem_row}
 use Rattle.interval_dom.proofs.Corners.{≤ℤ_trans, min_l, min_r, max_l, max_r, min_in, max_in}
 
@@ -26,7 +27,7 @@ size_within l h y p q = omega (arith, ints)
 limited : (z : ℤ) (m n : ℕ) → unsigned_abs z < m → m ≤ n → (neg_ℤ (pos (n - 1)) ≤ℤ z) × (z ≤ℤ pos (n - 1))
 limited z m n h k = (omega (arith, ints), omega (arith, ints))
 
-pub rem_holds : Holds Always IsDivisor rem_row int_rem
+pub rem_holds : Holds Always NotByZero rem_row int_rem
 rem_holds a b x y guard takes h k =
     let sign = rem_toward_zero x y in
     let size = limited (int_rem x y) _ _ (rem_below x y (size_above y takes)) (size_within b.lo b.hi y k.low k.high) in

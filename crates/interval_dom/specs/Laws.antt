@@ -1,5 +1,6 @@
 -- What the rows promise: they hold every result, and operands that hold less give rows that hold less.
-use Rattle.std.specs.Prelude.{◌≡◌, ◌&&◌, ◌||◌, Bool, is_some, ℕ, ◌+◌, ◌%◌, ◌^◌, ◌<◌, ◌≤◌, ℤ, FitsSigned, pos, ◌≢◌, ◌≤ℤ◌, Option, Some, None, IfSome, ⊤}
+use Rattle.std.specs.Prelude.{◌≡◌, ◌&&◌, ◌||◌, Bool, is_some, ℕ, ◌+◌, ◌%◌, ◌^◌, ◌<◌, ◌≤◌, ℤ, FitsSigned, pos, ◌≤ℤ◌}
+use Rattle.std.specs.Prelude.{Option, Some, None, IfSome, ⊤}
 use Rattle.interval_dom.specs.Interval.{Span, InInterval, IsOrdered, IsWithin}
 use Rattle.interval_dom.specs.Bitwise.{bit_of, bit_length}
 use Rattle.std.specs.Int.{Width}
@@ -13,18 +14,12 @@ Holds Guard Takes row op =
 -- where the guard holds for the greater operands, smaller ones have a smaller row
 abbrev pub Grows : (Span → Span → Type 0) → (Span → Span → Span) → Type 0
 Grows Guard row =
-    (a b c d : Span) → Guard c d → IsOrdered a → IsOrdered b → IsWithin a c → IsWithin b d → IsWithin (row a b) (row c d)
+    (a b c d : Span) → Guard c d → IsOrdered a → IsOrdered b → IsWithin a c → IsWithin b d
+    → IsWithin (row a b) (row c d)
 
 -- no guard
 abbrev pub Always : Span → Span → Type 0
 Always a b = ⊤
-
--- an operator on all numbers
-abbrev pub All : ℤ → ℤ → Type 0
-All x y = ⊤
-
-abbrev pub IsDivisor : ℤ → ℤ → Type 0
-IsDivisor x y = y ≢ pos 0
 
 -- the second operand lies on one side of 0
 abbrev pub AreDivisors : Span → Span → Type 0
@@ -40,7 +35,8 @@ AreNotNegative a n = (pos 0 ≤ℤ a.lo) × (pos 0 ≤ℤ n.lo)
 
 -- the same for a row that stands under guards of its own
 abbrev pub HoldsIfAny : (Span → Span → Option Span) → (ℤ → ℤ → ℤ) → Type 0
-HoldsIfAny row op = (a b : Span) (x y : ℤ) → InInterval a x → InInterval b y → IfSome (row a b) (λ r. InInterval r (op x y))
+HoldsIfAny row op = (a b : Span) (x y : ℤ) → InInterval a x → InInterval b y
+    → IfSome (row a b) (λ r. InInterval r (op x y))
 
 -- a row that stands for the greater operands stands for the smaller ones, and is smaller
 abbrev pub IsWithinRow : Option Span → Option Span → Type 0
@@ -49,7 +45,8 @@ IsWithinRow (Some p) (Some q) = IsWithin p q
 IsWithinRow None (Some q) = ⊥
 
 abbrev pub GrowsIfAny : (Span → Span → Option Span) → Type 0
-GrowsIfAny row = (a b c d : Span) → IsOrdered a → IsOrdered b → IsWithin a c → IsWithin b d → IsWithinRow (row a b) (row c d)
+GrowsIfAny row = (a b c d : Span) → IsOrdered a → IsOrdered b → IsWithin a c → IsWithin b d
+    → IsWithinRow (row a b) (row c d)
 
 -- where the guarded row stands
 abbrev pub StandsWhere : (Span → Span → Option Span) → (Span → Span → Bool) → Type 0

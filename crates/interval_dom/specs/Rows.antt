@@ -1,5 +1,6 @@
 -- The rows: the interval that holds an operator's results, from the intervals that hold its operands.
-use Rattle.std.specs.Prelude.{◌-◌, ◌^◌, max, Bool, true, false, ◌&&◌, ℤ, pos, neg_ℤ, ◌+ℤ◌, ◌-ℤ◌, ◌*ℤ◌, ◌<ℤ◌, ◌⊎◌, unsigned_abs, int_le, int_div, Option, Some, None}
+use Rattle.std.specs.Prelude.{◌-◌, ◌^◌, max, Bool, true, false, ◌&&◌, ℤ, pos, neg_ℤ, ◌+ℤ◌, ◌-ℤ◌, ◌*ℤ◌, ◌<ℤ◌, ◌⊎◌}
+use Rattle.std.specs.Prelude.{unsigned_abs, int_le, int_div, Option, Some, None}
 use Rattle.std.specs.Int.{int_min, int_max, int_shr}
 use Rattle.interval_dom.specs.Interval.{Span}
 use Rattle.interval_dom.specs.Bitwise.{int_and, int_or, int_xor, bit_length}

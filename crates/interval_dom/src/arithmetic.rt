@@ -1,7 +1,9 @@
 //! The rows of `+`, `-`, `*`, `/` and `%` (C99 6.5.5, 6.5.6).
 ghost use Rattle.std.specs.Prelude.{◌*ℤ◌, ◌^◌, ◌≡◌, ◌≢◌, ◌≤◌, ◌≤ℤ◌, ◌<ℤ◌, int_div, pos, unsigned_abs};
-ghost use Rattle.interval_dom.specs.Interval.{HasSignedValues, HasTypeValues, HasUnsignedValues, span_of, span_of_unsigned};
-ghost use Rattle.interval_dom.specs.Rows.{HasDivisor, IsOneSided, add_row, div_row, mul_row, rem_limit, rem_row, spanned, sub_row};
+ghost use Rattle.interval_dom.specs.Interval.{HasSignedValues, HasTypeValues, HasUnsignedValues, span_of};
+ghost use Rattle.interval_dom.specs.Interval.{span_of_unsigned};
+ghost use Rattle.interval_dom.specs.Rows.{HasDivisor, IsOneSided, add_row, div_row, mul_row, rem_limit, rem_row};
+ghost use Rattle.interval_dom.specs.Rows.{spanned, sub_row};
 
 use super::intervals::{Interval, IntervalU};
 
@@ -56,8 +58,8 @@ pub fn mul_u(a: Interval, b: Interval) -> IntervalU
     }
 }
 
-/// Every truncated quotient of a number of `a` by one of `b`, which lies on one side of 0: the least and the greatest of
-/// the four quotients of ends.
+/// Every truncated quotient of a number of `a` by one of `b`, which lies on one side of 0: the least and the greatest
+/// of the four quotients of ends.
 pub fn div(a: Interval, b: Interval) -> Interval
     requires left { HasTypeValues a }
     requires right { HasTypeValues b }
@@ -72,8 +74,8 @@ pub fn div(a: Interval, b: Interval) -> Interval
     )
 }
 
-/// Every remainder of a number of `a` by a number of `b` other than 0, of which there is one: with M the greatest size of
-/// a divisor less 1, from the greater of -M and min(lo, 0) to the lesser of M and max(hi, 0).
+/// Every remainder of a number of `a` by a number of `b` other than 0, of which there is one: with M the greatest size
+/// of a divisor less 1, from the greater of -M and min(lo, 0) to the lesser of M and max(hi, 0).
 pub fn rem(a: Interval, b: Interval) -> Interval
     requires left { HasTypeValues a }
     requires right { HasTypeValues b }

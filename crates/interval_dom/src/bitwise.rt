@@ -2,7 +2,8 @@
 ghost use Rattle.std.specs.Prelude.{◌&&◌, ◌-◌, ◌^◌, ◌≡◌, ◌≤ℤ◌, ◌<ℤ◌, IsSome, Some, pos, unsigned_abs};
 ghost use Rattle.interval_dom.specs.Bitwise.{bit_length};
 ghost use Rattle.interval_dom.specs.Interval.{HasTypeValues, span_of};
-ghost use Rattle.interval_dom.specs.Rows.{and_row, from_zero_to, has_one, is_not_negative, ones_over, only, or_row, xor_row};
+ghost use Rattle.interval_dom.specs.Rows.{and_row, from_zero_to, has_one, is_not_negative, ones_over, only, or_row};
+ghost use Rattle.interval_dom.specs.Rows.{xor_row};
 
 use super::intervals::Interval;
 
@@ -26,8 +27,9 @@ pub fn and(a: Interval, b: Interval) -> Interval
     up_to(a.hi.min(b.hi))
 }
 
-/// Every `x | y`: where no operand has a negative number, from the greater of the two least ones to 2^k - 1 for the least
-/// k with both greatest ones below 2^k; the exact value where each operand has one number. One of these has to apply.
+/// Every `x | y`: where no operand has a negative number, from the greater of the two least ones to 2^k - 1 for the
+/// least k with both greatest ones below 2^k; the exact value where each operand has one number. One of these has to
+/// apply.
 pub fn or(a: Interval, b: Interval) -> Interval
     requires left { HasTypeValues a }
     requires right { HasTypeValues b }
@@ -43,8 +45,8 @@ pub fn or(a: Interval, b: Interval) -> Interval
     }
 }
 
-/// Every `x ^ y`: where no operand has a negative number, from 0 to 2^k - 1 for the least k with both greatest ones below
-/// 2^k; the exact value where each operand has one number. One of these has to apply.
+/// Every `x ^ y`: where no operand has a negative number, from 0 to 2^k - 1 for the least k with both greatest ones
+/// below 2^k; the exact value where each operand has one number. One of these has to apply.
 pub fn xor(a: Interval, b: Interval) -> Interval
     requires left { HasTypeValues a }
     requires right { HasTypeValues b }

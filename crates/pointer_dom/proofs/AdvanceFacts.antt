@@ -1,7 +1,7 @@
 -- Offsets that advance by the members of a set, in one object.
 use Rattle.std.proofs.Common.{◌≡◌, ◌↔◌, ℕ, ◌<◌, ◌^◌, ℤ, subst, arith}
 use Rattle.std.proofs.lemmas.Int.{ints}
-use Rattle.strided_dom.specs.Progression.{Progression, empty, Has, IsBelow, IsHull, IsInReach}
+use Rattle.strided_dom.specs.Progression.{Progression, empty, Has, IsSubset, IsHull, IsInReach}
 use Rattle.strided_dom.specs.Combinations.{IsSum}
 use Rattle.strided_dom.proofs.Members.{not_in_empty}
 use Rattle.pointer_dom.specs.Offset.{IsOffset, IsOffsetAmong}
@@ -48,7 +48,7 @@ module _ (o : OffsetSet) (steps sums : Progression) (reached : OffsetSet) (hull 
     none = within.none;
   }
 
-  pub stay_is : IsBelow sums reached.offsets ↔ ((v : ℤ) → IsAdvanced (Has steps) o.offsets v → IsOffset o.size v)
+  pub stay_is : IsSubset sums reached.offsets ↔ ((v : ℤ) → IsAdvanced (Has steps) o.offsets v → IsOffset o.size v)
   stay_is = (
     λ h v p. (within.offsets.sound v (h.within v (hull.complete v (sum_from_advance v p)))).offset,
     λ h. hull.least reached.offsets (λ v p. within.offsets.complete v (record { member = hull.complete v p; offset = h v (advance_from_sum v p) })),

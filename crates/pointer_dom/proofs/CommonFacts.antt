@@ -1,5 +1,5 @@
 -- Whether two tables have an offset in common, entry by entry of the first.
-use Rattle.std.proofs.Common.{◌≡◌, ◌≢◌, ◌↔◌, ◌⊎◌, inl, inr, ⊎_elim, ℕ, ◌+◌, ◌<◌, Bool, true, false, not, ◌&&◌, ◌||◌, IsTrue, T, List, [], ◌∷◌, ◌++◌, Some, None, Option, ℤ, pos, nat_abs, ◌≤ℤ◌, refl, sym, ap, subst, ◌∙◌, arith, take, drop, length, get_or}
+use Rattle.std.proofs.Common.{◌≡◌, ◌↔◌, ◌⊎◌, inl, inr, ⊎_elim, ℕ, ◌+◌, ◌<◌, Bool, true, false, not, ◌&&◌, ◌||◌, IsTrue, T, List, [], ◌∷◌, ◌++◌, Some, None, Option, ℤ, pos, nat_abs, ◌≤ℤ◌, refl, sym, ap, subst, ◌∙◌, arith, take, drop, length, get_or}
 use Rattle.std.proofs.lemmas.Int.{ints}
 use Rattle.std.proofs.lemmas.Bool.{cases_eq}
 use Rattle.std.proofs.lemmas.List.{take-append-drop, drop_more}
@@ -8,10 +8,9 @@ use Rattle.std.specs.FinMap as map
 use Rattle.std.specs.FinMap.{find}
 use Rattle.strided_dom.specs.Progression.{Progression, empty, Has, IsExactly, first_of}
 use Rattle.strided_dom.specs.Combinations.{IsInBoth}
-use Rattle.strided_dom.proofs.Members.{not_in_empty, no_member, some_or_empty}
-use Rattle.tm_lattice.specs.Keys.{is_sorted-rest, AllAbove-rest, find-here, find-there}
+use Rattle.strided_dom.proofs.Members.{not_in_empty, some_or_empty}
+use Rattle.tm_lattice.specs.laws.Keys.{is_sorted-rest, AllAbove-rest, find-here, find-there}
 use Rattle.tm_lattice.specs.Tables.{Table, IsEntry}
-use Rattle.pointer_dom.specs.Offset.{IsOffset}
 use Rattle.pointer_dom.specs.OffsetSets.{OffsetSet, IsOffsetSet, HasNoOffset}
 use Rattle.pointer_dom.specs.Pointer.{Pointer, null, invalid, to}
 use Rattle.pointer_dom.specs.PointerSets.{Pointers, IsPointers, IsPointer, offsets_or_none}

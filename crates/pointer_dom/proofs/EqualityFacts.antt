@@ -1,17 +1,14 @@
 -- Which pointers two sets have in common, and which differ.
-use Rattle.std.proofs.Common.{◌≡◌, ◌≢◌, ◌↔◌, ◌⊎◌, inl, inr, ⊎_elim, ℕ, Bool, true, false, not, ◌&&◌, ◌||◌, IsTrue, Option, Some, None, MatchOption, ℤ, pos, nat_abs, refl, sym, ap, subst, ◌∙◌, arith}
+use Rattle.std.proofs.Common.{◌≡◌, ◌≢◌, ◌↔◌, ◌⊎◌, inl, inr, ⊎_elim, ℕ, Bool, true, false, IsTrue, Option, Some, None, MatchOption, pos, refl, sym, subst, ◌∙◌, arith}
 use Rattle.std.proofs.lemmas.Int.{ints, by_lt_z}
 use Rattle.std.proofs.lemmas.Bool.{cases_eq}
 use Rattle.std.specs.FinMap as map
-use Rattle.strided_dom.specs.Progression.{Progression, empty, single, Has, IsExactly, IsSpaced, first_of}
-use Rattle.strided_dom.specs.Combinations.{IsInBoth}
-use Rattle.strided_dom.proofs.Members.{not_in_empty, no_member, some_or_empty}
-use Rattle.strided_dom.proofs.Congruences.{cong_up}
-use Rattle.pointer_dom.specs.Offset.{IsOffset}
-use Rattle.pointer_dom.specs.OffsetSets.{OffsetSet, no_offset}
+use Rattle.strided_dom.specs.Progression.{Progression, empty, single, Has, IsExactly, IsSpaced}
+use Rattle.strided_dom.proofs.Members.{not_in_empty}
+use Rattle.tm_numbers.proofs.Congruences.{cong_up}
 use Rattle.pointer_dom.specs.Pointer.{Pointer, null, invalid, to}
-use Rattle.pointer_dom.specs.PointerSets.{Pointers, IsPointers, IsPointer, no_pointer, offsets_or_none, offsets_at}
-use Rattle.pointer_dom.specs.Equality.{IsTruthOf, IsTruth, Meet, Differ, IsOnly, HasNoneOrTwo, MeetAt, MeetTables}
+use Rattle.pointer_dom.specs.PointerSets.{Pointers, IsPointer, no_pointer, offsets_or_none}
+use Rattle.pointer_dom.specs.Equality.{IsEqualityValue, Meet, Differ, IsOnly, HasNoneOrTwo}
 use Rattle.pointer_dom.specs.PointerForms.{pointer_of}
 use Rattle.pointer_dom.specs.declared.comparisons.PointerValue.{PointerValue}
 use Rattle.pointer_dom.specs.declared.comparisons.PointerValue.TheVariants.{Null, Invalid, To}
@@ -50,7 +47,7 @@ truths_none a b p q s e = record {
 
 -- the values of the comparison
 module _ (p q : Pointers) (same differ : Bool) (same-is : IsTrue same ↔ Meet p q) (differ-is : IsTrue differ ↔ Differ p q) (s : Progression) where
-  pub equal_is : IsExactly (λ v. ((v ≡ pos 1) × IsTrue same) ⊎ ((v ≡ pos 0) × IsTrue differ)) s → IsExactly (IsTruth true p q) s
+  pub equal_is : IsExactly (λ v. ((v ≡ pos 1) × IsTrue same) ⊎ ((v ≡ pos 0) × IsTrue differ)) s → IsExactly (IsEqualityValue true p q) s
   equal_is exact = record {
     sound = λ v m. ⊎_elim
         (λ x. (let h = same-is.0 x.1 in record { left = h.common; right = h.common; in_left = h.in_left; in_right = h.in_right; truth = inl (x.0, refl) }))
@@ -60,7 +57,7 @@ module _ (p q : Pointers) (same differ : Bool) (same-is : IsTrue same ↔ Meet p
         (λ x. inr (x.0, differ-is.1 (record { left = h.left; right = h.right; in_left = h.in_left; in_right = h.in_right; differ = x.1 }))) h.truth);
   }
 
-  pub unequal_is : IsExactly (λ v. ((v ≡ pos 1) × IsTrue differ) ⊎ ((v ≡ pos 0) × IsTrue same)) s → IsExactly (IsTruth false p q) s
+  pub unequal_is : IsExactly (λ v. ((v ≡ pos 1) × IsTrue differ) ⊎ ((v ≡ pos 0) × IsTrue same)) s → IsExactly (IsEqualityValue false p q) s
   unequal_is exact = record {
     sound = λ v m. ⊎_elim
         (λ x. (let h = differ-is.0 x.1 in record { left = h.left; right = h.right; in_left = h.in_left; in_right = h.in_right; truth = inl (x.0, h.differ) }))

@@ -6,13 +6,13 @@ use Rattle.std.specs.Option.{option_map}
 use Rattle.strided_dom.specs.Progression.{Has, first_of}
 use Rattle.strided_dom.proofs.Members.{some_or_empty, not_in_empty}
 use Rattle.tm_lattice.specs.Tables.{IsEntry, IsBelow}
-use Rattle.tm_lattice.specs.TableLaws.{get-rounded_table}
+use Rattle.tm_lattice.specs.laws.TableLaws.{get-rounded_table}
 use Rattle.pointer_dom.specs.Pointer.{Pointer, null, invalid, to, ScalarValue, number, pointer}
 use Rattle.pointer_dom.specs.OffsetSets.{OffsetSet, IsOffsetSet, HasNoOffset, IsOffsetsBelow, rounded_offsets}
 use Rattle.pointer_dom.specs.PointerSets.{Pointers, IsPointers, IsPointer, IsPointersBelow, IsMeet, IsMeetAt, HaveEqualSizes, offsets_or_none, offsets_at, joined_pointers, rounded_pointers}
-use Rattle.pointer_dom.specs.PointerLaws.{pointers_order, pointers_join, pointers_closure}
+use Rattle.pointer_dom.specs.laws.PointerLaws.{pointers_order, pointers_join, pointers_closure}
 use Rattle.pointer_dom.specs.Values.{Values, IsValues, IsValueIn, IsValuesBelow, IsValuesMeet, joined_values, rounded_values}
-use Rattle.pointer_dom.specs.ValueLaws.{values_join, values_closure}
+use Rattle.pointer_dom.specs.laws.ValueLaws.{values_join, values_closure}
 
 -- what is in a smaller set is in a greater one
 below_at : (a b : Option OffsetSet) → IsBelow (λ o p. IsOffsetsBelow o p) a b → (v : ℤ) → Has (offsets_or_none a).offsets v → Has (offsets_or_none b).offsets v

@@ -10,9 +10,9 @@ use Rattle.std.specs.FinMap.Entries.{find-append}
 use Rattle.strided_dom.specs.Progression.{single, Has, first_of}
 use Rattle.strided_dom.specs.Combinations.{IsInBoth}
 use Rattle.strided_dom.proofs.Members.{not_in_empty, some_or_empty}
-use Rattle.tm_lattice.specs.Keys.{AllAbove, AllAbove-rest, is_sorted-rest, find-there, same_key, other_key}
+use Rattle.tm_lattice.specs.laws.Keys.{AllAbove, AllAbove-rest, is_sorted-rest, find-there, same_key, other_key}
 use Rattle.tm_lattice.specs.Tables.{Table, with_entry, joined_value}
-use Rattle.tm_lattice.specs.TableLaws.{get-insert_here, get-insert_there}
+use Rattle.tm_lattice.specs.laws.TableLaws.{get-insert_here, get-insert_there}
 use Rattle.pointer_dom.specs.OffsetSets.{OffsetSet, HasNoOffset, IsOffsetsOf, no_offset, joined_offsets}
 use Rattle.pointer_dom.specs.PointerSets.{IsMeetAt}
 

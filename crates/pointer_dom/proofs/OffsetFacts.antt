@@ -4,12 +4,12 @@ use Rattle.std.proofs.lemmas.Int.{ints}
 use Rattle.strided_dom.specs.Progression.{Progression, empty, single, Has, IsExactly, IsHull, IsSpaced}
 use Rattle.strided_dom.specs.Combinations.{IsInBoth, IsInEither}
 use Rattle.strided_dom.specs.Rounding.{IsInRounding}
-use Rattle.strided_dom.proofs.Congruences.{cong_up}
+use Rattle.tm_numbers.proofs.Congruences.{cong_up}
 use Rattle.strided_dom.proofs.Members.{not_in_empty}
 use Rattle.strided_dom.proofs.Spans.{exactly_same}
 use Rattle.pointer_dom.specs.Offset.{IsOffset, IsOffsetAmong, IsInRoundingWithin}
 use Rattle.pointer_dom.specs.OffsetSets.{OffsetSet, IsOffsetSet, IsOffsetsOf, no_offset, joined_offsets, rounded_offsets}
-use Rattle.pointer_dom.specs.OffsetLaws.{same_hull, same_members}
+use Rattle.pointer_dom.specs.laws.OffsetLaws.{same_hull, same_members}
 use Rattle.pointer_dom.specs.StridedSets.{hull, hull_is, rounding_within, rounding_within_is}
 
 -- the numbers from 0 to the size, in steps of 1

@@ -1,18 +1,18 @@
 -- The one pointer of a set.
-use Rattle.std.proofs.Common.{◌≡◌, ◌≢◌, ◌⊎◌, inl, inr, ⊎_elim, ℕ, ◌<◌, ◌≤◌, Bool, true, false, ◌||◌, IsTrue, T, List, [], ◌∷◌, length, Option, Some, None, MatchOption, ℤ, pos, nat_abs, ◌≤ℤ◌, refl, sym, ap, subst, ◌∙◌, arith, slice_index_or}
+use Rattle.std.proofs.Common.{◌≡◌, ◌≢◌, ◌⊎◌, inl, inr, ⊎_elim, ℕ, ◌<◌, ◌≤◌, Bool, true, false, ◌||◌, T, List, [], ◌∷◌, length, Option, Some, MatchOption, ℤ, pos, nat_abs, ◌≤ℤ◌, refl, sym, ap, subst, ◌∙◌, arith, slice_index_or}
 use Rattle.std.proofs.lemmas.Int.{ints}
 use Rattle.std.proofs.lemmas.Bool.{cases_eq}
 use Rattle.std.specs.Ordering.{nat_cmp}
 use Rattle.std.specs.FinMap as map
 use Rattle.std.specs.FinMap.{find}
-use Rattle.strided_dom.specs.Progression.{Progression, empty, single, Has, IsLeast, IsGreatest, first_of}
+use Rattle.strided_dom.specs.Progression.{Progression, empty, single, Has, IsLeastNumber, IsGreatestNumber, first_of}
 use Rattle.strided_dom.proofs.Members.{not_in_empty, some_or_empty, below_antisym}
-use Rattle.tm_lattice.specs.Keys.{AllAbove, AllAbove-rest, find-here, find-there}
+use Rattle.tm_lattice.specs.laws.Keys.{AllAbove, AllAbove-rest, find-here, find-there}
 use Rattle.tm_lattice.specs.Tables.{IsBelow, IsEntry}
 use Rattle.pointer_dom.specs.OffsetSets.{OffsetSet, IsOffsetSet, HasNoOffset, IsOffsetsBelow}
 use Rattle.pointer_dom.specs.Pointer.{Pointer, null, invalid, to}
-use Rattle.pointer_dom.specs.PointerSets.{Pointers, IsPointers, IsPointersBelow, IsPointer, no_pointer, offsets_or_none}
-use Rattle.pointer_dom.specs.Equality.{Differ, IsOnly, HasNoneOrTwo, HasTwo}
+use Rattle.pointer_dom.specs.PointerSets.{Pointers, IsPointers, IsPointer, no_pointer, offsets_or_none}
+use Rattle.pointer_dom.specs.Equality.{IsOnly, HasNoneOrTwo, HasTwo}
 use Rattle.pointer_dom.specs.PointerForms.{pointer_of, flag_alone}
 use Rattle.pointer_dom.proofs.ValueFacts.{below_none}
 use Rattle.pointer_dom.proofs.EqualityFacts.{no_two}
@@ -31,7 +31,7 @@ one_entry (e ∷ []) d d' h k = refl
 one_entry (e ∷ f ∷ es) d d' h k = absurd (omega (arith, k))
 
 -- both ends of a set are one number
-pub one_number : (s : Progression) (lo hi : ℤ) → IsLeast (Has s) lo → IsGreatest (Has s) hi → lo ≡ hi → s ≡ single lo
+pub one_number : (s : Progression) (lo hi : ℤ) → IsLeastNumber (Has s) lo → IsGreatestNumber (Has s) hi → lo ≡ hi → s ≡ single lo
 unfolding Has
 one_number s lo hi least greatest e = below_antisym s (single lo)
     (record { within = λ v m. omega (arith, ints, e, least.bound v m, greatest.bound v m) })

@@ -1,17 +1,17 @@
 -- What the operations on sets of pointers mean for their members.
-use Rattle.std.proofs.Common.{◌≡◌, ◌≢◌, ◌⊎◌, ⊎_elim, inl, inr, ℕ, ◌≤◌, Bool, true, false, IsTrue, Option, Some, None, ℤ, pos, ◌+ℤ◌, ◌*ℤ◌, refl, sym, ap, subst, ◌∙◌, arith}
+use Rattle.std.proofs.Common.{◌≡◌, ◌≢◌, ◌⊎◌, ⊎_elim, inl, ℕ, ◌≤◌, Bool, true, false, IsTrue, Option, Some, None, ℤ, pos, ◌+ℤ◌, refl, sym, subst, ◌∙◌, arith}
 use Rattle.std.proofs.lemmas.Int.{ints}
 use Rattle.std.specs.FinMap as map
-use Rattle.strided_dom.specs.Progression.{Progression, empty, single, Has, IsBelow, IsExactly, first_of}
+use Rattle.strided_dom.specs.Progression.{Progression, single, Has, IsSubset, IsExactly, first_of}
 use Rattle.strided_dom.proofs.Members.{not_in_empty, some_or_empty, below_antisym}
 use Rattle.tm_lattice.specs.Tables.{IsEntry, IsBelow as IsEntryBelow}
 use Rattle.pointer_dom.specs.Offset.{IsOffset}
 use Rattle.pointer_dom.specs.OffsetSets.{OffsetSet, IsOffsetSet, HasNoOffset, IsOffsetsOf, IsOffsetsBelow}
 use Rattle.pointer_dom.specs.Pointer.{Pointer, null, invalid, to}
 use Rattle.pointer_dom.specs.PointerSets.{Pointers, IsPointers, IsPointer, IsPointersBelow, HaveEqualSizes, offsets_or_none, offsets_at}
-use Rattle.pointer_dom.specs.Advances.{IsAdvanced, IsReached, IsAdvance, IsSafeAdvance, usable_pointers}
+use Rattle.pointer_dom.specs.Advances.{IsAdvanced, IsAdvance, IsSafeAdvance, usable_pointers}
 use Rattle.pointer_dom.specs.Selections.{IsOffsetTo, IsHullOfPointers}
-use Rattle.pointer_dom.specs.Equality.{IsTruthOf, IsTruth, Meet, IsOnly}
+use Rattle.pointer_dom.specs.Equality.{IsEqualityValue, Meet, IsOnly}
 use Rattle.pointer_dom.proofs.AdvanceFacts.{hull_weaken}
 use Rattle.pointer_dom.proofs.EqualityFacts.{no_two}
 use Rattle.pointer_dom.proofs.Meaning.{included}
@@ -109,18 +109,18 @@ hull_below P P' p p' r r' f r-is below h h' = record {
 }
 
 -- comparisons
-pub truth_below : (equal : Bool) (p q p' q' : Pointers) (s s' : Progression) → IsExactly (IsTruth equal p q) s → IsExactly (IsTruth equal p' q') s' → IsPointersBelow p p' → IsPointersBelow q q' → IsBelow s s'
+pub truth_below : (equal : Bool) (p q p' q' : Pointers) (s s' : Progression) → IsExactly (IsEqualityValue equal p q) s → IsExactly (IsEqualityValue equal p' q') s' → IsPointersBelow p p' → IsPointersBelow q q' → IsSubset s s'
 truth_below equal p q p' q' s s' h h' k l = record {
   within = λ v m. (let t = h.sound v m in h'.complete v (record { left = t.left; right = t.right; in_left = included p p' t.left k t.in_left; in_right = included q q' t.right l t.in_right; truth = t.truth }));
 }
 
-pub apart_is : (p q : Pointers) (s : Progression) → IsExactly (IsTruth true p q) s → (Meet p q → ⊥) → IsBelow s (single (pos 0))
+pub apart_is : (p q : Pointers) (s : Progression) → IsExactly (IsEqualityValue true p q) s → (Meet p q → ⊥) → IsSubset s (single (pos 0))
 unfolding Has
 apart_is p q s h apart = record {
   within = λ v m. (let t = h.sound v m in ⊎_elim (λ x. absurd (apart (record { common = t.left; in_left = t.in_left; in_right = subst (IsPointer q) (sym x.1) t.in_right }))) (λ x. x.0) t.truth);
 }
 
-pub same_is : (p q : Pointers) (x : Pointer) (s : Progression) → IsExactly (IsTruth true p q) s → IsOnly p x → IsOnly q x → s ≡ single (pos 1)
+pub same_is : (p q : Pointers) (x : Pointer) (s : Progression) → IsExactly (IsEqualityValue true p q) s → IsOnly p x → IsOnly q x → s ≡ single (pos 1)
 unfolding Has
 same_is p q x s h k l = below_antisym s (single (pos 1))
     (record { within = λ v m. (let t = h.sound v m in ⊎_elim (λ y. y.0) (λ y. absurd (y.1 (k.only t.left t.in_left ∙ sym (l.only t.right t.in_right)))) t.truth) })

@@ -1,7 +1,6 @@
 -- Sets without one pointer, object by object.
-use Rattle.std.proofs.Common.{◌≡◌, ◌≢◌, ◌↔◌, ⊎_elim, ℕ, Option, Some, None, Bool, true, false, IsTrue, ℤ, pos, nat_abs, ◌≤ℤ◌, refl, sym, ap, subst, ◌∙◌, arith}
+use Rattle.std.proofs.Common.{◌≡◌, ◌≢◌, ℕ, Option, Some, None, Bool, false, ℤ, pos, nat_abs, ◌≤ℤ◌, refl, sym, ap, subst, ◌∙◌, arith}
 use Rattle.std.proofs.lemmas.Int.{ints}
-use Rattle.std.proofs.lemmas.Bool.{cases_eq}
 use Rattle.std.specs.FinMap as map
 use Rattle.strided_dom.specs.Progression.{Progression, empty, Has, IsExactly, IsHull}
 use Rattle.strided_dom.specs.Combinations.{IsAnother}
@@ -11,7 +10,7 @@ use Rattle.tm_lattice.specs.Tables.{Table, IsEntry}
 use Rattle.pointer_dom.specs.Offset.{IsOffset, IsOffsetAmong}
 use Rattle.pointer_dom.specs.OffsetSets.{OffsetSet, IsOffsetSet, HasNoOffset, IsOffsetsOf, no_offset}
 use Rattle.pointer_dom.specs.Pointer.{Pointer, null, invalid, to}
-use Rattle.pointer_dom.specs.PointerSets.{Pointers, IsPointers, IsPointer, offsets_or_none, offsets_at}
+use Rattle.pointer_dom.specs.PointerSets.{Pointers, IsPointers, offsets_or_none, offsets_at}
 use Rattle.pointer_dom.specs.Advances.{IsInHull, IsGiven}
 use Rattle.pointer_dom.specs.Selections.{IsOffsetTo, IsHullOfPointers, IsOtherPointer, IsLeft, IsOtherOffset}
 use Rattle.pointer_dom.proofs.AdvanceFacts.{hull_weaken, in_hull, from_hull}

@@ -3,9 +3,9 @@ use Rattle.std.proofs.Common.{◌≡◌, ◌↔◌, ℕ, ◌<◌, ◌^◌, Bool,
 use Rattle.std.specs.Int.{w128}
 use Rattle.std.proofs.lemmas.Int.{ints, clamps, to_z-of_z}
 use Rattle.std.specs.FinMap as map
-use Rattle.strided_dom.specs.Progression.{Progression, single, Has, IsBelow, IsExactly, IsSpaced, IsInReach}
+use Rattle.strided_dom.specs.Progression.{Progression, single, Has, IsSubset, IsExactly, IsSpaced, IsInReach}
 use Rattle.strided_dom.specs.Combinations.{IsInBoth, IsProduct}
-use Rattle.strided_dom.proofs.Congruences.{cong_up}
+use Rattle.tm_numbers.proofs.Congruences.{cong_up}
 use Rattle.strided_dom.proofs.Products.{mul_between}
 use Rattle.strided_dom.proofs.Spans.{exactly_same}
 use Rattle.tm_lattice.specs.Tables.{Table}
@@ -70,7 +70,7 @@ subscripts_exactly n top s e exact = exactly_same (IsSpaced (pos 0) top 1) (IsSu
     (λ v p. record { from = p.from; below = omega (arith, ints, e, p.to) })
     (λ v p. record { from = p.from; to = omega (arith, ints, e, p.below); congruent = cong_up 1 (nat_abs v) v (pos 0) (omega (arith, ints, p.from)) }) exact
 
-pub subscripts_below : (n : ℕ) (s all : Progression) (b : Bool) → IsExactly (IsSubscript n) all → (IsTrue b ↔ IsBelow s all) → (not b ≡ false) ↔ AreSubscripts n s
+pub subscripts_below : (n : ℕ) (s all : Progression) (b : Bool) → IsExactly (IsSubscript n) all → (IsTrue b ↔ IsSubset s all) → (not b ≡ false) ↔ AreSubscripts n s
 subscripts_below n s all b exact h = (
   λ e i m. exact.sound i ((h.0 (from_not b e)).within i m),
   λ f. to_not b (h.1 (record { within = λ i m. exact.complete i (f i m) })),

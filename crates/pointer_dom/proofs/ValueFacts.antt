@@ -9,10 +9,10 @@ use Rattle.tm_lattice.specs.Tables.{IsEntry, IsBelow}
 use Rattle.pointer_dom.specs.declared.abs_value.Parts.{Parts}
 use Rattle.pointer_dom.specs.declared.abs_value.Parts.TheVariants.{Int, Ptr, Both}
 use Rattle.pointer_dom.specs.OffsetSets.{IsOffsetSet, HasNoOffset, IsOffsetsBelow}
-use Rattle.pointer_dom.specs.OffsetLaws.{same_hull, same_members}
+use Rattle.pointer_dom.specs.laws.OffsetLaws.{same_hull, same_members}
 use Rattle.pointer_dom.specs.StridedSets.{hull, hull_is, rounding, rounding_is}
 use Rattle.pointer_dom.specs.PointerSets.{Pointers, IsPointers, IsPointersBelow, no_pointer, joined_pointers, rounded_pointers}
-use Rattle.pointer_dom.specs.PointerLaws.{pointers_order, pointers_nothing}
+use Rattle.pointer_dom.specs.laws.PointerLaws.{pointers_order, pointers_nothing}
 use Rattle.pointer_dom.specs.Values.{Values, IsValues, joined_values, rounded_values}
 use Rattle.pointer_dom.specs.Forms.{values_of, IsNormal}
 

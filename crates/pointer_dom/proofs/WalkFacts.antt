@@ -7,7 +7,7 @@ use Rattle.std.specs.FinMap.{find}
 use Rattle.strided_dom.specs.Progression.{Has, first_of}
 use Rattle.strided_dom.proofs.Members.{not_in_empty, some_or_empty}
 use Rattle.tm_lattice.specs.Tables.{Table, with_entry, joined_value}
-use Rattle.tm_lattice.specs.TableLaws.{get-insert_here, get-insert_there}
+use Rattle.tm_lattice.specs.laws.TableLaws.{get-insert_here, get-insert_there}
 use Rattle.pointer_dom.specs.OffsetSets.{OffsetSet, HasNoOffset, IsOffsetsOf, no_offset, joined_offsets}
 use Rattle.pointer_dom.specs.PointerSets.{offsets_or_none}
 use Rattle.pointer_dom.specs.Advances.{IsGivenAt, IsGiven}

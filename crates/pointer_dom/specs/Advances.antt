@@ -31,7 +31,8 @@ IsGivenAt P a b = let o = offsets_or_none a in IsOffsetsOf o.size (P o) (offsets
 abbrev pub IsGiven : (ℕ → OffsetSet → ℤ → Type 0) → Table OffsetSet → Table OffsetSet → Type 0
 IsGiven P s t = (object : ℕ) → IsGivenAt (P object) (map.get s object) (map.get t object)
 
--- Each pointer to an object is advanced by each step, as far as it stays in the object. Null and the invalid pointer are dropped.
+-- Each pointer to an object is advanced by each step, as far as it stays in the object. Null and the invalid pointer
+-- are dropped.
 pub record IsAdvance (Step : ℤ → Type 0) (p reached : Pointers) : Type 0 where
   pub null : reached.null ≡ false
   pub invalid : reached.invalid ≡ false
@@ -39,7 +40,8 @@ pub record IsAdvance (Step : ℤ → Type 0) (p reached : Pointers) : Type 0 whe
 
 -- Each pointer to an object that is advanced by a step stays in the object.
 abbrev pub StayInside : (ℤ → Type 0) → Table OffsetSet → Type 0
-StayInside Step s = (object : ℕ) (v : ℤ) → let o = offsets_or_none (map.get s object) in IsAdvanced Step o.offsets v → IsOffset o.size v
+StayInside Step s = (object : ℕ) (v : ℤ) → let o = offsets_or_none (map.get s object) in IsAdvanced Step o.offsets v
+    → IsOffset o.size v
 
 -- No pointer is null or invalid, and each one stays in its object (C99 6.5.6).
 pub record IsSafeAdvance (Step : ℤ → Type 0) (p : Pointers) : Type 0 where

@@ -8,17 +8,17 @@ use Rattle.pointer_dom.specs.Pointer.{Pointer}
 use Rattle.pointer_dom.specs.PointerSets.{Pointers, IsPointer, no_pointer, offsets_or_none}
 
 -- The value of `x == y`, or of `x != y` where `equal` is false: 1 where it holds, else 0 (C99 6.5.9).
-abbrev pub IsTruthOf : Bool → Pointer → Pointer → ℤ → Type 0
-IsTruthOf true x y v = ((v ≡ pos 1) × (x ≡ y)) ⊎ ((v ≡ pos 0) × (x ≢ y))
-IsTruthOf false x y v = ((v ≡ pos 1) × (x ≢ y)) ⊎ ((v ≡ pos 0) × (x ≡ y))
+abbrev pub IsEqualityOf : Bool → Pointer → Pointer → ℤ → Type 0
+IsEqualityOf true x y v = ((v ≡ pos 1) × (x ≡ y)) ⊎ ((v ≡ pos 0) × (x ≢ y))
+IsEqualityOf false x y v = ((v ≡ pos 1) × (x ≢ y)) ⊎ ((v ≡ pos 0) × (x ≡ y))
 
 -- v is the value of the comparison for a pointer of p and one of q.
-pub record IsTruth (equal : Bool) (p q : Pointers) (v : ℤ) : Type 0 where
+pub record IsEqualityValue (equal : Bool) (p q : Pointers) (v : ℤ) : Type 0 where
   pub left : Pointer
   pub right : Pointer
   pub in_left : IsPointer p left
   pub in_right : IsPointer q right
-  pub truth : IsTruthOf equal left right v
+  pub truth : IsEqualityOf equal left right v
 
 -- The sets have a pointer in common.
 pub record Meet (p q : Pointers) : Type 0 where

@@ -1,16 +1,15 @@
+-- Pointers (Pointer), offsets and sets of them (Offset, OffsetSets), sets of pointers and of values (PointerSets,
+-- Values), how they are given out (Forms, PointerForms), and the operations on them: arithmetic (Advances), selections
+-- and dereferences (Selections), equality (Equality).
 pub mod Offset
-pub mod Existence
 pub mod StridedSets
 pub mod Pointer
 pub mod OffsetSets
-pub mod OffsetLaws
 pub mod PointerSets
-pub mod PointerLaws
 pub mod Values
-pub mod ValueLaws
-pub mod Codes
-pub mod Forms
 pub mod Advances
 pub mod Selections
 pub mod Equality
+pub mod laws
+pub mod Forms
 pub mod PointerForms

@@ -1,6 +1,6 @@
 -- Sets of offsets in one object: what an `Offsets` is in every contract.
 use Rattle.std.specs.Prelude.{◌≡◌, ◌≢◌, ℕ, ◌≤◌, max, List, ℤ}
-use Rattle.strided_dom.specs.Progression.{Progression, empty, Has, IsBelow, IsExactly}
+use Rattle.strided_dom.specs.Progression.{Progression, empty, Has, IsSubset, IsExactly}
 use Rattle.pointer_dom.specs.Offset.{IsOffset}
 use Rattle.pointer_dom.specs.StridedSets.{hull, rounding_within}
 
@@ -31,7 +31,7 @@ pub record IsOffsetsOf (size : ℕ) (P : ℤ → Type 0) (o : OffsetSet) : Type 
 -- The order goes part by part: sizes as numbers, offsets by inclusion.
 pub record IsOffsetsBelow (o p : OffsetSet) : Type 0 where
   pub size : o.size ≤ p.size
-  pub offsets : IsBelow o.offsets p.offsets
+  pub offsets : IsSubset o.offsets p.offsets
 
 -- The join: the greater size, and the hull of the union.
 abbrev pub joined_offsets : OffsetSet → OffsetSet → OffsetSet

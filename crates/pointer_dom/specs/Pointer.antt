@@ -1,7 +1,8 @@
 -- The pointers of C as values.
 use Rattle.std.specs.Prelude.{ℕ, ℤ}
 
--- Null (C99 6.3.2.3), invalid as what an unset pointer holds (C99 6.7.8), or to an object by its number, at an offset that is counted in scalar cells.
+-- Null (C99 6.3.2.3), invalid as what an unset pointer holds (C99 6.7.8), or to an object by its number, at an offset
+-- that is counted in scalar cells.
 pub data Pointer : Type 0 where
   null : Pointer
   invalid : Pointer

@@ -5,9 +5,11 @@ use Rattle.strided_dom.specs.Progression.{single, Has}
 use Rattle.strided_dom.specs.Combinations.{IsInBoth}
 use Rattle.tm_lattice.specs.Tables.{Table, IsTable, IsTableBelow, joined_table, rounded_table}
 use Rattle.pointer_dom.specs.Pointer.{Pointer, null, invalid, to}
-use Rattle.pointer_dom.specs.OffsetSets.{OffsetSet, IsOffsetSet, HasNoOffset, IsOffsetsOf, IsOffsetsBelow, no_offset, joined_offsets, rounded_offsets}
+use Rattle.pointer_dom.specs.OffsetSets.{OffsetSet, IsOffsetSet, HasNoOffset, IsOffsetsOf, IsOffsetsBelow, no_offset}
+use Rattle.pointer_dom.specs.OffsetSets.{joined_offsets, rounded_offsets}
 
--- Whether the null pointer and the invalid pointer are there, and the offsets for each object to which a pointer is there.
+-- Whether the null pointer and the invalid pointer are there, and the offsets for each object to which a pointer is
+-- there.
 pub record Pointers : Type 0 where
   pub null : Bool
   pub invalid : Bool
@@ -23,7 +25,11 @@ no_pointer = record { null = false; invalid = false; objects = map.empty }
 
 -- The pointer to an object of this size, at this offset, alone.
 abbrev pub pointer_to : ℕ → ℕ → ℕ → Pointers
-pointer_to object size offset = record { null = false; invalid = false; objects = map.insert map.empty object record { size = size; offsets = single (pos offset) } }
+pointer_to object size offset = record {
+  null = false;
+  invalid = false;
+  objects = map.insert map.empty object record { size = size; offsets = single (pos offset) };
+}
 
 -- The offsets of an object; none where it is not in the table.
 abbrev pub offsets_or_none : Option OffsetSet → OffsetSet
@@ -48,11 +54,19 @@ pub record IsPointersBelow (p q : Pointers) : Type 0 where
 
 -- The join goes part by part.
 abbrev pub joined_pointers : Pointers → Pointers → Pointers
-joined_pointers p q = record { null = p.null || q.null; invalid = p.invalid || q.invalid; objects = joined_table joined_offsets p.objects q.objects }
+joined_pointers p q = record {
+  null = p.null || q.null;
+  invalid = p.invalid || q.invalid;
+  objects = joined_table joined_offsets p.objects q.objects;
+}
 
 -- The rounding goes object by object.
 abbrev pub rounded_pointers : List ℤ → Pointers → Pointers
-rounded_pointers marks p = record { null = p.null; invalid = p.invalid; objects = rounded_table (rounded_offsets marks) p.objects }
+rounded_pointers marks p = record {
+  null = p.null;
+  invalid = p.invalid;
+  objects = rounded_table (rounded_offsets marks) p.objects;
+}
 
 -- What is met at one object: the common offsets, and the lesser of the sizes.
 abbrev pub IsMeetAt : Option OffsetSet → Option OffsetSet → Option OffsetSet → Type 0
@@ -73,4 +87,5 @@ pub record IsMeet (p q met : Pointers) : Type 0 where
 
 -- The two sets give no object two sizes.
 abbrev pub HaveEqualSizes : Pointers → Pointers → Type 0
-HaveEqualSizes p q = (object : ℕ) (o o' : OffsetSet) → map.get p.objects object ≡ Some o → map.get q.objects object ≡ Some o' → o.size ≡ o'.size
+HaveEqualSizes p q = (object : ℕ) (o o' : OffsetSet) → map.get p.objects object ≡ Some o
+    → map.get q.objects object ≡ Some o' → o.size ≡ o'.size

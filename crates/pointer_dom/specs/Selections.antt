@@ -14,14 +14,16 @@ pub record IsOffsetTo (P : Pointer → Type 0) (object : ℕ) (v : ℤ) : Type 0
   pub is : v ≡ pos offset
   pub pointer : P (to object offset)
 
--- The set has exactly what has the property P of null and the invalid pointer, and in each object the hull of the offsets that have it.
--- The sizes of objects are those of p.
+-- The set has exactly what has the property P of null and the invalid pointer, and in each object the hull of the
+-- offsets that have it. The sizes of objects are those of p.
 pub record IsHullOfPointers (P : Pointer → Type 0) (p hull : Pointers) : Type 0 where
   pub null : IsTrue hull.null ↔ P null
   pub invalid : IsTrue hull.invalid ↔ P invalid
-  pub objects : (object : ℕ) → let o = offsets_at p object in IsOffsetsOf o.size (IsInHull (IsOffsetTo P object)) (offsets_at hull object)
+  pub objects : (object : ℕ) → let o = offsets_at p object in
+      IsOffsetsOf o.size (IsInHull (IsOffsetTo P object)) (offsets_at hull object)
 
--- The pointer leads to an object that is alive, and to an offset at which the cells of the pointed type stand (C99 6.5.3.2).
+-- The pointer leads to an object that is alive, and to an offset at which the cells of the pointed type stand (C99
+-- 6.5.3.2).
 abbrev pub Reaches : (ℕ → Type 0) → (ℕ → ℕ → Type 0) → Pointer → Type 0
 Reaches Alive Stands null = ⊥
 Reaches Alive Stands invalid = ⊥

@@ -4,7 +4,7 @@ use Rattle.strided_dom.specs.Progression.{Progression, IsExactly, IsHull}
 use Rattle.strided_dom.specs.Combinations.{IsInEither}
 use Rattle.strided_dom.specs.Rounding.{IsInRounding}
 use Rattle.pointer_dom.specs.Offset.{IsInRoundingWithin}
-use Rattle.pointer_dom.specs.Existence.{hull_exists, rounding_exists, rounding_within_exists}
+use Rattle.pointer_dom.specs.laws.Existence.{hull_exists, rounding_exists, rounding_within_exists}
 
 -- The join: the least strided set with the members of both.
 unfoldable pub hull : Progression → Progression → Progression
@@ -26,6 +26,7 @@ rounding_is marks s = (rounding_exists marks s).1
 unfoldable pub rounding_within : ℕ → List ℤ → Progression → Progression
 rounding_within size marks s = (rounding_within_exists marks s size).0
 
-pub rounding_within_is : (size : ℕ) (marks : List ℤ) (s : Progression) → IsExactly (IsInRoundingWithin size marks s) (rounding_within size marks s)
+pub rounding_within_is : (size : ℕ) (marks : List ℤ) (s : Progression)
+    → IsExactly (IsInRoundingWithin size marks s) (rounding_within size marks s)
 unfolding rounding_within
 rounding_within_is size marks s = (rounding_within_exists marks s size).1

@@ -1,10 +1,11 @@
 -- Sets of scalar values: what an `AbsValue` is in every contract.
 use Rattle.std.specs.Prelude.{List, ℤ}
-use Rattle.strided_dom.specs.Progression.{Progression, empty, Has, IsBelow, IsExactly}
+use Rattle.strided_dom.specs.Progression.{Progression, empty, Has, IsSubset, IsExactly}
 use Rattle.strided_dom.specs.Combinations.{IsInBoth}
 use Rattle.pointer_dom.specs.Pointer.{ScalarValue, number, pointer}
 use Rattle.pointer_dom.specs.StridedSets.{hull, rounding}
-use Rattle.pointer_dom.specs.PointerSets.{Pointers, IsPointers, no_pointer, IsPointer, IsPointersBelow, joined_pointers, rounded_pointers, IsMeet}
+use Rattle.pointer_dom.specs.PointerSets.{Pointers, IsPointers, no_pointer, IsPointer, IsPointersBelow, joined_pointers}
+use Rattle.pointer_dom.specs.PointerSets.{rounded_pointers, IsMeet}
 
 -- A set of numbers and a set of pointers.
 pub record Values : Type 0 where
@@ -26,7 +27,7 @@ IsValueIn v (pointer p) = IsPointer v.pointers p
 
 -- The order goes part by part.
 pub record IsValuesBelow (v w : Values) : Type 0 where
-  pub numbers : IsBelow v.numbers w.numbers
+  pub numbers : IsSubset v.numbers w.numbers
   pub pointers : IsPointersBelow v.pointers w.pointers
 
 -- The join goes part by part.

@@ -23,8 +23,8 @@ pub enum Parts {
     Both(Strided, PointerSet),
 }
 
-/// A set of integers and pointers: what a scalar cell may hold. The values of one cell are always of one kind; the order, the join, the
-/// meet and the rounding go part by part for all pairs all the same.
+/// A set of integers and pointers: what a scalar cell may hold. The values of one cell are always of one kind; the
+/// order, the join, the meet and the rounding go part by part for all pairs all the same.
 #[derive(Drop)]
 pub struct AbsValue {
     parts: Parts,
@@ -32,7 +32,7 @@ pub struct AbsValue {
 
 impl Model for AbsValue {
     ghost use Rattle.pointer_dom.specs.Values.{Values};
-    ghost use Rattle.pointer_dom.specs.Codes.{values_code};
+    ghost use Rattle.pointer_dom.specs.laws.Codes.{values_code};
 
     ghost Value = { Values };
 
@@ -137,7 +137,7 @@ impl AbsValue {
 
 impl Lattice for AbsValue {
     ghost use Rattle.pointer_dom.specs.Values.{IsValues, IsValuesBelow, no_value, joined_values, rounded_values};
-    ghost use Rattle.pointer_dom.specs.ValueLaws.{values_order, values_join, values_closure, values_nothing};
+    ghost use Rattle.pointer_dom.specs.laws.ValueLaws.{values_order, values_join, values_closure, values_nothing};
 
     type Marks = Marks;
 
@@ -209,7 +209,8 @@ impl Lattice for AbsValue {
 
 /// Whether the one set of pointers is below the other, where None stands for the empty set.
 fn are_pointers_below(one: Option<&PointerSet>, other: Option<&PointerSet>) -> bool
-    ensures { IsTrue result ↔ IsPointersBelow (pointers_or_none (option_copied one.entry)) (pointers_or_none (option_copied other.entry)) }
+    ensures { IsTrue result ↔ IsPointersBelow (pointers_or_none (option_copied one.entry))
+        (pointers_or_none (option_copied other.entry)) }
 {
     match one {
         None => true,

@@ -10,8 +10,8 @@ use strided_dom::Strided;
 use tm_lattice::NoMemory;
 
 impl PointerSet {
-    /// The addresses of a part that begins this many cells into each object pointed to, such as a member of a
-    /// structure (C99 6.5.2.3). No error is possible; null and the invalid pointer are dropped, for they are no addresses.
+    /// The addresses of a part that begins this many cells into each object pointed to, such as a member of a structure
+    /// (C99 6.5.2.3). No error is possible; null and the invalid pointer are dropped, for they are no addresses.
     pub fn offset(&self, alloc: Global, cells: u32) -> Result<PointerSet, NoMemory>
         ensures { IfOk result (λ parts. IsAdvance (λ step. step ≡ pos cells) self.now parts) }
     {
@@ -24,8 +24,9 @@ impl PointerSet {
     }
 
     /// The addresses of the elements with these subscripts, of an array of `count` elements at each pointer, where an
-    /// element has this many cells (C99 6.5.2.1). The class is INDEX: excluded exactly where each subscript lies from 0 to
-    /// `count` - 1. Other subscripts reach nothing; null and the invalid pointer are dropped, for they are no addresses.
+    /// element has this many cells (C99 6.5.2.1). The class is INDEX: excluded exactly where each subscript lies from 0
+    /// to `count` - 1. Other subscripts reach nothing; null and the invalid pointer are dropped, for they are no
+    /// addresses.
     pub fn index(
         &self,
         alloc: Global,

@@ -2,7 +2,8 @@
 ghost use Rattle.std.specs.Prelude.{◌≡◌, ◌↔◌, ℤ, pos, false, IfOk};
 ghost use Rattle.strided_dom.specs.Progression.{Has, IsExactly};
 ghost use Rattle.strided_dom.specs.Combinations.{IsProduct};
-ghost use Rattle.pointer_dom.specs.Advances.{IsAdvance, IsSafeAdvance, IsInteger, IsShortStep, directed, usable_pointers};
+ghost use Rattle.pointer_dom.specs.Advances.{IsAdvance, IsSafeAdvance, IsInteger, IsShortStep, directed};
+ghost use Rattle.pointer_dom.specs.Advances.{usable_pointers};
 
 use crate::advances::{Reached, advanced_objects};
 use crate::pointer_set::PointerSet;
@@ -11,9 +12,10 @@ use strided_dom::Strided;
 use tm_lattice::{Lattice, NoMemory};
 
 impl PointerSet {
-    /// The pointers with `counts` added, or subtracted where `forward` is false; a pointer goes by this many cells for each
-    /// one counted (C99 6.5.6). The class is POINTER: excluded exactly where no pointer is null or invalid, and each one stays
-    /// from 0 to the size of its object. What leaves an object reaches nothing; null and the invalid pointer are dropped.
+    /// The pointers with `counts` added, or subtracted where `forward` is false; a pointer goes by this many cells for
+    /// each one counted (C99 6.5.6). The class is POINTER: excluded exactly where no pointer is null or invalid, and
+    /// each one stays from 0 to the size of its object. What leaves an object reaches nothing; null and the invalid
+    /// pointer are dropped.
     pub fn moved(
         &self,
         alloc: Global,

@@ -3,7 +3,8 @@ ghost use Rattle.std.specs.Prelude.{◌≡◌, ◌≢◌, ◌↔◌, ◌⊎◌, 
 ghost use Rattle.std.specs.Option.{option_copied};
 ghost use Rattle.strided_dom.specs.Progression.{empty, single, Has, IsExactly};
 ghost use Rattle.pointer_dom.specs.PointerSets.{offsets_or_none};
-ghost use Rattle.pointer_dom.specs.Equality.{IsTruth, Meet, Differ, IsOnly, HasNoneOrTwo, MeetTables, MeetAt, HasTwo};
+ghost use Rattle.pointer_dom.specs.Equality.{IsEqualityValue, Meet, Differ, IsOnly, HasNoneOrTwo, MeetTables, MeetAt};
+ghost use Rattle.pointer_dom.specs.Equality.{HasTwo};
 ghost use Rattle.pointer_dom.specs.PointerForms.{pointer_of, flag_alone};
 
 use crate::offsets::Offsets;
@@ -12,7 +13,7 @@ use strided_dom::Strided;
 use tm_lattice::{Keyed, Lattice};
 
 /// A pointer of C as a value.
-#[derive(Clone, Copy, PartialEq, Eq, Debug)]
+#[derive(Clone, Copy, PartialEq, Eq)]
 pub enum PointerValue {
     /// The null pointer.
     Null,
@@ -22,11 +23,11 @@ pub enum PointerValue {
     To { object: u32, offset: u32 },
 }
 
-/// The values of `p == q` for a pointer of each set, or of `p != q` where `equal` is false: 1 where it holds, 0 where it does not, and
-/// none where a set is empty (C99 6.5.9). Two pointers are equal where both are null, both are invalid, or both lead to one offset in
-/// one object. It takes no memory.
+/// The values of `p == q` for a pointer of each set, or of `p != q` where `equal` is false: 1 where it holds, 0 where
+/// it does not, and none where a set is empty (C99 6.5.9). Two pointers are equal where both are null, both are
+/// invalid, or both lead to one offset in one object. It takes no memory.
 pub fn equality(equal: bool, p: &PointerSet, q: &PointerSet) -> Strided
-    ensures { IsExactly (IsTruth equal p.now q.now) result }
+    ensures { IsExactly (IsEqualityValue equal p.now q.now) result }
 {
     let same = may_be_same(p, q);
     let differ = may_differ(p, q);

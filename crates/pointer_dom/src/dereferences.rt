@@ -5,7 +5,8 @@ ghost use Rattle.pointer_dom.specs.OffsetSets.{IsOffsetsOf};
 ghost use Rattle.pointer_dom.specs.Pointer.{Pointer};
 ghost use Rattle.pointer_dom.specs.PointerSets.{IsPointer};
 ghost use Rattle.pointer_dom.specs.Advances.{IsGiven};
-ghost use Rattle.pointer_dom.specs.Selections.{IsHullOfPointers, IsTarget, Reaches, IsStanding, AllStand, IsStandingIn, AllStandAt, AllStandIn};
+ghost use Rattle.pointer_dom.specs.Selections.{IsHullOfPointers, IsTarget, Reaches, IsStanding, AllStand, IsStandingIn};
+ghost use Rattle.pointer_dom.specs.Selections.{AllStandAt, AllStandIn};
 
 use crate::advances::Reached;
 use crate::offsets::Offsets;
@@ -34,9 +35,9 @@ pub trait Layout {
 }
 
 impl PointerSet {
-    /// The addresses of the cells that a dereference may reach, in each object that is alive the least strided set with them
-    /// (C99 6.5.3.2). The class is DEREF: excluded exactly where each pointer leads to an object that is alive, and to an offset at
-    /// which the cells of the pointed type stand.
+    /// The addresses of the cells that a dereference may reach, in each object that is alive the least strided set with
+    /// them (C99 6.5.3.2). The class is DEREF: excluded exactly where each pointer leads to an object that is alive,
+    /// and to an offset at which the cells of the pointed type stand.
     pub fn dereferenced<L: Layout>(&self, alloc: Global, layout: &L) -> Result<Reached, NoMemory>
         ensures pointers { IfOk result (λ r. IsHullOfPointers
             (IsTarget (L.alive layout.now) (L.stands layout.now) self.now) self.now r.pointers) }

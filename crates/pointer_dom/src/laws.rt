@@ -1,17 +1,21 @@
-//! What holds of sets of offsets, pointers and values whatever computes them. Each law speaks of the definitions alone, so its function
-//! does nothing.
+//! What holds of sets of offsets, pointers and values whatever computes them. Each law speaks of the definitions alone,
+//! so its function does nothing.
 ghost use Rattle.std.specs.Prelude.{◌≡◌, ◌↔◌, ◌⊎◌, ◌≤◌, ℕ, ℤ, List, IsTrue};
 ghost use Rattle.strided_dom.specs.Progression.{Progression, empty, Has, IsExactly, IsHull};
 ghost use Rattle.strided_dom.specs.Combinations.{IsInEither};
 ghost use Rattle.strided_dom.specs.Rounding.{IsInRounding};
-ghost use Rattle.tm_lattice.specs.Laws.{IsOrder, IsJoin, IsClosure, IsLeastNothing};
+ghost use Rattle.tm_lattice.specs.LatticeLaws.{IsOrder, IsJoin, IsClosure, IsLeastNothing};
 ghost use Rattle.pointer_dom.specs.Offset.{IsOffset, IsInRoundingWithin};
 ghost use Rattle.pointer_dom.specs.Pointer.{Pointer, ScalarValue, to};
 ghost use Rattle.pointer_dom.specs.StridedSets.{hull, rounding, rounding_within};
-ghost use Rattle.pointer_dom.specs.PointerSets.{Pointers, IsPointers, IsPointer, IsPointersBelow, IsMeet, HaveEqualSizes, offsets_at, no_pointer, joined_pointers, rounded_pointers};
-ghost use Rattle.pointer_dom.specs.Values.{Values, IsValues, IsValueIn, IsValuesBelow, IsValuesMeet, no_value, joined_values, rounded_values};
+ghost use Rattle.pointer_dom.specs.PointerSets.{Pointers, IsPointers, IsPointer, IsPointersBelow, IsMeet};
+ghost use Rattle.pointer_dom.specs.PointerSets.{HaveEqualSizes, offsets_at, no_pointer, joined_pointers};
+ghost use Rattle.pointer_dom.specs.PointerSets.{rounded_pointers};
+ghost use Rattle.pointer_dom.specs.Values.{Values, IsValues, IsValueIn, IsValuesBelow, IsValuesMeet, no_value};
+ghost use Rattle.pointer_dom.specs.Values.{joined_values, rounded_values};
 
-/// The joins and the roundings are what their names say: the hull of a union, and exactly the numbers of a rounding, within an object or not.
+/// The joins and the roundings are what their names say: the hull of a union, and exactly the numbers of a rounding,
+/// within an object or not.
 pub fn joins_and_roundings_of_numbers()
     ensures hull { (s t : Progression) → IsHull (IsInEither s t) (hull s t) }
     ensures rounding { (marks : List ℤ) (s : Progression) → IsExactly (IsInRounding marks s) (rounding marks s) }

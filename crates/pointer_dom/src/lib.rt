@@ -1,4 +1,8 @@
-//! Pointer sets, and abstract values: what a scalar cell may hold.
+//! Sets of pointers with all their operations, and abstract values: what a scalar cell may hold, numbers and pointers.
+//! An object is a number with a size in cells; what its cells are, and whether it is alive, the caller's `Layout` says.
+//!
+//! So a pointer to an object of 10 cells at the offset 4, moved by {1, 2} steps of 3 cells, is at 7 or 10, one past the
+//! last cell.
 #![tactic(auto)]
 
 mod abs_value;
@@ -19,8 +23,3 @@ pub use comparisons::{PointerValue, equality};
 pub use dereferences::Layout;
 pub use offsets::Offsets;
 pub use pointer_set::PointerSet;
-
-#[cfg(test)]
-mod operation_tests;
-#[cfg(test)]
-mod tests;

@@ -10,9 +10,9 @@ use std::marker::Model;
 use strided_dom::{Marks, Strided};
 use tm_lattice::{Lattice, NoMemory};
 
-/// A set of offsets in an object, with the size of the object. Both count scalar cells, and each offset lies from 0 to the size:
-/// one past the last cell is an offset too (C99 6.5.6). The empty set has the size 0.
-#[derive(Clone, Copy, PartialEq, Eq, Debug)]
+/// A set of offsets in an object, with the size of the object. Both count scalar cells, and each offset lies from 0 to
+/// the size: one past the last cell is an offset too (C99 6.5.6). The empty set has the size 0.
+#[derive(Clone, Copy, PartialEq, Eq)]
 pub struct Offsets {
     size: u32,
     set: Strided,
@@ -94,8 +94,9 @@ impl Offsets {
 }
 
 impl Lattice for Offsets {
-    ghost use Rattle.pointer_dom.specs.OffsetSets.{IsOffsetSet, IsOffsetsBelow, HasNoOffset, joined_offsets, rounded_offsets};
-    ghost use Rattle.pointer_dom.specs.OffsetLaws.{offsets_order, offsets_join, offsets_closure, offsets_nothing};
+    ghost use Rattle.pointer_dom.specs.OffsetSets.{IsOffsetSet, IsOffsetsBelow, HasNoOffset, joined_offsets};
+    ghost use Rattle.pointer_dom.specs.OffsetSets.{rounded_offsets};
+    ghost use Rattle.pointer_dom.specs.laws.OffsetLaws.{offsets_order, offsets_join, offsets_closure, offsets_nothing};
 
     type Marks = Marks;
 

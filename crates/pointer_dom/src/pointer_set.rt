@@ -10,8 +10,8 @@ use std::marker::Model;
 use strided_dom::Marks;
 use tm_lattice::{Keyed, Lattice, NoMemory};
 
-/// A set of pointers: whether the null pointer and the invalid pointer are there, and for some objects a set of offsets that is not empty.
-/// Objects go by their numbers. An invalid pointer is what a pointer cell holds before it is stored.
+/// A set of pointers: whether the null pointer and the invalid pointer are there, and for some objects a set of offsets
+/// that is not empty. Objects go by their numbers. An invalid pointer is what a pointer cell holds before it is stored.
 #[derive(Drop)]
 pub struct PointerSet {
     null: bool,
@@ -21,7 +21,7 @@ pub struct PointerSet {
 
 impl Model for PointerSet {
     ghost use Rattle.pointer_dom.specs.PointerSets.{Pointers, IsPointers};
-    ghost use Rattle.pointer_dom.specs.Codes.{pointers_code};
+    ghost use Rattle.pointer_dom.specs.laws.Codes.{pointers_code};
 
     ghost Value = { Pointers };
 
@@ -133,8 +133,10 @@ impl PointerSet {
 }
 
 impl Lattice for PointerSet {
-    ghost use Rattle.pointer_dom.specs.PointerSets.{IsPointers, IsPointersBelow, no_pointer, joined_pointers, rounded_pointers};
-    ghost use Rattle.pointer_dom.specs.PointerLaws.{pointers_order, pointers_join, pointers_closure, pointers_nothing};
+    ghost use Rattle.pointer_dom.specs.PointerSets.{IsPointers, IsPointersBelow, no_pointer, joined_pointers};
+    ghost use Rattle.pointer_dom.specs.PointerSets.{rounded_pointers};
+    ghost use Rattle.pointer_dom.specs.laws.PointerLaws.{pointers_order, pointers_join, pointers_closure};
+    ghost use Rattle.pointer_dom.specs.laws.PointerLaws.{pointers_nothing};
 
     type Marks = Marks;
 

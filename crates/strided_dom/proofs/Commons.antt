@@ -5,11 +5,12 @@ use Rattle.std.proofs.Math.Nat.{dvd-mod_iff, dvd-add_iff_right, dvd-mul_left_of_
 use Rattle.std.proofs.lemmas.Nat.Gcd.{dvd_trans, IsGcd-from_zero, same_from_IsGcd}
 use Rattle.std.proofs.lemmas.Bool.{cases_lt}
 use Rattle.std.proofs.lemmas.Int.{ints, clamps}
-use Rattle.strided_dom.specs.Equations.{IsLeastSolution, HasNoSolution, IsCommonStride}
-use Rattle.strided_dom.specs.Progression.{Progression, empty, Has, IsExactly, IsSpaced, IsLeast, IsCongruent}
+use Rattle.strided_dom.specs.reading.Equations.{IsLeastFactor, HasNoFactor, IsCommonStride}
+use Rattle.strided_dom.specs.Progression.{Progression, empty, Has, IsExactly, IsSpaced, IsLeastNumber}
+use Rattle.tm_numbers.specs.Congruence.{IsCongruent}
 use Rattle.strided_dom.specs.Combinations.{IsInBoth}
-use Rattle.strided_dom.specs.Fields.{IsSpanOf, IsCommon}
-use Rattle.strided_dom.proofs.Congruences.{cong_refl, cong_sym, cong_trans, cong_up, cong_zero, cong_from_dvd, dvd_from_cong, strides_between, quotient}
+use Rattle.strided_dom.specs.reading.Fields.{AreEndsOf, IsCommon}
+use Rattle.tm_numbers.proofs.Congruences.{cong_refl, cong_sym, cong_trans, cong_up, cong_zero, cong_from_dvd, dvd_from_cong, strides_between, quotient}
 use Rattle.strided_dom.proofs.Members.{not_in_empty}
 use Rattle.strided_dom.proofs.Spans.{exactly_same, exactly_empty}
 use Rattle.strided_dom.proofs.Hulls.{spaced_of, has_of}
@@ -128,7 +129,7 @@ from_solution d m m' j k some h =
     omega (arith, d_is, m_is, h, below)
 
 module _ (lo : ℤ) (m : ℕ) (lo' top : ℤ) (m' d : ℕ) (lo_is : lo' ≡ lo +ℤ pos d) where
-  pub common_first : m ∣ d → lo' ≤ℤ top → IsLeast (IsCommon lo m lo' top m') lo'
+  pub common_first : m ∣ d → lo' ≤ℤ top → IsLeastNumber (IsCommon lo m lo' top m') lo'
   common_first h ordered = record {
     member = record {
       spaced = record { from = omega (arith, ints); to = ordered; congruent = cong_refl m' lo' };
@@ -153,10 +154,10 @@ module _ (lo : ℤ) (m : ℕ) (lo' top : ℤ) (m' d : ℕ) (lo_is : lo' ≡ lo +
         let e = strides_between p.congruent (omega (arith, ints, p.spaced.from)) in
         (j.0, (j.1, to_solution d m m' j.0 e.0 some left (omega (arith, ints, j.1, e.1, lo_is))))
 
-    pub no_common_solution : HasNoSolution (m' % m) (m - d % m) m → (v : ℤ) → ¬ IsCommon lo m lo' top m' v
+    pub no_common_solution : HasNoFactor (m' % m) (m - d % m) m → (v : ℤ) → ¬ IsCommon lo m lo' top m' v
     no_common_solution none v p = (let s = steps_of v p in none s.0 s.1.1.0 s.1.1.1)
 
-    module _ (steps k far : ℕ) (gap : 0 < m') (top_is : top ≡ lo' +ℤ pos far) (solution : IsLeastSolution (m' % m) (m - d % m) m steps k) where
+    module _ (steps k far : ℕ) (gap : 0 < m') (top_is : top ≡ lo' +ℤ pos far) (solution : IsLeastFactor (m' % m) (m - d % m) m steps k) where
       pub no_common_beyond : far / m' < steps → (v : ℤ) → ¬ IsCommon lo m lo' top m' v
       no_common_beyond beyond v p =
           let s = steps_of v p in
@@ -172,7 +173,7 @@ module _ (lo : ℤ) (m : ℕ) (lo' top : ℤ) (m' d : ℕ) (lo_is : lo' ≡ lo +
           let e : far / m' * m' + far % m' ≡ far = omega arith in
           omega (arith, a, e)
 
-      pub common_found : steps ≤ far / m' → IsLeast (IsCommon lo m lo' top m') (lo' +ℤ pos (steps * m'))
+      pub common_found : steps ≤ far / m' → IsLeastNumber (IsCommon lo m lo' top m') (lo' +ℤ pos (steps * m'))
       common_found near = record {
         member = record {
           spaced = record { from = omega (arith, ints); to = omega (arith, ints, steps_fit near); congruent = cong_up m' steps (lo' +ℤ pos (steps * m')) lo' refl };
@@ -186,28 +187,28 @@ module _ (lo : ℤ) (m : ℕ) (lo' top : ℤ) (m' d : ℕ) (lo_is : lo' ≡ lo +
       }
 
 -- the intersection of two sets, from their least common number
-meet_one : (a b : Progression) (lo hi : ℤ) (m : ℕ) (lo' hi' : ℤ) (m' : ℕ) (top v : ℤ) → IsSpanOf a lo hi m → IsSpanOf b lo' hi' m' → top ≡ int_min hi hi' → IsInBoth a b v → IsCommon lo m lo' top m' v
+meet_one : (a b : Progression) (lo hi : ℤ) (m : ℕ) (lo' hi' : ℤ) (m' : ℕ) (top v : ℤ) → AreEndsOf a lo hi m → AreEndsOf b lo' hi' m' → top ≡ int_min hi hi' → IsInBoth a b v → IsCommon lo m lo' top m' v
 meet_one a b lo hi m lo' hi' m' top v h k e p =
     let x = spaced_of a lo hi m v h p.0 in
     let y = spaced_of b lo' hi' m' v k p.1 in
     record { spaced = record { from = y.from; to = omega (arith, ints, clamps, x.to, y.to); congruent = y.congruent }; congruent = x.congruent }
 
-meet_other : (a b : Progression) (lo hi : ℤ) (m : ℕ) (lo' hi' : ℤ) (m' : ℕ) (top v : ℤ) → IsSpanOf a lo hi m → IsSpanOf b lo' hi' m' → lo ≤ℤ lo' → top ≡ int_min hi hi' → IsCommon lo m lo' top m' v → IsInBoth a b v
+meet_other : (a b : Progression) (lo hi : ℤ) (m : ℕ) (lo' hi' : ℤ) (m' : ℕ) (top v : ℤ) → AreEndsOf a lo hi m → AreEndsOf b lo' hi' m' → lo ≤ℤ lo' → top ≡ int_min hi hi' → IsCommon lo m lo' top m' v → IsInBoth a b v
 meet_other a b lo hi m lo' hi' m' top v h k order e p = (
   has_of a lo hi m v h (record { from = omega (arith, ints, p.spaced.from); to = omega (arith, ints, clamps, p.spaced.to); congruent = p.congruent }),
   has_of b lo' hi' m' v k (record { from = p.spaced.from; to = omega (arith, ints, clamps, p.spaced.to); congruent = p.spaced.congruent }),
 )
 
-pub meet_crossed : (a b r : Progression) (lo hi : ℤ) (m : ℕ) (lo' hi' : ℤ) (m' : ℕ) (top : ℤ) → IsSpanOf a lo hi m → IsSpanOf b lo' hi' m' → top ≡ int_min hi hi' → top <ℤ lo' → r ≡ empty → IsExactly (IsInBoth a b) r
+pub meet_crossed : (a b r : Progression) (lo hi : ℤ) (m : ℕ) (lo' hi' : ℤ) (m' : ℕ) (top : ℤ) → AreEndsOf a lo hi m → AreEndsOf b lo' hi' m' → top ≡ int_min hi hi' → top <ℤ lo' → r ≡ empty → IsExactly (IsInBoth a b) r
 meet_crossed a b r lo hi m lo' hi' m' top h k e crossed z =
     exactly_empty (IsInBoth a b) r z (λ v p. (let q = meet_one a b lo hi m lo' hi' m' top v h k e p in omega (arith, ints, q.spaced.from, q.spaced.to)))
 
-pub meet_none : (a b r : Progression) (lo hi : ℤ) (m : ℕ) (lo' hi' : ℤ) (m' : ℕ) (top : ℤ) → IsSpanOf a lo hi m → IsSpanOf b lo' hi' m' → top ≡ int_min hi hi' → ((v : ℤ) → ¬ IsCommon lo m lo' top m' v) → r ≡ empty → IsExactly (IsInBoth a b) r
+pub meet_none : (a b r : Progression) (lo hi : ℤ) (m : ℕ) (lo' hi' : ℤ) (m' : ℕ) (top : ℤ) → AreEndsOf a lo hi m → AreEndsOf b lo' hi' m' → top ≡ int_min hi hi' → ((v : ℤ) → ¬ IsCommon lo m lo' top m' v) → r ≡ empty → IsExactly (IsInBoth a b) r
 meet_none a b r lo hi m lo' hi' m' top h k e none z =
     exactly_empty (IsInBoth a b) r z (λ v p. none v (meet_one a b lo hi m lo' hi' m' top v h k e p))
 
-pub meet_is : (a b r : Progression) (lo hi : ℤ) (m : ℕ) (lo' hi' : ℤ) (m' : ℕ) (top first : ℤ) (step : ℕ) → IsSpanOf a lo hi m → IsSpanOf b lo' hi' m' → lo ≤ℤ lo' → top ≡ int_min hi hi'
-    → IsLeast (IsCommon lo m lo' top m') first → IsCommonStride m m' (nat_abs (top -ℤ first)) step → IsExactly (IsSpaced first top step) r → IsExactly (IsInBoth a b) r
+pub meet_is : (a b r : Progression) (lo hi : ℤ) (m : ℕ) (lo' hi' : ℤ) (m' : ℕ) (top first : ℤ) (step : ℕ) → AreEndsOf a lo hi m → AreEndsOf b lo' hi' m' → lo ≤ℤ lo' → top ≡ int_min hi hi'
+    → IsLeastNumber (IsCommon lo m lo' top m') first → IsCommonStride m m' (nat_abs (top -ℤ first)) step → IsExactly (IsSpaced first top step) r → IsExactly (IsInBoth a b) r
 meet_is a b r lo hi m lo' hi' m' top first step h k order e least common exact =
     exactly_same (IsSpaced first top step) (IsInBoth a b) r
     (λ v p. meet_other a b lo hi m lo' hi' m' top v h k order e (inside v p))

@@ -3,8 +3,8 @@ use Rattle.std.proofs.Common.{◌≡◌, ℕ, suc, ◌+◌, ◌*◌, ℤ, pos, n
 use Rattle.std.specs.Int.{◌∣◌, int_min, int_max}
 use Rattle.std.proofs.lemmas.Int.{ints, by_lt_z}
 use borrow.Author.Differences.{up, down, product_is}
-use Rattle.strided_dom.specs.Progression.{IsCongruent}
-use Rattle.strided_dom.proofs.Congruences.{cong_sym, cong_from_dvd, dvd_from_cong}
+use Rattle.tm_numbers.specs.Congruence.{IsCongruent}
+use Rattle.tm_numbers.proofs.Congruences.{cong_sym, cong_from_dvd, dvd_from_cong}
 
 pub cong_from_distance : (m : ℕ) (v w : ℤ) → m ∣ nat_abs (v -ℤ w) → IsCongruent m v w
 cong_from_distance m v w h = by_lt_z v w below above

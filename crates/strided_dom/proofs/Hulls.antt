@@ -3,10 +3,11 @@ use Rattle.std.proofs.Common.{◌≡◌, ℕ, inl, inr, ⊎_elim, ℤ, pos, ◌+
 use Rattle.std.specs.Int.{◌∣◌, IsGcd, int_min, int_max}
 use Rattle.std.proofs.lemmas.Nat.Gcd.{dvd_trans}
 use Rattle.std.proofs.lemmas.Int.{ints, clamps}
-use Rattle.strided_dom.specs.Progression.{Progression, empty, Has, IsExactly, IsHull, IsSpaced, IsCongruent, IsInReach, stride_of}
+use Rattle.strided_dom.specs.Progression.{Progression, empty, Has, IsExactly, IsHull, IsSpaced, IsInReach, stride_of}
+use Rattle.tm_numbers.specs.Congruence.{IsCongruent}
 use Rattle.strided_dom.specs.Combinations.{IsInEither, IsSum}
-use Rattle.strided_dom.specs.Fields.{IsSpan, IsSpanOf}
-use Rattle.strided_dom.proofs.Congruences.{cong_refl, cong_sym, cong_trans, cong_weaken}
+use Rattle.strided_dom.specs.reading.Fields.{AreEnds, AreEndsOf}
+use Rattle.tm_numbers.proofs.Congruences.{cong_refl, cong_sym, cong_trans, cong_weaken}
 use Rattle.strided_dom.proofs.Distances.{cong_from_distance, distance_from_cong, cong_add, cong_min, cong_max}
 use Rattle.strided_dom.proofs.Members.{some_from, spaced_from, has_from, has_last, has_next, first_le_last, stride_from_ends, cong_members, not_in_empty}
 
@@ -23,7 +24,7 @@ hull_left_empty s t e = hull_of_one (IsInEither s t) t (λ v. λ p. ⊎_elim (λ
 pub hull_right_empty : (s t : Progression) → t ≡ empty → IsHull (IsInEither s t) s
 hull_right_empty s t e = hull_of_one (IsInEither s t) s (λ v. λ p. ⊎_elim (λ q. q) (λ q. absurd (not_in_empty v (subst (λ x. Has x v) e q))) p) (λ v p. inl p)
 
-pub span_from_of : (s : Progression) (lo hi : ℤ) (m : ℕ) → IsSpanOf s lo hi m → IsSpan lo hi m
+pub span_from_of : (s : Progression) (lo hi : ℤ) (m : ℕ) → AreEndsOf s lo hi m → AreEnds lo hi m
 span_from_of s lo hi m h = record {
   low = h.low;
   high = h.high;
@@ -33,19 +34,19 @@ span_from_of s lo hi m h = record {
 }
 
 -- what is known of a member, by the ends and the stride
-pub spaced_of : (s : Progression) (lo hi : ℤ) (m : ℕ) (v : ℤ) → IsSpanOf s lo hi m → Has s v → IsSpaced lo hi m v
+pub spaced_of : (s : Progression) (lo hi : ℤ) (m : ℕ) (v : ℤ) → AreEndsOf s lo hi m → Has s v → IsSpaced lo hi m v
 spaced_of s lo hi m v h p = rw (h.first, h.last, h.step) (spaced_from s v p)
 
-pub has_of : (s : Progression) (lo hi : ℤ) (m : ℕ) (v : ℤ) → IsSpanOf s lo hi m → IsSpaced lo hi m v → Has s v
+pub has_of : (s : Progression) (lo hi : ℤ) (m : ℕ) (v : ℤ) → AreEndsOf s lo hi m → IsSpaced lo hi m v → Has s v
 has_of s lo hi m v h p = has_from s v h.some (rw (h.first, h.last, h.step) at p)
 
-pub low_in : (s : Progression) (lo hi : ℤ) (m : ℕ) → IsSpanOf s lo hi m → Has s lo
+pub low_in : (s : Progression) (lo hi : ℤ) (m : ℕ) → AreEndsOf s lo hi m → Has s lo
 low_in s lo hi m h = rw h.first h.some
 
-pub high_in : (s : Progression) (lo hi : ℤ) (m : ℕ) → IsSpanOf s lo hi m → Has s hi
+pub high_in : (s : Progression) (lo hi : ℤ) (m : ℕ) → AreEndsOf s lo hi m → Has s hi
 high_in s lo hi m h = rw h.last (has_last s h.some)
 
-pub next_in : (s : Progression) (lo hi : ℤ) (m : ℕ) → IsSpanOf s lo hi m → Has s (lo +ℤ pos m)
+pub next_in : (s : Progression) (lo hi : ℤ) (m : ℕ) → AreEndsOf s lo hi m → Has s (lo +ℤ pos m)
 next_in s lo hi m h = rw (h.first, h.step) (has_next s h.some)
 
 -- a set with a member x and a stride that divides m has each number between two of its members that is congruent to x modulo m
@@ -76,13 +77,13 @@ module _ (lo hi : ℤ) (m : ℕ) (lo' hi' : ℤ) (m' g₁ g : ℕ) (inner : IsGc
   cong_lows : IsCongruent g lo' lo
   cong_lows = cong_sym (cong_from_distance g lo lo' outer.1)
 
-  pub hull_congruent : IsSpan lo hi m → IsSpan lo' hi' m' → IsCongruent g (int_max hi hi') (int_min lo lo')
+  pub hull_congruent : AreEnds lo hi m → AreEnds lo' hi' m' → IsCongruent g (int_max hi hi') (int_min lo lo')
   hull_congruent h k =
       let a = cong_weaken g dvd_left h.congruent in
       let b = cong_trans (cong_weaken g dvd_right k.congruent) cong_lows in
       cong_trans (cong_max a b) (cong_sym (cong_min (cong_refl g lo) cong_lows))
 
-  pub hull_is : (a b r : Progression) → IsSpanOf a lo hi m → IsSpanOf b lo' hi' m' → IsExactly (IsSpaced (int_min lo lo') (int_max hi hi') g) r → IsHull (IsInEither a b) r
+  pub hull_is : (a b r : Progression) → AreEndsOf a lo hi m → AreEndsOf b lo' hi' m' → IsExactly (IsSpaced (int_min lo lo') (int_max hi hi') g) r → IsHull (IsInEither a b) r
   hull_is a b r h k exact = record { complete = λ v p. exact.complete v (⊎_elim (left v) (right v) p); least = λ t covers. record { within = λ v p. inside t covers v (exact.sound v p) } }
     where
       begin : IsCongruent g lo (int_min lo lo')
@@ -122,7 +123,7 @@ module _ (lo hi : ℤ) (m : ℕ) (lo' hi' : ℤ) (m' g₁ g : ℕ) (inner : IsGc
           })
 
 -- sums
-pub sum_is : (a b r : Progression) (lo hi : ℤ) (m : ℕ) (lo' hi' : ℤ) (m' g : ℕ) → IsSpanOf a lo hi m → IsSpanOf b lo' hi' m' → IsGcd m m' g → IsExactly (IsSpaced (lo +ℤ lo') (hi +ℤ hi') g) r → IsHull (IsSum a b) r
+pub sum_is : (a b r : Progression) (lo hi : ℤ) (m : ℕ) (lo' hi' : ℤ) (m' g : ℕ) → AreEndsOf a lo hi m → AreEndsOf b lo' hi' m' → IsGcd m m' g → IsExactly (IsSpaced (lo +ℤ lo') (hi +ℤ hi') g) r → IsHull (IsSum a b) r
 sum_is a b r lo hi m lo' hi' m' g h k div exact = record { complete = λ v p. exact.complete v (each v p); least = λ t covers. record { within = λ v p. inside t covers v (exact.sound v p) } }
   where
     each : (v : ℤ) → IsSum a b v → IsSpaced (lo +ℤ lo') (hi +ℤ hi') g v
@@ -144,7 +145,7 @@ sum_is a b r lo hi m lo' hi' m' g h k div exact = record { complete = λ v p. ex
         has_spaced t (lo +ℤ lo') (lo +ℤ lo') (hi +ℤ hi') v g low low high
         (div.2 (stride_of t) (stride_dvd_step t (lo +ℤ lo') m low next) (stride_dvd_step t (lo +ℤ lo') m' low next')) p.from p.to p.congruent
 
-pub sum_congruent : (lo hi : ℤ) (m : ℕ) (lo' hi' : ℤ) (m' g : ℕ) → IsSpan lo hi m → IsSpan lo' hi' m' → IsGcd m m' g → IsCongruent g (hi +ℤ hi') (lo +ℤ lo')
+pub sum_congruent : (lo hi : ℤ) (m : ℕ) (lo' hi' : ℤ) (m' g : ℕ) → AreEnds lo hi m → AreEnds lo' hi' m' → IsGcd m m' g → IsCongruent g (hi +ℤ hi') (lo +ℤ lo')
 sum_congruent lo hi m lo' hi' m' g h k div = cong_add (cong_weaken g div.0 h.congruent) (cong_weaken g div.1 k.congruent)
 
 pub sum_left_empty : (s t : Progression) → s ≡ empty → IsHull (IsSum s t) s
@@ -153,8 +154,8 @@ sum_left_empty s t e = hull_of_one (IsSum s t) s (λ v p. absurd (not_in_empty p
 pub sum_right_empty : (s t : Progression) → t ≡ empty → IsHull (IsSum s t) t
 sum_right_empty s t e = hull_of_one (IsSum s t) t (λ v p. absurd (not_in_empty p.right (subst (λ x. Has x p.right) e p.in_right))) (λ v p. absurd (not_in_empty v (subst (λ x. Has x v) e p)))
 
-pub span_low : {s : Progression} {lo hi : ℤ} {m : ℕ} → IsSpanOf s lo hi m → IsInReach lo
+pub span_low : {s : Progression} {lo hi : ℤ} {m : ℕ} → AreEndsOf s lo hi m → IsInReach lo
 span_low h = h.low
 
-pub span_high : {s : Progression} {lo hi : ℤ} {m : ℕ} → IsSpanOf s lo hi m → IsInReach hi
+pub span_high : {s : Progression} {lo hi : ℤ} {m : ℕ} → AreEndsOf s lo hi m → IsInReach hi
 span_high h = h.high

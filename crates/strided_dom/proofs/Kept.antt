@@ -2,11 +2,12 @@
 use Rattle.std.proofs.Common.{◌≡◌, ◌≢◌, ℕ, zero, suc, ◌+◌, ◌*◌, ◌/◌, ◌^◌, ℤ, pos, nat_abs, ◌+ℤ◌, ◌-ℤ◌, ◌≤ℤ◌, Bool, true, false, int_lt, cond, FitsSigned, ◌&&◌, IsTrue, ◌↔◌, refl, sym, ap, ap₂, ◌∙◌, arith, mul-div_cancel}
 use Rattle.std.proofs.lemmas.Int.{ints}
 use Rattle.std.specs.Int.{w128}
-use Rattle.strided_dom.specs.Progression.{Progression, empty, single, Has, IsExactly, IsSpaced, IsLeast, IsGreatest, IsCongruent, IsInReach, first_of, last_of, stride_of}
-use Rattle.strided_dom.specs.Fields.{stepped, steps_between, progression_of, fields_of, IsKept, IsSpanOf}
-use Rattle.strided_dom.specs.FieldsLaws.{fields_of-progression_of}
+use Rattle.strided_dom.specs.Progression.{Progression, empty, single, Has, IsExactly, IsSpaced, IsLeastNumber, IsGreatestNumber, IsInReach, first_of, last_of, stride_of}
+use Rattle.tm_numbers.specs.Congruence.{IsCongruent}
+use Rattle.strided_dom.specs.reading.Fields.{stepped, steps_between, progression_of, fields_of, IsKept, AreEndsOf}
+use Rattle.strided_dom.specs.laws.FieldsLaws.{fields_of-progression_of}
 use Rattle.strided_dom.specs.declared.sets.Strided.TheInside.{Inside}
-use Rattle.strided_dom.proofs.Congruences.{cong_up, strides_between}
+use Rattle.tm_numbers.proofs.Congruences.{cong_up, strides_between}
 use Rattle.strided_dom.proofs.Members.{IsSome, spaced_from, has_from, has_last, has_next}
 
 some_of_stepped : (lo : ℤ) (m n : ℕ) → IsSome (stepped lo m n) × (lo ≡ first_of (stepped lo m n))
@@ -37,11 +38,11 @@ no_steps s h some z = by s.stride refl
     by (suc gap) e = (let r = h.spread some gap e in cc)
 
 -- fields that are kept, and of which hi is not below lo, are the ends and the stride
-pub span_from_kept : (s : Inside) → IsKept s → int_lt s.hi s.lo ≡ false → IsSpanOf (progression_of s) s.lo s.hi s.stride
+pub span_from_kept : (s : Inside) → IsKept s → int_lt s.hi s.lo ≡ false → AreEndsOf (progression_of s) s.lo s.hi s.stride
 unfolding progression_of
 span_from_kept s h e = by (int_lt s.hi s.lo) e
   where
-    by : (b : Bool) → b ≡ false → IsSpanOf (cond b empty (stepped s.lo s.stride (steps_between s.lo s.hi s.stride))) s.lo s.hi s.stride
+    by : (b : Bool) → b ≡ false → AreEndsOf (cond b empty (stepped s.lo s.stride (steps_between s.lo s.hi s.stride))) s.lo s.hi s.stride
     by true e = cc
     by false _ =
         let n = steps_between s.lo s.hi s.stride in
@@ -83,7 +84,7 @@ kept_from s low high ordered h flat = record {
         (more, (ap (λ x. x / s.stride) d ∙ mul-div_cancel (suc more) (omega arith), reach ∙ ap (λ m. s.lo +ℤ pos (suc more * m)) e))
 
 -- the set of fields that are kept has exactly the numbers that are spaced so
-pub exactly_from_span : (s : Progression) (lo hi : ℤ) (m : ℕ) → IsSpanOf s lo hi m → IsExactly (IsSpaced lo hi m) s
+pub exactly_from_span : (s : Progression) (lo hi : ℤ) (m : ℕ) → AreEndsOf s lo hi m → IsExactly (IsSpaced lo hi m) s
 exactly_from_span s lo hi m h = record {
   sound = λ v p. rw (h.first, h.last, h.step) (spaced_from s v p);
   complete = λ v p. has_from s v h.some (rw (h.first, h.last, h.step) at p);
@@ -142,27 +143,27 @@ exactly_single lo hi m e = record {
 }
 
 -- the least and the greatest member of a set that is not empty
-pub span_of_some : (s : Inside) (t : Progression) → IsKept s → progression_of s ≡ t → t ≢ empty → IsSpanOf t s.lo s.hi s.stride
+pub span_of_some : (s : Inside) (t : Progression) → IsKept s → progression_of s ≡ t → t ≢ empty → AreEndsOf t s.lo s.hi s.stride
 span_of_some s t h e some = by (int_lt s.hi s.lo) refl
   where
-    by : (b : Bool) → int_lt s.hi s.lo ≡ b → IsSpanOf t s.lo s.hi s.stride
+    by : (b : Bool) → int_lt s.hi s.lo ≡ b → AreEndsOf t s.lo s.hi s.stride
     by true test = absurd (some (sym e ∙ empty_from_kept s test))
     by false test = rw (← e) (span_from_kept s h test)
 
-pub least_from_span : {t : Progression} {lo hi : ℤ} {m : ℕ} → IsSpanOf t lo hi m → IsLeast (Has t) lo
+pub least_from_span : {t : Progression} {lo hi : ℤ} {m : ℕ} → AreEndsOf t lo hi m → IsLeastNumber (Has t) lo
 least_from_span {t} {lo} {hi} {m} h = record {
   member = rw h.first h.some;
   bound = λ y p. rw h.first (spaced_from t y p).from;
 }
 
-pub greatest_from_span : {t : Progression} {lo hi : ℤ} {m : ℕ} → IsSpanOf t lo hi m → IsGreatest (Has t) hi
+pub greatest_from_span : {t : Progression} {lo hi : ℤ} {m : ℕ} → AreEndsOf t lo hi m → IsGreatestNumber (Has t) hi
 greatest_from_span {t} {lo} {hi} {m} h = record {
   member = rw h.last (has_last t h.some);
   bound = λ y p. rw h.last (spaced_from t y p).to;
 }
 
 -- the stride is no greater than the distance of the ends
-pub stride_bound : {t : Progression} {lo hi : ℤ} {m : ℕ} → IsSpanOf t lo hi m → pos m ≤ℤ pos (2 ^ 101)
+pub stride_bound : {t : Progression} {lo hi : ℤ} {m : ℕ} → AreEndsOf t lo hi m → pos m ≤ℤ pos (2 ^ 101)
 stride_bound {t} {lo} {hi} {m} h =
     let a : (lo +ℤ pos m) ≤ℤ hi = rw (h.first, h.last, h.step) (spaced_from t _ (has_next t h.some)).to in
     omega (arith, ints, h.low.low, h.high.high)

@@ -1,4 +1,3 @@
-pub mod Congruences
 pub mod Members
 pub mod Kept
 pub mod Solutions

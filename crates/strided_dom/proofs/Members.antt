@@ -3,8 +3,9 @@ use Rattle.std.proofs.Common.{◌≡◌, ◌+◌, ◌*◌, ◌≤◌, ℤ, pos, 
 use Rattle.std.specs.Int.{◌∣◌}
 use Rattle.std.proofs.Math.Nat.{eq_of_mul-eq-mul_right, dvd_antisymm}
 use Rattle.std.proofs.lemmas.Int.{ints}
-use Rattle.strided_dom.specs.Progression.{Progression, empty, single, row, Has, IsBelow, IsSpaced, IsCongruent, first_of, last_of, stride_of}
-use Rattle.strided_dom.proofs.Congruences.{cong_sym, cong_trans, cong_up, strides_between, dvd_from_cong}
+use Rattle.strided_dom.specs.Progression.{Progression, empty, single, row, Has, IsSubset, IsSpaced, first_of, last_of, stride_of}
+use Rattle.tm_numbers.specs.Congruence.{IsCongruent}
+use Rattle.tm_numbers.proofs.Congruences.{cong_sym, cong_trans, cong_up, strides_between, dvd_from_cong}
 
 -- the set has a member
 abbrev pub IsSome : Progression → Type 0
@@ -52,7 +53,7 @@ pub cong_members : (s : Progression) (v w : ℤ) → Has s v → Has s w → IsC
 cong_members s v w h k = cong_trans (spaced_from s v h).congruent (cong_sym (spaced_from s w k).congruent)
 
 -- the stride of a greater set divides that of a smaller one
-pub stride_dvd : (s t : Progression) → IsSome s → IsBelow s t → stride_of t ∣ stride_of s
+pub stride_dvd : (s t : Progression) → IsSome s → IsSubset s t → stride_of t ∣ stride_of s
 stride_dvd s t some below =
     dvd_from_cong (first_of s) (cong_members t (first_of s +ℤ pos (stride_of s)) (first_of s) (below.within _ (has_next s some)) (below.within _ some))
 
@@ -108,7 +109,7 @@ unfolding Has
 not_in_empty v h = h
 
 -- where two sets that lie below one another begin, end and step
-pub below_antisym : (s t : Progression) → IsBelow s t → IsBelow t s → s ≡ t
+pub below_antisym : (s t : Progression) → IsSubset s t → IsSubset t s → s ≡ t
 below_antisym s t h k = ⊎_elim both none (some_or_empty s)
   where
     both : IsSome s → s ≡ t

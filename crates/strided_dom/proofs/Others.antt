@@ -2,16 +2,17 @@
 use Rattle.std.proofs.Common.{◌≡◌, ◌≢◌, ℕ, zero, suc, ◌*◌, ◌^◌, ◌≤◌, ◌<◌, ℤ, pos, ◌+ℤ◌, ◌-ℤ◌, ◌≤ℤ◌, refl, sym, ap, ◌∙◌, subst, arith, le_of_mul-le-mul_right}
 use Rattle.std.specs.Int.{◌∣◌}
 use Rattle.std.proofs.lemmas.Int.{ints}
-use Rattle.strided_dom.specs.Progression.{Progression, empty, Has, IsExactly, IsHull, IsSpaced, IsCongruent, stride_of}
+use Rattle.strided_dom.specs.Progression.{Progression, empty, Has, IsExactly, IsHull, IsSpaced, stride_of}
+use Rattle.tm_numbers.specs.Congruence.{IsCongruent}
 use Rattle.strided_dom.specs.Combinations.{IsAnother}
-use Rattle.strided_dom.specs.Fields.{IsSpan, IsSpanOf}
-use Rattle.strided_dom.proofs.Congruences.{cong_sym, cong_trans, cong_up, cong_weaken, divides, strides_between}
+use Rattle.strided_dom.specs.reading.Fields.{AreEnds, AreEndsOf}
+use Rattle.tm_numbers.proofs.Congruences.{cong_sym, cong_trans, cong_up, cong_weaken, divides, strides_between}
 use Rattle.strided_dom.proofs.Members.{not_in_empty}
 use Rattle.strided_dom.proofs.Spans.{exactly_same}
 use Rattle.strided_dom.proofs.Hulls.{hull_from_exactly, hull_of_one, span_from_of, spaced_of, has_of, low_in, high_in, next_in, has_spaced, stride_dvd_step}
 
 -- the distance of the ends is a number of strides; there is none where it is 0
-pub steps_some : (lo hi : ℤ) (m : ℕ) → IsSpan lo hi m → lo ≢ hi → (k : ℕ) × ((hi ≡ lo +ℤ pos (suc k * m)) × (0 < m))
+pub steps_some : (lo hi : ℤ) (m : ℕ) → AreEnds lo hi m → lo ≢ hi → (k : ℕ) × ((hi ≡ lo +ℤ pos (suc k * m)) × (0 < m))
 steps_some lo hi m h apart = by k.0 k.1
   where
     k : (k : ℕ) × (hi ≡ lo +ℤ pos (k * m))
@@ -25,14 +26,14 @@ steps_some lo hi m h apart = by k.0 k.1
         some zero z e = (let p : suc k * m ≡ 0 = ap (λ x. suc k * x) z ∙ omega arith in absurd (apart (omega (arith, ints))))
         some (suc m') z e = omega arith
 
-pub stride_in_reach : (lo hi : ℤ) (m : ℕ) → IsSpan lo hi m → lo ≢ hi → ((lo +ℤ pos m) ≤ℤ hi) × (m ≤ 2 ^ 101)
+pub stride_in_reach : (lo hi : ℤ) (m : ℕ) → AreEnds lo hi m → lo ≢ hi → ((lo +ℤ pos m) ≤ℤ hi) × (m ≤ 2 ^ 101)
 stride_in_reach lo hi m h apart =
     let k = steps_some lo hi m h apart in
     (omega (arith, ints, k.1.0), omega (arith, ints, k.1.0, h.low.low, h.high.high))
 
-module _ (a r : Progression) (lo hi : ℤ) (m : ℕ) (v : ℤ) (h : IsSpanOf a lo hi m) where
-  span : IsSpan lo hi m
-  span = span_from_of a lo hi m h
+module _ (a r : Progression) (lo hi : ℤ) (m : ℕ) (v : ℤ) (h : AreEndsOf a lo hi m) where
+  ends : AreEnds lo hi m
+  ends = span_from_of a lo hi m h
 
   -- the number of strides from lo to a member
   place : (x : ℤ) → IsSpaced lo hi m x → (k : ℕ) × (x ≡ lo +ℤ pos (k * m))
@@ -47,7 +48,7 @@ module _ (a r : Progression) (lo hi : ℤ) (m : ℕ) (v : ℤ) (h : IsSpanOf a l
   without_first apart v_is exact = hull_from_exactly (IsAnother a v) r (exactly_same (IsSpaced (lo +ℤ pos m) hi m) (IsAnother a v) r one other exact)
     where
       some : 0 < m
-      some = (steps_some lo hi m span apart).1.1
+      some = (steps_some lo hi m ends apart).1.1
 
       next : IsCongruent m (lo +ℤ pos m) lo
       next = cong_up m 1 (lo +ℤ pos m) lo (omega (arith, ints))
@@ -69,7 +70,7 @@ module _ (a r : Progression) (lo hi : ℤ) (m : ℕ) (v : ℤ) (h : IsSpanOf a l
   without_last apart v_is exact = hull_from_exactly (IsAnother a v) r (exactly_same (IsSpaced lo (hi -ℤ pos m) m) (IsAnother a v) r one other exact)
     where
       some : 0 < m
-      some = (steps_some lo hi m span apart).1.1
+      some = (steps_some lo hi m ends apart).1.1
 
       one : (x : ℤ) → IsSpaced lo (hi -ℤ pos m) m x → IsAnother a v x
       one x p = (has_of a lo hi m x h (record { from = p.from; to = omega (arith, ints, p.to); congruent = p.congruent }), λ e. omega (arith, ints, some, p.to))
@@ -81,12 +82,12 @@ module _ (a r : Progression) (lo hi : ℤ) (m : ℕ) (v : ℤ) (h : IsSpanOf a l
       other : (x : ℤ) → IsAnother a v x → IsSpaced lo (hi -ℤ pos m) m x
       other x p =
           let q = spaced_of a lo hi m x h p.0 in
-          let k = strides_between (cong_trans span.congruent (cong_sym q.congruent)) q.to in
+          let k = strides_between (cong_trans ends.congruent (cong_sym q.congruent)) q.to in
           record { from = q.from; to = below k.0 x k.1 p.1; congruent = q.congruent }
 
   module _ (apart : lo ≢ hi) (not_first : v ≢ lo) (not_last : v ≢ hi) (member : IsSpaced lo hi m v) where
     gap : 0 < m
-    gap = (steps_some lo hi m span apart).1.1
+    gap = (steps_some lo hi m ends apart).1.1
 
     pub without_middle : hi ≡ lo +ℤ pos (2 * m) → IsExactly (IsSpaced lo hi (2 * m)) r → IsHull (IsAnother a v) r
     without_middle three exact = hull_from_exactly (IsAnother a v) r (exactly_same (IsSpaced lo hi (2 * m)) (IsAnother a v) r one other exact)
@@ -139,7 +140,7 @@ module _ (a r : Progression) (lo hi : ℤ) (m : ℕ) (v : ℤ) (h : IsSpanOf a l
         whole : (t : Progression) → ((x : ℤ) → IsAnother a v x → Has t x) → (j : ℕ) → v ≡ lo +ℤ pos (j * m) → stride_of t ∣ m
         whole t covers zero e = absurd (not_first (omega (arith, ints)))
         whole t covers (suc zero) e =
-            let k = strides_between span.congruent span.ordered in
+            let k = strides_between ends.congruent ends.ordered in
             let long = three k.0 k.1 (omega (arith, ints)) in
             let second = covers (lo +ℤ pos (2 * m)) (at_step 2 (omega (arith, ints)), λ f. omega (arith, ints)) in
             let third = covers (lo +ℤ pos (3 * m)) (at_step 3 long, λ f. omega (arith, ints)) in

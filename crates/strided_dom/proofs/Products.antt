@@ -3,10 +3,11 @@ use Rattle.std.proofs.Common.{◌≡◌, ℕ, zero, suc, ◌+◌, ◌*◌, ◌^�
 use Rattle.std.specs.Int.{int_min, int_max}
 use Rattle.std.proofs.lemmas.Int.{ints, clamps, by_lt_z}
 use borrow.Author.Differences.{up, down, product_is}
-use Rattle.strided_dom.specs.Progression.{Progression, empty, Has, IsExactly, IsSpaced, IsCongruent, IsInReach}
+use Rattle.strided_dom.specs.Progression.{Progression, empty, Has, IsExactly, IsSpaced, IsInReach}
+use Rattle.tm_numbers.specs.Congruence.{IsCongruent}
 use Rattle.strided_dom.specs.Combinations.{IsProduct}
-use Rattle.strided_dom.specs.Fields.{IsSpan, IsSpanOf}
-use Rattle.strided_dom.proofs.Congruences.{cong_refl, cong_sym, cong_trans, strides_between}
+use Rattle.strided_dom.specs.reading.Fields.{AreEnds, AreEndsOf}
+use Rattle.tm_numbers.proofs.Congruences.{cong_refl, cong_sym, cong_trans, strides_between}
 use Rattle.strided_dom.proofs.Distances.{cong_mul, cong_min, cong_max}
 use Rattle.strided_dom.proofs.Members.{not_in_empty}
 use Rattle.strided_dom.proofs.Spans.{exactly_same}
@@ -43,12 +44,12 @@ pub mul_between : (lo hi x n : ℤ) → lo ≤ℤ x → x ≤ℤ hi → (int_min
 mul_between lo hi x (pos p) from to = (omega (arith, ints, clamps, mul_le_pos lo x p from), omega (arith, ints, clamps, mul_le_pos x hi p to))
 mul_between lo hi x (negsuc q) from to = (omega (arith, ints, clamps, mul_le_neg x hi q to), omega (arith, ints, clamps, mul_le_neg lo x q from))
 
-module _ (lo hi n : ℤ) (m : ℕ) (span : IsSpan lo hi m) where
+module _ (lo hi n : ℤ) (m : ℕ) (ends : AreEnds lo hi m) where
   cong_ends : IsCongruent (m * nat_abs n) (int_min (lo *ℤ n) (hi *ℤ n)) (lo *ℤ n)
-  cong_ends = cong_min (cong_refl _ (lo *ℤ n)) (cong_mul n span.congruent)
+  cong_ends = cong_min (cong_refl _ (lo *ℤ n)) (cong_mul n ends.congruent)
 
   pub times_congruent : IsCongruent (m * nat_abs n) (int_max (lo *ℤ n) (hi *ℤ n)) (int_min (lo *ℤ n) (hi *ℤ n))
-  times_congruent = cong_trans (cong_max (cong_refl _ (lo *ℤ n)) (cong_mul n span.congruent)) (cong_sym cong_ends)
+  times_congruent = cong_trans (cong_max (cong_refl _ (lo *ℤ n)) (cong_mul n ends.congruent)) (cong_sym cong_ends)
 
 -- a number that is congruent to a product modulo m * |n| is a product with a number that is congruent modulo m
 factor_pos : (lo v : ℤ) (m q l r : ℕ) → v +ℤ pos (l * (m * suc q)) ≡ (lo *ℤ pos (suc q)) +ℤ pos (r * (m * suc q)) → v ≡ ((lo +ℤ pos (r * m)) -ℤ pos (l * m)) *ℤ pos (suc q)
@@ -65,7 +66,7 @@ factor_neg lo v m q l r e =
     let d' = ap (λ y. y * suc q) d in
     omega (arith, ints, product_is lo (negsuc q), product_is x (negsuc q), d')
 
-product_from : (a : Progression) (lo hi n v : ℤ) (m : ℕ) → IsSpanOf a lo hi m → IsCongruent (m * nat_abs n) v (lo *ℤ n) → int_min (lo *ℤ n) (hi *ℤ n) ≤ℤ v → v ≤ℤ int_max (lo *ℤ n) (hi *ℤ n) → IsProduct a n v
+product_from : (a : Progression) (lo hi n v : ℤ) (m : ℕ) → AreEndsOf a lo hi m → IsCongruent (m * nat_abs n) v (lo *ℤ n) → int_min (lo *ℤ n) (hi *ℤ n) ≤ℤ v → v ≤ℤ int_max (lo *ℤ n) (hi *ℤ n) → IsProduct a n v
 product_from a lo hi (pos zero) v m h c from to =
     record { factor = lo; in_set = low_in a lo hi m h; product = omega (arith, ints, clamps, product_is lo (pos zero), product_is hi (pos zero)) }
 product_from a lo hi (pos (suc q)) v m h c from to =
@@ -91,27 +92,27 @@ product_from a lo hi (negsuc q) v m h c from to =
       product = e;
     }
 
-pub times_is : (a r : Progression) (lo hi n : ℤ) (m : ℕ) → IsSpanOf a lo hi m → IsExactly (IsSpaced (int_min (lo *ℤ n) (hi *ℤ n)) (int_max (lo *ℤ n) (hi *ℤ n)) (m * nat_abs n)) r → IsExactly (IsProduct a n) r
+pub times_is : (a r : Progression) (lo hi n : ℤ) (m : ℕ) → AreEndsOf a lo hi m → IsExactly (IsSpaced (int_min (lo *ℤ n) (hi *ℤ n)) (int_max (lo *ℤ n) (hi *ℤ n)) (m * nat_abs n)) r → IsExactly (IsProduct a n) r
 times_is a r lo hi n m h exact = exactly_same _ (IsProduct a n) r back forth exact
   where
-    span : IsSpan lo hi m
-    span = span_from_of a lo hi m h
+    ends : AreEnds lo hi m
+    ends = span_from_of a lo hi m h
 
     back : (v : ℤ) → IsSpaced (int_min (lo *ℤ n) (hi *ℤ n)) (int_max (lo *ℤ n) (hi *ℤ n)) (m * nat_abs n) v → IsProduct a n v
-    back v p = product_from a lo hi n v m h (cong_trans p.congruent (cong_ends lo hi n m span)) p.from p.to
+    back v p = product_from a lo hi n v m h (cong_trans p.congruent (cong_ends lo hi n m ends)) p.from p.to
 
     forth : (v : ℤ) → IsProduct a n v → IsSpaced (int_min (lo *ℤ n) (hi *ℤ n)) (int_max (lo *ℤ n) (hi *ℤ n)) (m * nat_abs n) v
     forth v p =
         let x = spaced_of a lo hi m p.factor h p.in_set in
         let b = mul_between lo hi p.factor n x.from x.to in
-        rw p.product (record { from = b.0; to = b.1; congruent = cong_trans (cong_mul n x.congruent) (cong_sym (cong_ends lo hi n m span)) })
+        rw p.product (record { from = b.0; to = b.1; congruent = cong_trans (cong_mul n x.congruent) (cong_sym (cong_ends lo hi n m ends)) })
 
 -- the stride of the products fits
 steps_far : (k m p : ℕ) (z : ℤ) (d : ℕ) → 0 < k → nat_abs z ≡ k * m * p → nat_abs z ≤ d → m * p ≤ d
 steps_far (suc k) m p z d some e h = omega arith
 steps_far zero m p z d some e h = absurd (omega arith)
 
-pub times_stride : (lo hi n : ℤ) (m : ℕ) → IsSpan lo hi m → IsInReach (lo *ℤ n) → IsInReach (hi *ℤ n) → m * nat_abs n ≤ 2 ^ 101
+pub times_stride : (lo hi n : ℤ) (m : ℕ) → AreEnds lo hi m → IsInReach (lo *ℤ n) → IsInReach (hi *ℤ n) → m * nat_abs n ≤ 2 ^ 101
 times_stride lo hi n m h low high = by k.0 n k.1 low high
   where
     k : (k : ℕ) × (hi ≡ lo +ℤ pos (k * m))

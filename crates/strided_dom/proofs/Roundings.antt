@@ -2,9 +2,9 @@
 use Rattle.std.proofs.Common.{◌≡◌, ℕ, zero, suc, ◌<◌, ◌⊎◌, inl, inr, ⊎_elim, List, [], ◌∷◌, length, Contains, ℤ, ◌≤ℤ◌, ◌<ℤ◌, slice_index_or, refl, arith}
 use Rattle.std.specs.Int.{◌∣◌}
 use Rattle.std.proofs.lemmas.Int.{ints, by_lt_z}
-use Rattle.strided_dom.specs.Progression.{Progression, Has, IsBelow, IsExactly, IsLeast, IsGreatest, first_of, last_of, stride_of}
+use Rattle.strided_dom.specs.Progression.{Progression, Has, IsSubset, IsExactly, IsLeastNumber, IsGreatestNumber, first_of, last_of, stride_of}
 use Rattle.strided_dom.specs.Rounding.{IsMarkBelow, IsMarkAbove, IsLowered, IsRaised, IsInRounding}
-use Rattle.strided_dom.proofs.Congruences.{cong_sym, cong_trans, cong_weaken, dvd_from_cong}
+use Rattle.tm_numbers.proofs.Congruences.{cong_sym, cong_trans, cong_weaken, dvd_from_cong}
 use Rattle.strided_dom.proofs.Members.{some_from, spaced_from, has_last, has_next, stride_dvd, below_antisym}
 
 -- membership in a longer list
@@ -37,7 +37,7 @@ lowered_exists (x ∷ xs) v = by_lt_z v x (λ above. skip (lowered_exists xs v) 
           (λ n. inr (n.0, λ y p. ⊎_elim (λ e. omega (arith, ints, p.1)) (λ c. n.1 y (c, p.1)) (contains_either x y xs p.0))) r.1,
     )
 
-    better : (low : ℤ) → IsGreatest (IsMarkBelow xs v) low → x ≤ℤ v → (low : ℤ) × IsLowered (x ∷ xs) v low
+    better : (low : ℤ) → IsGreatestNumber (IsMarkBelow xs v) low → x ≤ℤ v → (low : ℤ) × IsLowered (x ∷ xs) v low
     better low g below = by_lt_z x low
         (λ less. (low, inl (record { member = (contains_tail x low xs g.member.0, g.member.1); bound = λ y p. ⊎_elim (λ e. omega (arith, ints)) (λ c. g.bound y (c, p.1)) (contains_either x y xs p.0) })))
         (λ more. (x, inl (record { member = (contains_head x xs, below); bound = λ y p. ⊎_elim (λ e. omega (arith, ints)) (λ c. (let b = g.bound y (c, p.1) in omega (arith, ints))) (contains_either x y xs p.0) })))
@@ -58,7 +58,7 @@ raised_exists (x ∷ xs) v = by_lt_z x v (λ below. skip (raised_exists xs v) be
           (λ n. inr (n.0, λ y p. ⊎_elim (λ e. omega (arith, ints, p.1)) (λ c. n.1 y (c, p.1)) (contains_either x y xs p.0))) r.1,
     )
 
-    better : (high : ℤ) → IsLeast (IsMarkAbove xs v) high → v ≤ℤ x → (high : ℤ) × IsRaised (x ∷ xs) v high
+    better : (high : ℤ) → IsLeastNumber (IsMarkAbove xs v) high → v ≤ℤ x → (high : ℤ) × IsRaised (x ∷ xs) v high
     better high g above = by_lt_z high x
         (λ less. (high, inl (record { member = (contains_tail x high xs g.member.0, g.member.1); bound = λ y p. ⊎_elim (λ e. omega (arith, ints)) (λ c. g.bound y (c, p.1)) (contains_either x y xs p.0) })))
         (λ more. (x, inl (record { member = (contains_head x xs, above); bound = λ y p. ⊎_elim (λ e. omega (arith, ints)) (λ c. (let b = g.bound y (c, p.1) in omega (arith, ints))) (contains_either x y xs p.0) })))
@@ -101,7 +101,7 @@ raised_again marks v u high high' to from (inr n) (inl g') = absurd (n.1 high' (
 raised_again marks v u high high' to from (inr n) (inr n') = omega (arith, ints, n'.0)
 
 -- the three laws
-pub rounding_extensive : (marks : List ℤ) (s r : Progression) → IsExactly (IsInRounding marks s) r → IsBelow s r
+pub rounding_extensive : (marks : List ℤ) (s r : Progression) → IsExactly (IsInRounding marks s) r → IsSubset s r
 rounding_extensive marks s r h = record { within = λ v p. h.complete v (kept v p) }
   where
     kept : (v : ℤ) → Has s v → IsInRounding marks s v
@@ -122,7 +122,7 @@ rounding_extensive marks s r h = record { within = λ v p. h.complete v (kept v 
           congruent = q.congruent;
         }
 
-pub rounding_monotone : (marks : List ℤ) (s t r u : Progression) → IsBelow s t → IsExactly (IsInRounding marks s) r → IsExactly (IsInRounding marks t) u → IsBelow r u
+pub rounding_monotone : (marks : List ℤ) (s t r u : Progression) → IsSubset s t → IsExactly (IsInRounding marks s) r → IsExactly (IsInRounding marks t) u → IsSubset r u
 rounding_monotone marks s t r u below h k = record { within = λ v p. k.complete v (moved v (h.sound v p)) }
   where
     moved : (v : ℤ) → IsInRounding marks s v → IsInRounding marks t v
@@ -149,7 +149,7 @@ pub rounding_idempotent : (marks : List ℤ) (s r u : Progression) → IsExactly
 rounding_idempotent marks s r u h k =
     below_antisym u r (record { within = λ v p. h.complete v (back v (k.sound v p)) }) (rounding_extensive marks r u k)
   where
-    extensive : IsBelow s r
+    extensive : IsSubset s r
     extensive = rounding_extensive marks s r h
 
     back : (v : ℤ) → IsInRounding marks r v → IsInRounding marks s v

@@ -1,7 +1,7 @@
 -- Divisors of natural numbers, and linear equations modulo a number.
 use Rattle.std.proofs.Common.{◌≡◌, ℕ, ◌+◌, ◌-◌, ◌*◌, ◌/◌, ◌%◌, ◌≤◌, ◌<◌, ◌⊎◌, inl, inr, sym, ap, ap₂, ◌∙◌, arith, mul-le-mul_left, le_of_mul-le-mul_right}
 use Rattle.std.proofs.lemmas.Bool.{cases_lt}
-use Rattle.strided_dom.specs.Equations.{IsLeastSolution, HasNoSolution}
+use Rattle.strided_dom.specs.reading.Equations.{IsLeastFactor, HasNoFactor}
 
 -- one step of the search: a solution for a and m gives one for m % a and a
 module _ (a q r s c₀ : ℕ) (some : 0 < c₀) where
@@ -18,7 +18,7 @@ module _ (a q r s c₀ : ℕ) (some : 0 < c₀) where
   step_up : (k w : ℕ) → r * k + c₀ ≡ a * w + a → a * (q * k + s + w + 1) ≡ (a * q + r) * k + (a * s + c₀)
   step_up k w e = omega arith
 
-pub no_solution_step : (a c m : ℕ) → 0 < a → 0 < c % a → HasNoSolution (m % a) (a - c % a) a → HasNoSolution a c m
+pub no_solution_step : (a c m : ℕ) → 0 < a → 0 < c % a → HasNoFactor (m % a) (a - c % a) a → HasNoFactor a c m
 no_solution_step a c m pos some none t k e =
     let d = step_down a (m / a) (m % a) (c / a) (c % a) some t k (e ∙ ap₂ (λ x y. x * k + y) m_is c_is) in
     none k d.0 (omega (arith, d.1.1, mod_lt))
@@ -32,7 +32,7 @@ no_solution_step a c m pos some none t k e =
     mod_lt : c % a < a
     mod_lt = omega arith
 
-pub solution_step : (a c m k w : ℕ) → 0 < a → 0 < c % a → IsLeastSolution (m % a) (a - c % a) a k w → IsLeastSolution a c m (m / a * k + c / a + w + 1) k
+pub solution_step : (a c m k w : ℕ) → 0 < a → 0 < c % a → IsLeastFactor (m % a) (a - c % a) a k w → IsLeastFactor a c m (m / a * k + c / a + w + 1) k
 solution_step a c m k w pos some h = record {
   solves = step_up a (m / a) (m % a) (c / a) (c % a) some k w (omega (arith, h.solves, mod_lt)) ∙ sym (ap₂ (λ x y. x * k + y) m_is c_is);
   least = λ t' k' e. least t' k' (step_down a (m / a) (m % a) (c / a) (c % a) some t' k' (e ∙ ap₂ (λ x y. x * k' + y) m_is c_is));
@@ -61,12 +61,12 @@ solution_below a c m t k e k_below c_below = by (cases_lt t m)
     by (inl p) = p
     by (inr p) = absurd (omega (arith, mul-le-mul_left a p, mul-le-mul_left m k_below))
 
-pub solution_whole : (a c m : ℕ) → 0 < a → c % a ≡ 0 → IsLeastSolution a c m (c / a) 0
+pub solution_whole : (a c m : ℕ) → 0 < a → c % a ≡ 0 → IsLeastFactor a c m (c / a) 0
 solution_whole a c m pos e = record {
   solves = omega arith;
   least = λ t' k' e'. le_of_mul-le-mul_right {k = a} (omega (arith, e')) pos;
 }
 
-pub solution_step_below : (a c m k w : ℕ) → 0 < a → 0 < c % a → c < m → k < a → IsLeastSolution (m % a) (a - c % a) a k w → m / a * k + c / a + w + 1 < m
+pub solution_step_below : (a c m k w : ℕ) → 0 < a → 0 < c % a → c < m → k < a → IsLeastFactor (m % a) (a - c % a) a k w → m / a * k + c / a + w + 1 < m
 solution_step_below a c m k w pos some c_below k_below h =
     solution_below a c m (m / a * k + c / a + w + 1) k (solution_step a c m k w pos some h).solves k_below c_below

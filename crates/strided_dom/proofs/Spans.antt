@@ -2,8 +2,9 @@
 use Rattle.std.proofs.Common.{◌≡◌, ℕ, ◌+◌, ◌*◌, ◌/◌, ◌%◌, ◌≤◌, ◌<◌, ◌⊎◌, inl, inr, ℤ, pos, ◌+ℤ◌, ◌-ℤ◌, ◌≤ℤ◌, ◌<ℤ◌, nat_abs, subst, arith, mul-le-mul_right}
 use Rattle.std.proofs.lemmas.Int.{ints}
 use Rattle.std.proofs.lemmas.Bool.{cases_lt}
-use Rattle.strided_dom.specs.Progression.{Progression, empty, Has, IsExactly, IsSpaced, IsGreatest, IsCongruent}
-use Rattle.strided_dom.proofs.Congruences.{cong_refl, cong_up, cong_zero, strides_between}
+use Rattle.strided_dom.specs.Progression.{Progression, empty, Has, IsExactly, IsSpaced, IsGreatestNumber}
+use Rattle.tm_numbers.specs.Congruence.{IsCongruent}
+use Rattle.tm_numbers.proofs.Congruences.{cong_refl, cong_up, cong_zero, strides_between}
 use Rattle.strided_dom.proofs.Members.{not_in_empty}
 
 -- a set has exactly the numbers with a property that is equivalent
@@ -14,13 +15,13 @@ pub exactly_empty : (P : ℤ → Type 0) (s : Progression) → s ≡ empty → (
 exactly_empty P s e h = record { sound = λ v p. absurd (not_in_empty v (subst (λ x. Has x v) e p)); complete = λ v p. absurd (h v p) }
 
 -- the greatest number below a bound
-pub last_flat : (lo top : ℤ) (m : ℕ) → m ≡ 0 → lo ≤ℤ top → IsGreatest (IsSpaced lo top m) lo
+pub last_flat : (lo top : ℤ) (m : ℕ) → m ≡ 0 → lo ≤ℤ top → IsGreatestNumber (IsSpaced lo top m) lo
 last_flat lo top m z ordered = record {
   member = record { from = omega (arith, ints); to = ordered; congruent = cong_refl m lo };
   bound = λ y h. (let e = cong_zero (subst (λ x. IsCongruent x y lo) z h.congruent) in omega (arith, ints));
 }
 
-pub last_by_rest : (lo top x : ℤ) (m : ℕ) → 0 < m → lo ≤ℤ top → x +ℤ pos (nat_abs (top -ℤ lo) % m) ≡ top → IsGreatest (IsSpaced lo top m) x
+pub last_by_rest : (lo top x : ℤ) (m : ℕ) → 0 < m → lo ≤ℤ top → x +ℤ pos (nat_abs (top -ℤ lo) % m) ≡ top → IsGreatestNumber (IsSpaced lo top m) x
 last_by_rest lo top x m some ordered e = record {
   member = record { from = omega (arith, ints, x_is); to = omega (arith, ints); congruent = cong_up m q x lo x_is };
   bound = λ y h. (let k = strides_between h.congruent h.from in below k.0 (cases_lt q k.0) y h.to k.1);
@@ -46,7 +47,7 @@ last_by_rest lo top x m some ordered e = record {
     below k (inr p) y to y_is = omega (arith, ints, x_is, mul-le-mul_right {m = k} {n = q} m p)
 
 -- the numbers up to the greatest are those up to the bound
-pub exactly_up_to : (lo top x : ℤ) (m : ℕ) (s : Progression) → IsGreatest (IsSpaced lo top m) x → IsExactly (IsSpaced lo x m) s → IsExactly (IsSpaced lo top m) s
+pub exactly_up_to : (lo top x : ℤ) (m : ℕ) (s : Progression) → IsGreatestNumber (IsSpaced lo top m) x → IsExactly (IsSpaced lo x m) s → IsExactly (IsSpaced lo top m) s
 exactly_up_to lo top x m s h exact =
     exactly_same (IsSpaced lo x m) (IsSpaced lo top m) s
     (λ v p. record { from = p.from; to = omega (arith, ints, p.to, h.member.to); congruent = p.congruent })

@@ -3,10 +3,12 @@ use Rattle.std.proofs.Common.{◌≡◌, ℕ, zero, suc, ◌+◌, ◌-◌, ◌*�
 use Rattle.std.proofs.lemmas.Int.{ints, by_lt_z}
 use Rattle.std.proofs.lemmas.Bool.{cases_lt}
 use Rattle.std.proofs.lemmas.List.{get_or_default}
-use Rattle.strided_dom.specs.Progression.{Progression, empty, Has, IsExactly, IsSpaced, IsLeast, IsCongruent, IsInReach, first_of}
-use Rattle.strided_dom.specs.Rounding.{IsMarkList, IsLowered, IsRaised, IsInRounding, IsSplitAt, IsInClass, IsInClassBetween}
-use Rattle.strided_dom.specs.Fields.{IsSpanOf}
-use Rattle.strided_dom.proofs.Congruences.{cong_refl, cong_sym, cong_trans, cong_up, cong_zero, strides_between}
+use Rattle.strided_dom.specs.Progression.{Progression, empty, Has, IsExactly, IsSpaced, IsLeastNumber, IsInReach, first_of}
+use Rattle.tm_numbers.specs.Congruence.{IsCongruent}
+use Rattle.strided_dom.specs.Rounding.{IsMarkList, IsLowered, IsRaised, IsInRounding}
+use Rattle.strided_dom.specs.reading.Classes.{IsSplitAt, IsInClass, IsInClassBetween}
+use Rattle.strided_dom.specs.reading.Fields.{AreEndsOf}
+use Rattle.tm_numbers.proofs.Congruences.{cong_refl, cong_sym, cong_trans, cong_up, cong_zero, strides_between}
 use Rattle.strided_dom.proofs.Members.{not_in_empty}
 use Rattle.strided_dom.proofs.Spans.{exactly_same, exactly_empty}
 use Rattle.strided_dom.proofs.Roundings.{lowered_mono, raised_mono}
@@ -68,13 +70,13 @@ module _ (marks : List ℤ) (sorted : IsMarkList marks) where
   raised_reach v high h = ⊎_elim (λ g. subst IsInReach g.member.0.2 (sorted.in_reach g.member.0.0 high g.member.0.1)) (λ n. subst IsInReach (sym n.0) h)
 
 -- the least number of a class from an end on
-pub class_flat : (low lo : ℤ) (m : ℕ) → m ≡ 0 → low ≤ℤ lo → IsLeast (IsInClass low lo m) lo
+pub class_flat : (low lo : ℤ) (m : ℕ) → m ≡ 0 → low ≤ℤ lo → IsLeastNumber (IsInClass low lo m) lo
 class_flat low lo m z ordered = record {
   member = record { from = ordered; congruent = cong_refl m lo };
   bound = λ y h. (let e = cong_zero (subst (λ x. IsCongruent x y lo) z h.congruent) in omega (arith, ints));
 }
 
-pub class_by_rest : (low lo : ℤ) (m d : ℕ) → 0 < m → lo ≡ low +ℤ pos d → IsLeast (IsInClass low lo m) (low +ℤ pos (d % m))
+pub class_by_rest : (low lo : ℤ) (m d : ℕ) → 0 < m → lo ≡ low +ℤ pos d → IsLeastNumber (IsInClass low lo m) (low +ℤ pos (d % m))
 class_by_rest low lo m d some e = record {
   member = record { from = omega (arith, ints); congruent = congruent };
   bound = λ y h. by_lt_z y x (λ below. absurd (no_less y h below)) (λ p. p);
@@ -105,13 +107,13 @@ class_by_rest low lo m d some e = record {
         nearer y k.0 h.from k.1 below
 
 -- the class between two ends, from its least number
-pub class_exactly : (low high lo first : ℤ) (m : ℕ) (r : Progression) → IsLeast (IsInClass low lo m) first → IsExactly (IsSpaced first high m) r → IsExactly (IsInClassBetween low high lo m) r
+pub class_exactly : (low high lo first : ℤ) (m : ℕ) (r : Progression) → IsLeastNumber (IsInClass low lo m) first → IsExactly (IsSpaced first high m) r → IsExactly (IsInClassBetween low high lo m) r
 class_exactly low high lo first m r h exact = exactly_same (IsSpaced first high m) (IsInClassBetween low high lo m) r
     (λ v p. record { from = omega (arith, ints, p.from, h.member.from); to = p.to; congruent = cong_trans p.congruent h.member.congruent })
     (λ v p. record { from = h.bound v (record { from = p.from; congruent = p.congruent }); to = p.to; congruent = cong_trans p.congruent (cong_sym h.member.congruent) }) exact
 
 -- the rounding of a set from the ends that are moved
-pub rounding_is : (marks : List ℤ) (s r : Progression) (lo hi low high : ℤ) (m : ℕ) → IsSpanOf s lo hi m → IsLowered marks lo low → IsRaised marks hi high → IsExactly (IsInClassBetween low high lo m) r → IsExactly (IsInRounding marks s) r
+pub rounding_is : (marks : List ℤ) (s r : Progression) (lo hi low high : ℤ) (m : ℕ) → AreEndsOf s lo hi m → IsLowered marks lo low → IsRaised marks hi high → IsExactly (IsInClassBetween low high lo m) r → IsExactly (IsInRounding marks s) r
 rounding_is marks s r lo hi low high m h down up exact =
     exactly_same (IsInClassBetween low high lo m) (IsInRounding marks s) r
     (λ v p. record {

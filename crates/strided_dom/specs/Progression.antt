@@ -1,8 +1,9 @@
 -- Finite sets of evenly spaced integers: what a `Strided` is in every contract.
 use Rattle.std.specs.Prelude.{◌≡◌, ℕ, ◌+◌, ◌*◌, ◌≤◌, ◌^◌, ℤ, pos, neg_ℤ, ◌+ℤ◌, ◌≤ℤ◌}
+use Rattle.tm_numbers.specs.Congruence.{IsCongruent}
 
--- No number; one number; or the numbers first, first + stride, first + 2 * stride, .., of which there are at least two. A `row` keeps its
--- stride less 1 and its number of steps less 1, so that each set is written in one way only.
+-- No number; one number; or the numbers first, first + stride, first + 2 * stride, .., of which there are at least two.
+-- A `row` keeps its stride less 1 and its number of steps less 1, so that each set is written in one way only.
 pub data Progression : Type 0 where
   empty : Progression
   single : ℤ → Progression
@@ -15,7 +16,7 @@ Has (single w) v = v ≡ w
 Has (row first gap more) v = (k : ℕ) × ((k ≤ more + 1) × (v ≡ first +ℤ pos (k * (gap + 1))))
 
 -- The order: each member of s is a member of t.
-pub record IsBelow (s t : Progression) : Type 0 where
+pub record IsSubset (s t : Progression) : Type 0 where
   pub within : (v : ℤ) → Has s v → Has t v
 
 -- The members of the set are exactly the integers with the property P.
@@ -26,23 +27,17 @@ pub record IsExactly (P : ℤ → Type 0) (s : Progression) : Type 0 where
 -- The set is the hull of the integers with the property P: it holds them all, and lies below every set that does.
 pub record IsHull (P : ℤ → Type 0) (s : Progression) : Type 0 where
   pub complete : (v : ℤ) → P v → Has s v
-  pub least : (t : Progression) → ((v : ℤ) → P v → Has t v) → IsBelow s t
+  pub least : (t : Progression) → ((v : ℤ) → P v → Has t v) → IsSubset s t
 
 -- x is the least integer with the property P.
-pub record IsLeast (P : ℤ → Type 0) (x : ℤ) : Type 0 where
+pub record IsLeastNumber (P : ℤ → Type 0) (x : ℤ) : Type 0 where
   pub member : P x
   pub bound : (y : ℤ) → P y → x ≤ℤ y
 
 -- x is the greatest integer with the property P.
-pub record IsGreatest (P : ℤ → Type 0) (x : ℤ) : Type 0 where
+pub record IsGreatestNumber (P : ℤ → Type 0) (x : ℤ) : Type 0 where
   pub member : P x
   pub bound : (y : ℤ) → P y → y ≤ℤ x
-
--- v and w are congruent modulo m: they become equal when multiples of m are added. Modulo 0 they are equal.
-pub record IsCongruent (m : ℕ) (v w : ℤ) : Type 0 where
-  pub left : ℕ
-  pub right : ℕ
-  pub same : v +ℤ pos (left * m) ≡ w +ℤ pos (right * m)
 
 -- v is one of the integers from low to high that are congruent to low modulo m.
 pub record IsSpaced (low high : ℤ) (m : ℕ) (v : ℤ) : Type 0 where

@@ -1,6 +1,8 @@
 -- Rounding of a strided set onto thresholds.
 use Rattle.std.specs.Prelude.{◌≡◌, ◌⊎◌, ℕ, ◌<◌, ◌≤◌, List, length, slice_index_or, ℤ, ◌≤ℤ◌, ◌<ℤ◌, Contains}
-use Rattle.strided_dom.specs.Progression.{Progression, Has, IsLeast, IsGreatest, IsCongruent, IsInReach, first_of, last_of, stride_of}
+use Rattle.strided_dom.specs.Progression.{Progression, Has, IsLeastNumber, IsGreatestNumber, IsInReach, first_of}
+use Rattle.strided_dom.specs.Progression.{last_of, stride_of}
+use Rattle.tm_numbers.specs.Congruence.{IsCongruent}
 
 -- A list of thresholds: in ascending order, without repeats, and in reach.
 pub record IsMarkList (marks : List ℤ) : Type 0 where
@@ -17,14 +19,14 @@ IsMarkAbove marks v x = Contains marks x × (v ≤ℤ x)
 
 -- v moved down: the greatest mark that is at most v, or v where there is none.
 abbrev pub IsLowered : List ℤ → ℤ → ℤ → Type 0
-IsLowered marks v low = IsGreatest (IsMarkBelow marks v) low ⊎ ((low ≡ v) × ((x : ℤ) → ¬ IsMarkBelow marks v x))
+IsLowered marks v low = IsGreatestNumber (IsMarkBelow marks v) low ⊎ ((low ≡ v) × ((x : ℤ) → ¬ IsMarkBelow marks v x))
 
 -- v moved up: the least mark that is at least v, or v where there is none.
 abbrev pub IsRaised : List ℤ → ℤ → ℤ → Type 0
-IsRaised marks v high = IsLeast (IsMarkAbove marks v) high ⊎ ((high ≡ v) × ((x : ℤ) → ¬ IsMarkAbove marks v x))
+IsRaised marks v high = IsLeastNumber (IsMarkAbove marks v) high ⊎ ((high ≡ v) × ((x : ℤ) → ¬ IsMarkAbove marks v x))
 
--- v is in the rounding of s: s has a member, v lies between the least member moved down and the greatest moved up, and v is congruent to
--- the members of s modulo its stride. So one number stays as it is.
+-- v is in the rounding of s: s has a member, v lies between the least member moved down and the greatest moved up, and
+-- v is congruent to the members of s modulo its stride. So one number stays as it is.
 pub record IsInRounding (marks : List ℤ) (s : Progression) (v : ℤ) : Type 0 where
   pub low : ℤ
   pub high : ℤ
@@ -34,20 +36,3 @@ pub record IsInRounding (marks : List ℤ) (s : Progression) (v : ℤ) : Type 0 
   pub from : low ≤ℤ v
   pub to : v ≤ℤ high
   pub congruent : IsCongruent (stride_of s) v (first_of s)
-
--- The marks before the n-th are at most v, and the others are above v.
-pub record IsSplitAt (marks : List ℤ) (v : ℤ) (n : ℕ) : Type 0 where
-  pub within : n ≤ length marks
-  pub before : (k : ℕ) (d : ℤ) → k < n → slice_index_or marks k d ≤ℤ v
-  pub after : (k : ℕ) (d : ℤ) → n ≤ k → k < length marks → v <ℤ slice_index_or marks k d
-
--- v is at least low, and congruent to lo modulo m.
-pub record IsInClass (low lo : ℤ) (m : ℕ) (v : ℤ) : Type 0 where
-  pub from : low ≤ℤ v
-  pub congruent : IsCongruent m v lo
-
--- v lies from low to high, and is congruent to lo modulo m.
-pub record IsInClassBetween (low high lo : ℤ) (m : ℕ) (v : ℤ) : Type 0 where
-  pub from : low ≤ℤ v
-  pub to : v ≤ℤ high
-  pub congruent : IsCongruent m v lo

@@ -3,19 +3,19 @@
 ghost use Rattle.std.specs.Prelude.{◌≡◌, ℕ, ℤ, ◌*ℤ◌, ◌+ℤ◌, ◌<ℤ◌, ◌≤ℤ◌};
 ghost use Rattle.strided_dom.specs.Progression.{Progression, Has, IsExactly, IsHull, IsSpaced, IsInReach};
 ghost use Rattle.strided_dom.specs.Combinations.{IsInEither, IsInBoth, IsAnother, IsSum, IsProduct};
-ghost use Rattle.strided_dom.specs.Fields.{IsSpan, IsSpanOf};
+ghost use Rattle.strided_dom.specs.reading.Fields.{AreEnds, AreEndsOf};
 
-use crate::divisors::gcd;
-use crate::sets::{Span, Strided};
+use crate::sets::{Ends, Strided};
+use tm_numbers::gcd;
 
 impl Strided {
     /// The join: the least strided set with the members of both.
     pub fn hull(&self, other: &Strided) -> Strided
         ensures { IsHull (IsInEither self.now other.now) result }
     {
-        match self.span() {
+        match self.ends() {
             None => *other,
-            Some(s) => match other.span() {
+            Some(s) => match other.ends() {
                 None => *self,
                 Some(t) => hull_of(s, t),
             },
@@ -29,7 +29,7 @@ impl Strided {
         if !self.has(v) {
             return *self;
         }
-        match self.span() {
+        match self.ends() {
             None => *self,
             Some(s) => without_member(s, v),
         }
@@ -40,9 +40,9 @@ impl Strided {
         requires { (v : ℤ) → IsSum self.now other.now v → IsInReach v }
         ensures { IsHull (IsSum self.now other.now) result }
     {
-        match self.span() {
+        match self.ends() {
             None => *self,
-            Some(s) => match other.span() {
+            Some(s) => match other.ends() {
                 None => *other,
                 Some(t) => sum_of(s, t),
             },
@@ -54,7 +54,7 @@ impl Strided {
         requires { (v : ℤ) → IsProduct self.now n v → IsInReach v }
         ensures { IsExactly (IsProduct self.now n) result }
     {
-        match self.span() {
+        match self.ends() {
             None => *self,
             Some(s) => times_of(s, n),
         }
@@ -62,10 +62,10 @@ impl Strided {
 }
 
 /// The hull of the numbers of `s` and of `t`.
-fn hull_of(s: Span, t: Span) -> Strided
-    requires left { IsSpan s.lo s.hi s.stride }
-    requires right { IsSpan t.lo t.hi t.stride }
-    ensures { (a b : Progression) → IsSpanOf a s.lo s.hi s.stride → IsSpanOf b t.lo t.hi t.stride
+fn hull_of(s: Ends, t: Ends) -> Strided
+    requires left { AreEnds s.lo s.hi s.stride }
+    requires right { AreEnds t.lo t.hi t.stride }
+    ensures { (a b : Progression) → AreEndsOf a s.lo s.hi s.stride → AreEndsOf b t.lo t.hi t.stride
         → IsHull (IsInEither a b) result }
 {
     let apart = s.lo.abs_diff(t.lo);
@@ -74,10 +74,10 @@ fn hull_of(s: Span, t: Span) -> Strided
 }
 
 /// The hull of the numbers of `s` other than `v`, which is one of them.
-fn without_member(s: Span, v: i128) -> Strided
-    requires span { IsSpan s.lo s.hi s.stride }
+fn without_member(s: Ends, v: i128) -> Strided
+    requires ends { AreEnds s.lo s.hi s.stride }
     requires member { IsSpaced s.lo s.hi s.stride v }
-    ensures { (a : Progression) → IsSpanOf a s.lo s.hi s.stride → IsHull (IsAnother a v) result }
+    ensures { (a : Progression) → AreEndsOf a s.lo s.hi s.stride → IsHull (IsAnother a v) result }
 {
     if s.lo == s.hi {
         return Strided::empty();
@@ -96,23 +96,23 @@ fn without_member(s: Span, v: i128) -> Strided
 }
 
 /// The hull of the sums of a number of `s` and a number of `t`.
-fn sum_of(s: Span, t: Span) -> Strided
-    requires left { IsSpan s.lo s.hi s.stride }
-    requires right { IsSpan t.lo t.hi t.stride }
+fn sum_of(s: Ends, t: Ends) -> Strided
+    requires left { AreEnds s.lo s.hi s.stride }
+    requires right { AreEnds t.lo t.hi t.stride }
     requires low { IsInReach (s.lo +ℤ t.lo) }
     requires high { IsInReach (s.hi +ℤ t.hi) }
-    ensures { (a b : Progression) → IsSpanOf a s.lo s.hi s.stride → IsSpanOf b t.lo t.hi t.stride
+    ensures { (a b : Progression) → AreEndsOf a s.lo s.hi s.stride → AreEndsOf b t.lo t.hi t.stride
         → IsHull (IsSum a b) result }
 {
     Strided::between(s.lo + t.lo, s.hi + t.hi, gcd(s.stride, t.stride))
 }
 
 /// The products of a number of `s` with `n`.
-fn times_of(s: Span, n: i128) -> Strided
-    requires span { IsSpan s.lo s.hi s.stride }
+fn times_of(s: Ends, n: i128) -> Strided
+    requires ends { AreEnds s.lo s.hi s.stride }
     requires low { IsInReach (s.lo *ℤ n) }
     requires high { IsInReach (s.hi *ℤ n) }
-    ensures { (a : Progression) → IsSpanOf a s.lo s.hi s.stride → IsExactly (IsProduct a n) result }
+    ensures { (a : Progression) → AreEndsOf a s.lo s.hi s.stride → IsExactly (IsProduct a n) result }
 {
     let first = s.lo * n;
     let last = s.hi * n;

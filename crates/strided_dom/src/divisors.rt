@@ -1,29 +1,16 @@
-//! Greatest common divisors, and linear equations modulo a number.
+//! Linear equations modulo a number, and common multiples.
 
 ghost use Rattle.std.specs.Prelude.{◌<◌, MatchOption};
-ghost use Rattle.std.specs.Int.{IsGcd};
-ghost use Rattle.strided_dom.specs.Equations.{IsLeastSolution, HasNoSolution, IsCommonStride};
+ghost use Rattle.strided_dom.specs.reading.Equations.{IsLeastFactor, HasNoFactor, IsCommonStride};
 
-/// The greatest common divisor; that of 0 and 0 is 0.
-pub fn gcd(a: u128, b: u128) -> u128
-    ensures { IsGcd a b result }
-{
-    let mut x = a;
-    let mut y = b;
-    while y != 0 {
-        let rest = x % y;
-        x = y;
-        y = rest;
-    }
-    x
-}
+use tm_numbers::gcd;
 
 /// The least t with a * t = m * k + c for some k, and that k.
-pub fn least_solution(a: u128, c: u128, m: u128) -> Option<(u128, u128)>
+pub fn least_factor(a: u128, c: u128, m: u128) -> Option<(u128, u128)>
     requires factor { a < m }
     requires rest { c < m }
-    ensures answer { MatchOption result (HasNoSolution a c m)
-        (λ r. IsLeastSolution a c m r.0 r.1) }
+    ensures answer { MatchOption result (HasNoFactor a c m)
+        (λ r. IsLeastFactor a c m r.0 r.1) }
     ensures below { MatchOption result (Unit {0}) (λ r. r.0 < m) }
 {
     if c == 0 {
@@ -36,7 +23,7 @@ pub fn least_solution(a: u128, c: u128, m: u128) -> Option<(u128, u128)>
     if rest == 0 {
         return Some((c / a, 0));
     }
-    match least_solution(m % a, a - rest, a) {
+    match least_factor(m % a, a - rest, a) {
         None => None,
         Some((k, w)) => Some((m / a * k + c / a + w + 1, k)),
     }

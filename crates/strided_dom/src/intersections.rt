@@ -1,21 +1,21 @@
 //! The intersection of two strided sets.
 
 ghost use Rattle.std.specs.Prelude.{◌≡◌, ℕ, ℤ, ◌≤ℤ◌, MatchOption};
-ghost use Rattle.strided_dom.specs.Progression.{Progression, IsExactly, IsLeast, IsInReach};
+ghost use Rattle.strided_dom.specs.Progression.{Progression, IsExactly, IsLeastNumber, IsInReach};
 ghost use Rattle.strided_dom.specs.Combinations.{IsInBoth};
-ghost use Rattle.strided_dom.specs.Fields.{IsSpan, IsSpanOf, IsCommon};
+ghost use Rattle.strided_dom.specs.reading.Fields.{AreEnds, AreEndsOf, IsCommon};
 
-use crate::divisors::{common_stride, least_solution};
-use crate::sets::{Span, Strided};
+use crate::divisors::{common_stride, least_factor};
+use crate::sets::{Ends, Strided};
 
 impl Strided {
     /// The intersection: the set of the members of both.
     pub fn meet(&self, other: &Strided) -> Strided
         ensures { IsExactly (IsInBoth self.now other.now) result }
     {
-        match self.span() {
+        match self.ends() {
             None => *self,
-            Some(s) => match other.span() {
+            Some(s) => match other.ends() {
                 None => *other,
                 Some(t) => {
                     if s.lo <= t.lo {
@@ -30,11 +30,11 @@ impl Strided {
 }
 
 /// The numbers of both, where `s` begins no later than `t`.
-fn meet_of(s: Span, t: Span) -> Strided
-    requires left { IsSpan s.lo s.hi s.stride }
-    requires right { IsSpan t.lo t.hi t.stride }
+fn meet_of(s: Ends, t: Ends) -> Strided
+    requires left { AreEnds s.lo s.hi s.stride }
+    requires right { AreEnds t.lo t.hi t.stride }
     requires order { s.lo ≤ℤ t.lo }
-    ensures { (a b : Progression) → IsSpanOf a s.lo s.hi s.stride → IsSpanOf b t.lo t.hi t.stride
+    ensures { (a b : Progression) → AreEndsOf a s.lo s.hi s.stride → AreEndsOf b t.lo t.hi t.stride
         → IsExactly (IsInBoth a b) result }
 {
     let top = s.hi.min(t.hi);
@@ -51,7 +51,7 @@ fn meet_of(s: Span, t: Span) -> Strided
 }
 
 /// The least number of `t` up to `top` that is congruent to `s.lo` modulo the stride of `s`, which begins no later.
-fn first_common(s: Span, t: Span, top: i128) -> Option<i128>
+fn first_common(s: Ends, t: Ends, top: i128) -> Option<i128>
     requires left { IsInReach s.lo }
     requires right { IsInReach t.lo }
     requires high { IsInReach top }
@@ -59,7 +59,7 @@ fn first_common(s: Span, t: Span, top: i128) -> Option<i128>
     requires ordered { t.lo ≤ℤ top }
     ensures { MatchOption result
         ((v : ℤ) → ¬ IsCommon s.lo s.stride t.lo top t.stride v)
-        (IsLeast (IsCommon s.lo s.stride t.lo top t.stride)) }
+        (IsLeastNumber (IsCommon s.lo s.stride t.lo top t.stride)) }
 {
     let gap = t.lo.abs_diff(s.lo);
     if gap == 0 {
@@ -75,7 +75,7 @@ fn first_common(s: Span, t: Span, top: i128) -> Option<i128>
     if t.stride == 0 {
         return None;
     }
-    match least_solution(t.stride % s.stride, s.stride - rest, s.stride) {
+    match least_factor(t.stride % s.stride, s.stride - rest, s.stride) {
         None => None,
         Some((steps, _)) => {
             if steps > top.abs_diff(t.lo) / t.stride {

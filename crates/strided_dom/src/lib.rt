@@ -1,4 +1,8 @@
-//! Strided sets: finite sets of evenly spaced integers.
+//! Strided sets: finite sets of evenly spaced integers, with their join, intersection, sums, products and rounding,
+//! each the exact or the least set that its definition determines. They know nothing of C's types and operators.
+//!
+//! So the join of {0, 4} and {10} is {0, 2, .., 10}, the least such set with all three, and rounding it onto the
+//! thresholds 1 and 127 gives {0, 2, .., 126}.
 #![tactic(auto)]
 
 mod combinations;
@@ -10,6 +14,3 @@ mod sets;
 
 pub use rounding::Marks;
 pub use sets::Strided;
-
-#[cfg(test)]
-mod tests;

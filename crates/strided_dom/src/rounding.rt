@@ -1,11 +1,12 @@
 //! Thresholds, and rounding of strided sets onto them.
 
 ghost use Rattle.std.specs.Prelude.{◌≡◌, ◌↔◌, ◌≤ℤ◌, IsTrue, MatchOption};
-ghost use Rattle.strided_dom.specs.Progression.{IsExactly, IsLeast, IsInReach};
-ghost use Rattle.strided_dom.specs.Rounding.{IsMarkList, IsLowered, IsRaised, IsInRounding, IsSplitAt, IsInClass, IsInClassBetween};
-ghost use Rattle.strided_dom.specs.Fields.{IsSpan};
+ghost use Rattle.strided_dom.specs.Progression.{IsExactly, IsLeastNumber, IsInReach};
+ghost use Rattle.strided_dom.specs.Rounding.{IsMarkList, IsLowered, IsRaised, IsInRounding};
+ghost use Rattle.strided_dom.specs.reading.Classes.{IsSplitAt, IsInClass, IsInClassBetween};
+ghost use Rattle.strided_dom.specs.reading.Fields.{AreEnds};
 
-use crate::sets::{REACH, Span, Strided};
+use crate::sets::{Ends, REACH, Strided};
 use std::marker::Model;
 
 /// Thresholds between -2^100 and 2^100, in ascending order and without repeats. A contract sees their list.
@@ -60,9 +61,9 @@ impl Strided {
         ensures { IsExactly (IsInRounding marks.now self.now) result }
     {
         let ends = marks.ends();
-        match self.span() {
+        match self.ends() {
             None => *self,
-            Some(s) => round_span(s, lowered(ends, s.lo), raised(ends, s.hi)),
+            Some(s) => round_ends(s, lowered(ends, s.lo), raised(ends, s.hi)),
         }
     }
 }
@@ -86,8 +87,8 @@ fn is_mark_list(ends: &[i128]) -> bool
 }
 
 /// The numbers from `low` to `high` that are congruent to those of `s`.
-fn round_span(s: Span, low: i128, high: i128) -> Strided
-    requires span { IsSpan s.lo s.hi s.stride }
+fn round_ends(s: Ends, low: i128, high: i128) -> Strided
+    requires ends { AreEnds s.lo s.hi s.stride }
     requires low_reach { IsInReach low }
     requires high_reach { IsInReach high }
     requires below { low ≤ℤ s.lo }
@@ -102,7 +103,7 @@ fn first_above(low: i128, lo: i128, stride: u128) -> i128
     requires low_reach { IsInReach low }
     requires lo_reach { IsInReach lo }
     requires ordered { low ≤ℤ lo }
-    ensures { IsLeast (IsInClass low lo stride) result }
+    ensures { IsLeastNumber (IsInClass low lo stride) result }
 {
     if stride == 0 {
         return lo;

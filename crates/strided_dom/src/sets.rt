@@ -1,14 +1,17 @@
 //! The type of strided sets, and what is asked of one of them.
 
-ghost use Rattle.std.specs.Prelude.{◌≡◌, ◌≢◌, ◌↔◌, ℕ, ℤ, pos, neg_ℤ, unsigned_abs, ◌+◌, ◌+ℤ◌, ◌≤ℤ◌, ◌≤◌, ◌^◌, IsTrue, MatchOption};
+ghost use Rattle.std.specs.Prelude.{◌≡◌, ◌≢◌, ◌↔◌, ℕ, ℤ, pos, neg_ℤ, unsigned_abs, ◌+◌, ◌+ℤ◌, ◌≤ℤ◌, ◌≤◌, ◌^◌, IsTrue};
+ghost use Rattle.std.specs.Prelude.{MatchOption};
 ghost use Rattle.std.specs.Int.{◌∣◌};
-ghost use Rattle.strided_dom.specs.Progression.{Progression, empty, single, Has, IsBelow, IsExactly, IsLeast, IsGreatest, IsCongruent, IsSpaced, IsInReach, first_of, last_of, stride_of};
-ghost use Rattle.strided_dom.specs.Fields.{IsSpanOf, IsSpanBelow};
+ghost use Rattle.strided_dom.specs.Progression.{Progression, empty, single, Has, IsSubset, IsExactly, IsLeastNumber};
+ghost use Rattle.strided_dom.specs.Progression.{IsGreatestNumber, IsSpaced, IsInReach, first_of, last_of, stride_of};
+ghost use Rattle.tm_numbers.specs.Congruence.{IsCongruent};
+ghost use Rattle.strided_dom.specs.reading.Fields.{AreEndsOf, AreEndsWithin};
 
 use std::marker::Model;
 
 /// A finite set of evenly spaced integers between -2^100 and 2^100: empty, one number, or lo, lo + stride, .., hi.
-#[derive(Clone, Copy, PartialEq, Eq, Debug)]
+#[derive(Clone, Copy, PartialEq, Eq)]
 pub struct Strided {
     lo: i128,
     hi: i128,
@@ -20,8 +23,8 @@ impl Model for Strided {
 
     ghost Value = { Progression };
 
-    ghost use Rattle.strided_dom.specs.Fields.{progression_of, fields_of, IsKept};
-    ghost use Rattle.strided_dom.specs.FieldsLaws.{fields_of-progression_of};
+    ghost use Rattle.strided_dom.specs.reading.Fields.{progression_of, fields_of, IsKept};
+    ghost use Rattle.strided_dom.specs.laws.FieldsLaws.{fields_of-progression_of};
 
     ghost view = { progression_of };
 
@@ -34,7 +37,7 @@ impl Model for Strided {
 
 /// The ends and the stride of a set that is not empty; the stride is 0 where there is one member.
 #[derive(Clone, Copy)]
-pub(crate) struct Span {
+pub(crate) struct Ends {
     pub(crate) lo: i128,
     pub(crate) hi: i128,
     pub(crate) stride: u128,
@@ -87,16 +90,16 @@ impl Strided {
     pub fn has(&self, v: i128) -> bool
         ensures { IsTrue result ↔ Has self.now v }
     {
-        match self.span() {
+        match self.ends() {
             None => false,
-            Some(s) => is_in_span(s, v),
+            Some(s) => is_among(s, v),
         }
     }
 
     /// The least member.
     pub fn lo(&self) -> i128
         requires { self.now ≢ empty }
-        ensures least { IsLeast (Has self.now) result }
+        ensures least { IsLeastNumber (Has self.now) result }
         ensures value { result ≡ first_of self.now }
         ensures in_reach { IsInReach result }
     {
@@ -106,7 +109,7 @@ impl Strided {
     /// The greatest member.
     pub fn hi(&self) -> i128
         requires { self.now ≢ empty }
-        ensures greatest { IsGreatest (Has self.now) result }
+        ensures greatest { IsGreatestNumber (Has self.now) result }
         ensures value { result ≡ last_of self.now }
         ensures in_reach { IsInReach result }
     {
@@ -124,26 +127,26 @@ impl Strided {
 
     /// Whether each member is a member of `other`.
     pub fn below(&self, other: &Strided) -> bool
-        ensures { IsTrue result ↔ IsBelow self.now other.now }
+        ensures { IsTrue result ↔ IsSubset self.now other.now }
     {
-        match self.span() {
+        match self.ends() {
             None => true,
-            Some(s) => match other.span() {
+            Some(s) => match other.ends() {
                 None => false,
-                Some(t) => is_span_below(s, t),
+                Some(t) => are_ends_within(s, t),
             },
         }
     }
 
     /// The ends and the stride, or none where the set is empty.
-    pub(crate) fn span(&self) -> Option<Span>
+    pub(crate) fn ends(&self) -> Option<Ends>
         ensures { MatchOption result (self.now ≡ empty)
-            (λ s. IsSpanOf self.now s.lo s.hi s.stride) }
+            (λ s. AreEndsOf self.now s.lo s.hi s.stride) }
     {
         if self.hi < self.lo {
             return None;
         }
-        Some(Span {
+        Some(Ends {
             lo: self.lo,
             hi: self.hi,
             stride: self.stride,
@@ -183,7 +186,7 @@ pub(crate) fn last_below(lo: i128, top: i128, stride: u128) -> i128
     requires low { IsInReach lo }
     requires high { IsInReach top }
     requires ordered { lo ≤ℤ top }
-    ensures { IsGreatest (IsSpaced lo top stride) result }
+    ensures { IsGreatestNumber (IsSpaced lo top stride) result }
 {
     if stride == 0 {
         return lo;
@@ -200,7 +203,7 @@ pub(crate) fn is_multiple(n: u128, d: u128) -> bool
 }
 
 /// Whether `v` is one of the numbers of `s`.
-fn is_in_span(s: Span, v: i128) -> bool
+fn is_among(s: Ends, v: i128) -> bool
     ensures { IsTrue result ↔ IsSpaced s.lo s.hi s.stride v }
 {
     if v < s.lo {
@@ -213,8 +216,8 @@ fn is_in_span(s: Span, v: i128) -> bool
 }
 
 /// Whether the numbers of `s` are among those of `t`.
-fn is_span_below(s: Span, t: Span) -> bool
-    ensures { IsTrue result ↔ IsSpanBelow s.lo s.hi s.stride t.lo t.hi t.stride }
+fn are_ends_within(s: Ends, t: Ends) -> bool
+    ensures { IsTrue result ↔ AreEndsWithin s.lo s.hi s.stride t.lo t.hi t.stride }
 {
     if s.lo < t.lo {
         return false;

@@ -9,7 +9,9 @@ use Rattle.std.specs.Int.{int_shr}
 use Rattle.std.specs.Int.RustNames.{int_div, int_rem, int_le, unsigned_abs}
 use Rattle.std.proofs.Math.Nat.{div-le_self, mod-le, mod-lt, lt_of_le_of_lt}
 use Rattle.tm_cint.specs.IntTypes.{IsIn, is_in, is_signed, width_of, lo_of, hi_of}
-use Rattle.tm_cint.specs.Conversions.{truth, is_zero, residue, value_of, wrapped, converted_value, IsCongruent}
+use Rattle.tm_cint.specs.Conversions.{truth, is_zero, residue, value_of, wrapped, converted_value}
+use Rattle.tm_numbers.specs.Congruence.{IsCongruent}
+use Rattle.tm_numbers.proofs.Congruences.{congruent_by}
 use Rattle.tm_cint.specs.Operators.{is_count, fitted, quotient, remainder, shifted_left, shifted_right, bitwise, outcome, result_type, IsRightOperand}
 use Rattle.tm_cint.specs.declared.Class.{Class}
 use Rattle.tm_cint.specs.declared.Class.TheVariants.{Overflow, Shift}
@@ -167,31 +169,38 @@ one_less a q r m e = omega (arith, ints)
 complement_less : (a q r m : ℕ) → q * m + r ≡ a → r < m → negsuc a ≡ pos (m - 1 - r) -ℤ pos m +ℤ neg_ℤ (pos q) *ℤ pos m
 complement_less a q r m e h = rw negative_product (omega (arith, ints))
 
-residue_of : (n : ℕ) (v : ℤ) → IsCongruent n v (pos (residue n v))
+-- v is a number and some turns of 2^n
+abbrev IsTurned : ℕ → ℤ → ℤ → Type 0
+IsTurned n v w = (k : ℤ) × (v ≡ w +ℤ k *ℤ pos (2 ^ n))
+
+residue_of : (n : ℕ) (v : ℤ) → IsTurned n v (pos (residue n v))
 residue_of n (pos a) = (pos (a / 2 ^ n), ap pos (omega (arith, div-add-mod' a (2 ^ n))))
 residue_of n (negsuc a) = (negsuc (a / 2 ^ n), complement_of a (a / 2 ^ n) (a % 2 ^ n) (2 ^ n) (div-add-mod' a (2 ^ n)) (mod-lt a (pow_pos n)))
 
-residue_less : (n : ℕ) (v : ℤ) → IsCongruent n v (pos (residue n v) -ℤ pos (2 ^ n))
+residue_less : (n : ℕ) (v : ℤ) → IsTurned n v (pos (residue n v) -ℤ pos (2 ^ n))
 residue_less n (pos a) = (pos (suc (a / 2 ^ n)), one_less a (a / 2 ^ n) (a % 2 ^ n) (2 ^ n) (div-add-mod' a (2 ^ n)))
 residue_less n (negsuc a) = (neg_ℤ (pos (a / 2 ^ n)), complement_less a (a / 2 ^ n) (a % 2 ^ n) (2 ^ n) (div-add-mod' a (2 ^ n)) (mod-lt a (pow_pos n)))
 
-pub wrapped-congruent : (t : IntType) (v : ℤ) → IsCongruent (width_of t) v (wrapped t v)
-wrapped-congruent t v =
-    let Q : ℤ → Type 0 = λ z. IsCongruent (width_of t) v z in
+pub wrapped-turned : (t : IntType) (v : ℤ) → (k : ℤ) × (v ≡ wrapped t v +ℤ k *ℤ pos (2 ^ width_of t))
+wrapped-turned t v =
+    let Q : ℤ → Type 0 = λ z. IsTurned (width_of t) v z in
     cond_both (int_le (pos (residue (width_of t) v)) (hi_of t)) _ _ Q (λ h. residue_of (width_of t) v) (λ h. residue_less (width_of t) v)
 
-pub converted_value-congruent : (v : ℤ) (t : IntType) → t ≢ Bool → IsCongruent (width_of t) v (converted_value v t)
-converted_value-congruent v Bool n = absurd (n refl)
-converted_value-congruent v Char n = wrapped-congruent Char v
-converted_value-congruent v UChar n = wrapped-congruent UChar v
-converted_value-congruent v Short n = wrapped-congruent Short v
-converted_value-congruent v UShort n = wrapped-congruent UShort v
-converted_value-congruent v Int n = wrapped-congruent Int v
-converted_value-congruent v UInt n = wrapped-congruent UInt v
-converted_value-congruent v Long n = wrapped-congruent Long v
-converted_value-congruent v ULong n = wrapped-congruent ULong v
-converted_value-congruent v LLong n = wrapped-congruent LLong v
-converted_value-congruent v ULLong n = wrapped-congruent ULLong v
+pub converted_value-turned : (v : ℤ) (t : IntType) → t ≢ Bool → (k : ℤ) × (v ≡ converted_value v t +ℤ k *ℤ pos (2 ^ width_of t))
+converted_value-turned v Bool n = absurd (n refl)
+converted_value-turned v Char n = wrapped-turned Char v
+converted_value-turned v UChar n = wrapped-turned UChar v
+converted_value-turned v Short n = wrapped-turned Short v
+converted_value-turned v UShort n = wrapped-turned UShort v
+converted_value-turned v Int n = wrapped-turned Int v
+converted_value-turned v UInt n = wrapped-turned UInt v
+converted_value-turned v Long n = wrapped-turned Long v
+converted_value-turned v ULong n = wrapped-turned ULong v
+converted_value-turned v LLong n = wrapped-turned LLong v
+converted_value-turned v ULLong n = wrapped-turned ULLong v
+
+pub converted_value-congruent : (v : ℤ) (t : IntType) → t ≢ Bool → IsCongruent (2 ^ width_of t) v (converted_value v t)
+converted_value-congruent v t n = let k = converted_value-turned v t n in congruent_by _ _ _ k.0 k.1
 
 -- a value of the left operand's type may stand at the right of every operator
 pub IsIn-right_operand : (op : BinOp) (t : IntType) (b : ℤ) → IsIn t b → IsRightOperand op t b

@@ -1,9 +1,11 @@
 -- The conversions among integer types (C99 6.3.1).
-use Rattle.std.specs.Prelude.{◌≡◌, ◌+ℤ◌, ◌*ℤ◌, ℕ, zero, suc, ◌-◌, ◌%◌, ◌^◌, ◌&&◌, ℤ, pos, negsuc, ◌-ℤ◌, int_le, nat_lt, nat_le, true, false, if◌then◌else◌}
+use Rattle.std.specs.Prelude.{ℕ, zero, suc, ◌-◌, ◌%◌, ◌^◌, ◌&&◌, ℤ, pos, negsuc, ◌-ℤ◌, int_le, nat_lt}
+use Rattle.std.specs.Prelude.{nat_le, true, false, if◌then◌else◌}
 use Rattle.std.specs.Prelude as P
 use Rattle.tm_cint.specs.IntTypes.{width_of, is_signed, lo_of, hi_of}
 use Rattle.tm_cint.specs.declared.int_types.IntType.{IntType}
-use Rattle.tm_cint.specs.declared.int_types.IntType.TheVariants.{Bool, Char, UChar, Short, UShort, Int, UInt, Long, ULong, LLong, ULLong}
+use Rattle.tm_cint.specs.declared.int_types.IntType.TheVariants.{Bool, Char, UChar, Short, UShort, Int, UInt, Long}
+use Rattle.tm_cint.specs.declared.int_types.IntType.TheVariants.{ULong, LLong, ULLong}
 
 -- 1 for a fact that holds, else 0
 abbrev pub truth : P.Bool → ℤ
@@ -28,11 +30,8 @@ value_of t r = if int_le (pos r) (hi_of t) then pos r else pos r -ℤ pos (2 ^ w
 abbrev pub wrapped : IntType → ℤ → ℤ
 wrapped t v = value_of t (residue (width_of t) v)
 
--- a is b and a multiple of 2 to the power of n
-abbrev pub IsCongruent : ℕ → ℤ → ℤ → Type 0
-IsCongruent n a b = (k : ℤ) × (a ≡ b +ℤ k *ℤ pos (2 ^ n))
-
--- v converted to the type (C99 6.3.1.2, 6.3.1.3): a value that a signed type does not hold wraps, as one of an unsigned type does
+-- v converted to the type (C99 6.3.1.2, 6.3.1.3): a value that a signed type does not hold wraps, as one of an unsigned
+-- type does
 abbrev pub converted_value : ℤ → IntType → ℤ
 converted_value v Bool = if is_zero v then pos 0 else pos 1
 converted_value v t = wrapped t v
@@ -55,7 +54,8 @@ rank_of ULLong = 5
 abbrev pub represents_all : IntType → IntType → P.Bool
 represents_all s t = int_le (lo_of s) (lo_of t) && int_le (hi_of t) (hi_of s)
 
--- the integer promotions (C99 6.3.1.1): a type of lower rank than `int` becomes `int` where that has all its values, else `unsigned int`
+-- the integer promotions (C99 6.3.1.1): a type of lower rank than `int` becomes `int` where that has all its values,
+-- else `unsigned int`
 abbrev pub promoted_type : IntType → IntType
 promoted_type t = if nat_lt (rank_of t) (rank_of Int) then (if represents_all Int t then Int else UInt) else t
 
@@ -72,7 +72,8 @@ unsigned_of t = t
 abbrev pub greater_of : IntType → IntType → IntType
 greater_of a b = if nat_lt (rank_of a) (rank_of b) then b else a
 
--- the common type of a signed and an unsigned type: the unsigned one where its rank is not less, else the signed one where it has all values of the other, else the unsigned one of the signed
+-- the common type of a signed and an unsigned type: the unsigned one where its rank is not less, else the signed one
+-- where it has all values of the other, else the unsigned one of the signed
 abbrev pub mixed_type : IntType → IntType → IntType
 mixed_type s u = if nat_le (rank_of s) (rank_of u) then u else (if represents_all s u then s else unsigned_of s)
 

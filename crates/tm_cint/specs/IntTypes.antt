@@ -2,7 +2,8 @@
 use Rattle.std.specs.Prelude.{ℕ, ◌-◌, ◌^◌, ℤ, pos, neg_ℤ, ◌≤ℤ◌, ◌&&◌, int_le, true, false, if◌then◌else◌}
 use Rattle.std.specs.Prelude as P
 use Rattle.tm_cint.specs.declared.int_types.IntType.{IntType}
-use Rattle.tm_cint.specs.declared.int_types.IntType.TheVariants.{Bool, Char, UChar, Short, UShort, Int, UInt, Long, ULong, LLong, ULLong}
+use Rattle.tm_cint.specs.declared.int_types.IntType.TheVariants.{Bool, Char, UChar, Short, UShort, Int, UInt, Long}
+use Rattle.tm_cint.specs.declared.int_types.IntType.TheVariants.{ULong, LLong, ULLong}
 
 -- a row of the table: how many bits a type has, the sign bit included, and whether it has one
 pub record Row : Type 0 where

@@ -1,8 +1,11 @@
 ghost use Rattle.std.specs.Prelude.{◌≡◌, ◌<◌, ◌≤◌, ◌^◌, ◌↔◌, IsTrue};
 ghost use Rattle.tm_cint.specs.IntTypes.{width_of};
-ghost use Rattle.tm_cint.specs.Conversions.{residue, value_of, wrapped, converted_value, rank_of, represents_all, promoted_type, unsigned_of, greater_of, mixed_type, common_type, usual_type};
+ghost use Rattle.tm_cint.specs.Conversions.{residue, value_of, wrapped, converted_value, rank_of, represents_all};
+ghost use Rattle.tm_cint.specs.Conversions.{promoted_type, unsigned_of, greater_of, mixed_type, common_type};
+ghost use Rattle.tm_cint.specs.Conversions.{usual_type};
 
-use crate::int_types::{IntType, power_of_two};
+use crate::int_types::IntType;
+use tm_numbers::power_of_two;
 
 /// The integer promotions (C99 6.3.1.1): a type of lower rank than `int` becomes `int`, which has
 /// all its values.

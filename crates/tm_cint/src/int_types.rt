@@ -1,6 +1,8 @@
+use tm_numbers::power_of_two;
+
 /// An integer type of C (C99 6.2.5) in the data model of the analyser: two's complement, `char`
 /// signed with 8 bits, `short` 16, `int` and `long` 32, `long long` 64. An enumeration type is `Int`.
-#[derive(Clone, Copy, PartialEq, Eq, PartialOrd, Ord, Hash, Debug)]
+#[derive(Clone, Copy, PartialEq, Eq, PartialOrd, Ord, Hash)]
 pub enum IntType {
     /// `_Bool`, which holds 0 and 1: an unsigned type of one bit.
     Bool,
@@ -96,14 +98,4 @@ impl IntType {
     {
         self.lo() <= v && v <= self.hi()
     }
-}
-
-ghost use Rattle.std.specs.Prelude.{◌≡◌, ◌≤◌, ◌^◌, pos};
-
-/// 2 to the power of `exponent`, at most 64.
-pub(crate) fn power_of_two(exponent: u32) -> i128
-    requires { exponent ≤ 64 }
-    ensures { result ≡ pos (2 ^ exponent) }
-{
-    1 << exponent
 }

@@ -1,7 +1,8 @@
 //! Laws of the definitions: each is the contract of a function that does nothing.
-ghost use Rattle.std.specs.Prelude.{◌≡◌, ◌≢◌, ◌⊎◌, ℤ, pos, ◌+ℤ◌, ◌*ℤ◌, Result, Ok, Err, false};
+ghost use Rattle.std.specs.Prelude.{◌≡◌, ◌≢◌, ◌⊎◌, ◌^◌, ℤ, pos, ◌+ℤ◌, ◌*ℤ◌, Result, Ok, Err, false};
 ghost use Rattle.tm_cint.specs.IntTypes.{IsIn, is_signed, width_of};
-ghost use Rattle.tm_cint.specs.Conversions.{converted_value, IsCongruent, promoted_type, usual_type, unsigned_of, greater_of};
+ghost use Rattle.tm_cint.specs.Conversions.{converted_value, promoted_type, usual_type, unsigned_of, greater_of};
+ghost use Rattle.tm_numbers.specs.Congruence.{IsCongruent};
 ghost use Rattle.tm_cint.specs.Operators.{outcome, IsRightOperand, result_type};
 ghost use Rattle.tm_cint.specs.declared.int_types.IntType.{IntType};
 ghost use Rattle.tm_cint.specs.declared.operators.BinOp.{BinOp};
@@ -22,7 +23,7 @@ pub fn conversion_keeps_values()
 
 /// A conversion to another type than `_Bool` adds a multiple of 2 to the power of the width.
 pub fn conversion_is_congruent()
-    ensures { (v : ℤ) (t : IntType) → t ≢ IntType.Bool → IsCongruent (width_of t) v (converted_value v t) }
+    ensures { (v : ℤ) (t : IntType) → t ≢ IntType.Bool → IsCongruent (2 ^ width_of t) v (converted_value v t) }
 {}
 
 /// The integer promotions preserve value (C99 6.3.1.1).

@@ -1,12 +1,14 @@
-//! C's integers in the data model of the analyser: types, conversions, operators and error classes.
+//! C's integers in the data model of the analyser: types, conversions, operators and the classes of errors. It works on
+//! single values: it knows no variables, no pointers and no sets.
+//!
+//! So `arith` of `/` at the type `int` gives -3 for -7 and 2, `Class::Div` for 1 and 0, and `Class::Overflow` for the
+//! least `int` and -1.
 #![tactic(auto)]
 
 mod conversions;
 mod int_types;
 mod laws;
 mod operators;
-#[cfg(test)]
-mod tests;
 
 pub use conversions::{convert, promote, usual};
 pub use int_types::IntType;
@@ -18,7 +20,7 @@ pub use laws::{
 pub use operators::{BinOp, arith};
 
 /// A class of run-time error, in the order in which reports list them.
-#[derive(Clone, Copy, PartialEq, Eq, PartialOrd, Ord, Debug)]
+#[derive(Clone, Copy, PartialEq, Eq, PartialOrd, Ord)]
 pub enum Class {
     /// Signed `+ - *` or unary `-` leaves its type; the least value divided by -1 or taken modulo -1.
     Overflow,

@@ -1,13 +1,15 @@
 ghost use Rattle.std.specs.Prelude.{◌≡◌, ◌^◌, pos, ◌+ℤ◌, ◌-ℤ◌, ◌*ℤ◌, bit_and, bit_or, bit_xor};
 ghost use Rattle.tm_cint.specs.IntTypes.{IsIn};
-ghost use Rattle.tm_cint.specs.Operators.{fitted, quotient, remainder, is_count, shifted_left, shifted_right, bitwise, outcome, IsRightOperand};
+ghost use Rattle.tm_cint.specs.Operators.{fitted, quotient, remainder, is_count, shifted_left, shifted_right, bitwise};
+ghost use Rattle.tm_cint.specs.Operators.{outcome, IsRightOperand};
 
 use crate::Class;
 use crate::conversions::{bits, from_bits, wrapped};
-use crate::int_types::{IntType, power_of_two};
+use crate::int_types::IntType;
+use tm_numbers::power_of_two;
 
 /// A binary operator on integers (C99 6.5.5 to 6.5.12).
-#[derive(Clone, Copy, PartialEq, Eq, PartialOrd, Ord, Hash, Debug)]
+#[derive(Clone, Copy, PartialEq, Eq, PartialOrd, Ord, Hash)]
 pub enum BinOp {
     /// `+`
     Add,

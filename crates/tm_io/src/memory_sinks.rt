@@ -24,7 +24,12 @@ impl Model for MemorySink {
 
     ghost Value = { MemoryOutput };
 
-    ghost view = { λ s. record { taken = s.bytes.items; piece = s.piece; failing = s.calls.failing.items; calls = s.calls.made } };
+    ghost view = { λ s. record {
+      taken = s.bytes.items;
+      piece = s.piece;
+      failing = s.calls.failing.items;
+      calls = s.calls.made;
+    } };
 
     ghost invariant = { λ s. 0 < s.piece };
 }
@@ -59,14 +64,19 @@ impl Sink for MemorySink {
     fn write(&mut self, from: &[u8]) -> Result<usize, Stop>
         ensures bound { WritesAtMost result from.now }
         ensures progress { IfOk result (λ n. 0 < length from.now → 0 < n) }
-        ensures appends { IfOk result (λ n. Some self.new.taken ≡ append_known (Some self.old.taken) (take n from.now)) }
+        ensures appends { IfOk result (λ n. Some self.new.taken ≡ append_known (Some self.old.taken)
+            (take n from.now)) }
         ensures stopped { OnErr result (self.new.taken ≡ self.old.taken) }
-        ensures cause { HasStopCause (faults_among self.old.failing self.old.calls) (faults_among self.new.failing self.new.calls) result }
+        ensures cause { HasStopCause (faults_among self.old.failing self.old.calls)
+            (faults_among self.new.failing self.new.calls) result }
 
         // Exactly the listed calls fail.
         ensures fails { (result ≡ Err Stop.Failed) ↔ FailsNext self.old.failing self.old.calls }
         ensures count { IfOk result (λ n. n ≡ min self.old.piece (length from.now)) }
-        ensures ok { IfOk result (λ n. self.new ≡ record self.old { taken = self.old.taken ++ take n from.now; calls = one_more self.old.calls }) }
+        ensures ok { IfOk result (λ n. self.new ≡ record self.old {
+          taken = self.old.taken ++ take n from.now;
+          calls = one_more self.old.calls;
+        }) }
         ensures err { OnErr result (self.new ≡ record self.old { calls = one_more self.old.calls }) }
     {
         if self.calls.next_fails() {

@@ -1,5 +1,6 @@
 // A source in memory that fails at listed calls.
-ghost use Rattle.std.specs.Prelude.{◌≡◌, ◌≤◌, ◌<◌, ◌++◌, ◌↔◌, ℕ, List, Some, length, take, drop, min, IfOk, OnErr, IsErr};
+ghost use Rattle.std.specs.Prelude.{◌≡◌, ◌≤◌, ◌<◌, ◌++◌, ◌↔◌, ℕ, List, Some, length, take, drop, min, IfOk, OnErr};
+ghost use Rattle.std.specs.Prelude.{IsErr};
 ghost use Rattle.std.specs.Io.{ReadsAtMost};
 ghost use Rattle.std.specs.Io.KnownBytes.{IsAtEnd, prepend_known};
 ghost use Rattle.tm_io.specs.Calls.{MemoryInput, FailsNext, one_more, faults_among};
@@ -25,7 +26,12 @@ impl Model for MemorySource {
 
     ghost Value = { MemoryInput };
 
-    ghost view = { λ s. record { left = drop s.at s.bytes.items; piece = s.piece; failing = s.calls.failing.items; calls = s.calls.made } };
+    ghost view = { λ s. record {
+      left = drop s.at s.bytes.items;
+      piece = s.piece;
+      failing = s.calls.failing.items;
+      calls = s.calls.made;
+    } };
 
     ghost invariant = { λ s. (s.at ≤ length s.bytes.items) × (0 < s.piece) };
 }
@@ -56,13 +62,17 @@ impl Source for MemorySource {
         ensures taken { IfOk result (λ n. Some self.old.left ≡ prepend_known (take n into.new) (Some self.new.left)) }
         ensures end { IfOk result (λ n. n ≡ 0 → 0 < length into.new → IsAtEnd (Some self.new.left)) }
         ensures failed { OnErr result (self.new.left ≡ self.old.left) }
-        ensures cause { HasCause (faults_among self.old.failing self.old.calls) (faults_among self.new.failing self.new.calls) result }
+        ensures cause { HasCause (faults_among self.old.failing self.old.calls)
+            (faults_among self.new.failing self.new.calls) result }
 
         // Exactly the listed calls fail.
         ensures fails { IsErr result ↔ FailsNext self.old.failing self.old.calls }
         ensures count { IfOk result (λ n. n ≡ min (min self.old.piece (length self.old.left)) (length into.old)) }
         ensures copied { IfOk result (λ n. into.new ≡ take n self.old.left ++ drop n into.old) }
-        ensures rest { IfOk result (λ n. self.new ≡ record self.old { left = drop n self.old.left; calls = one_more self.old.calls }) }
+        ensures rest { IfOk result (λ n. self.new ≡ record self.old {
+          left = drop n self.old.left;
+          calls = one_more self.old.calls;
+        }) }
         ensures err { OnErr result (self.new ≡ record self.old { calls = one_more self.old.calls }) }
     {
         if self.calls.next_fails() {

@@ -27,7 +27,8 @@ pub trait Sink {
         ensures bound { WritesAtMost result from.now }
         ensures progress { IfOk result (λ n. 0 < length from.now → 0 < n) }
 
-        // What the sink has taken now is what it had, and then the front of `from`. One that tells nothing tells nothing later.
+        // What the sink has taken now is what it had, and then the front of `from`. One that tells nothing tells
+        // nothing later.
         ensures appends { IfOk result (λ n. taken self.new ≡ append_known (taken self.old) (take n from.now)) }
         ensures stopped { OnErr result (taken self.new ≡ taken self.old) }
 

@@ -21,7 +21,8 @@ pub trait Source {
     fn read(&mut self, into: &mut [u8]) -> Result<usize, Failed>
         ensures bound { ReadsAtMost result into.new }
 
-        // What was left are the bytes that were read, and what is left now. A source that tells nothing tells nothing later.
+        // What was left are the bytes that were read, and what is left now. A source that tells nothing tells nothing
+        // later.
         ensures taken { IfOk result (λ n. left self.old ≡ prepend_known (take n into.new) (left self.new)) }
         ensures end { IfOk result (λ n. n ≡ 0 → 0 < length into.new → IsAtEnd (left self.new)) }
         ensures failed { OnErr result (left self.new ≡ left self.old) }

@@ -1,7 +1,7 @@
 -- The sets that `&`, `|` and `^` give.
 use Rattle.std.proofs.Common.{◌≡◌, ◌⊎◌, inl, inr, ⊎_elim, ℕ, ◌+◌, ◌-◌, ◌*◌, ◌^◌, ◌<◌, ◌≤◌, ℤ, pos, negsuc, ◌+ℤ◌, ◌≤ℤ◌, true, false, ◌&&◌, ◌||◌, refl, sym, ap, ◌∙◌, subst, arith, bit_and, bit_or, bit_xor}
 use Rattle.std.specs.Prelude as P
-use Rattle.std.specs.Prelude.{Option, Some, IsSome, is_some, Result, Ok, Err, int_le, unsigned_abs, ◌<ℤ◌}
+use Rattle.std.specs.Prelude.{Option, Some, IsSome, Result, Ok, Err, int_le, unsigned_abs}
 use Rattle.std.specs.Int.{int_max}
 use Rattle.std.proofs.lemmas.Int.{ints, clamps}
 use Rattle.std.proofs.lemmas.Nat.{pow_pos}

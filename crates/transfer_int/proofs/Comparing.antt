@@ -1,19 +1,19 @@
 -- The values of a comparison, from which answers some members have.
 use Rattle.std.proofs.Common.{ℕ, ◌≡◌, ◌⊎◌, inl, inr, ℤ, pos, Ok, Result, true, false, refl, sym, ap, ◌∙◌, subst, arith}
 use Rattle.std.specs.Prelude as P
-use Rattle.std.specs.Prelude.{◌<ℤ◌, ◌≢◌, ◌↔◌, IsTrue, int_lt, int_le, not}
+use Rattle.std.specs.Prelude.{◌≢◌, ◌↔◌, IsTrue, int_lt, int_le, not}
 use Rattle.std.proofs.lemmas.Int.{ints}
 use Rattle.strided_dom.specs.Progression.{Progression, empty, single, Has, IsExactly, first_of}
 use Rattle.strided_dom.specs.Combinations.{IsInBoth}
 use Rattle.strided_dom.proofs.Members.{some_or_empty}
 use Rattle.interval_dom.proofs.Guarded.{both_true, is_le}
 use Rattle.tm_cint.specs.Conversions.{truth}
-use Rattle.tm_cint.specs.Operators.{outcome, is_same}
+use Rattle.tm_cint.specs.Operators.{outcome, is_same, IsComparison}
 use Rattle.tm_cint.specs.declared.Class.{Class}
 use Rattle.tm_cint.specs.declared.int_types.IntType.{IntType}
 use Rattle.tm_cint.specs.declared.operators.BinOp.{BinOp}
 use Rattle.tm_cint.specs.declared.operators.BinOp.TheVariants.{Add, Sub, Mul, Div, Rem, Shl, Shr, And, Or, Xor, Lt, Le, Gt, Ge, Eq, Ne}
-use Rattle.transfer_int.specs.Comparisons.{IsComparison, HasPair, IsTruthValue}
+use Rattle.transfer_int.specs.reading.Comparisons.{HasPair, IsTruthValue}
 use Rattle.transfer_int.specs.Values.{IsTruth}
 use Rattle.transfer_int.proofs.Inside.{none_in}
 

@@ -3,7 +3,7 @@ use Rattle.std.proofs.Common.{◌≡◌, ◌≢◌, eqb, of_z, FitsSigned, ◌�
 use Rattle.std.specs.Prelude as P
 use Rattle.std.specs.Prelude.{◌<ℤ◌, ◌↔◌, IsTrue, Option, Some, None, MatchOption, int_div, int_rem, unsigned_abs}
 use Rattle.std.specs.Int.{w128, int_max, int_min}
-use Rattle.congruence_dom.proofs.Divisibility.{is_by_remainder}
+use Rattle.tm_numbers.proofs.Divisibility.{is_by_remainder}
 use Rattle.std.proofs.lemmas.Int.{ints}
 use Rattle.std.proofs.lemmas.Bool.{eq-eqb, eqb-true}
 use Rattle.strided_dom.specs.Progression.{Progression, empty, single, Has, IsExactly, first_of, last_of}
@@ -12,15 +12,16 @@ use Rattle.interval_dom.specs.Interval.{Span, span_of}
 use Rattle.interval_dom.specs.declared.intervals.Interval.{Interval}
 use Rattle.interval_dom.specs.Rows.{IsOneSided, div_row}
 use Rattle.interval_dom.proofs.Quotients.{div_holds}
-use Rattle.congruence_dom.specs.Class.{Divides, InClass}
+use Rattle.congruence_dom.specs.Class.{InClass}
+use Rattle.tm_numbers.specs.Divisors.{Divides}
 use Rattle.congruence_dom.specs.Rows as C
 use Rattle.congruence_dom.specs.declared.classes.Cong.{Cong}
 use Rattle.tm_cint.proofs.Wide.{int_div_at_most, abs_wide, wide, remainder_fits}
 use Rattle.tm_cint.specs.declared.int_types.IntType.{IntType}
-use Rattle.transfer_int.specs.Fittings.{AreRows, from_to}
+use Rattle.transfer_int.specs.reading.Fittings.{AreRows, from_to}
 use Rattle.transfer_int.specs.Operands.{AreValues, IsDivisor, IsResult, span_of_set, class_of_set}
-use Rattle.transfer_int.specs.Parts.{IsPart, IsLeastSpan}
-use Rattle.transfer_int.specs.Quotients.{IsCommonDivisor}
+use Rattle.transfer_int.specs.reading.Parts.{IsPart, IsLeastSpan}
+use Rattle.transfer_int.specs.reading.Quotients.{IsCommonDivisor}
 use Rattle.transfer_int.specs.Rows.{InQuotients, InQuotientClass, IsQuotient}
 use Rattle.transfer_int.proofs.BitSets.{one_member, le_is}
 use Rattle.transfer_int.proofs.Inside.{none_in}

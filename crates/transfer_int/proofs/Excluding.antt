@@ -3,7 +3,7 @@ use Rattle.std.proofs.Common.{◌≡◌, ℤ, pos, negsuc, ◌≤ℤ◌, ◌<ℤ
 use Rattle.std.specs.Prelude as P
 use Rattle.std.specs.Prelude.{IsTrue, int_le, int_lt}
 use Rattle.std.proofs.lemmas.Int.{ints}
-use Rattle.strided_dom.specs.Progression.{Progression, Has, IsLeast, IsGreatest, first_of}
+use Rattle.strided_dom.specs.Progression.{Progression, Has, IsLeastNumber, IsGreatestNumber, first_of}
 use Rattle.strided_dom.proofs.Members.{IsSome}
 use Rattle.tm_cint.specs.IntTypes.{is_signed, width_of}
 use Rattle.tm_cint.specs.Operators.{is_count}
@@ -64,12 +64,12 @@ module _ (t : IntType) (a b : Progression) (some : IsSome a) where
   negative_below n x s h k l = record { signed = s; left = n; right = x; in_left = h; in_right = k; negative = l }
 
 -- all counts lie between the least and the greatest
-pub counts_within : (t : IntType) (a b : Progression) (lo hi : ℤ) → IsLeast (Has b) lo → IsGreatest (Has b) hi → pos 0 ≤ℤ lo → hi <ℤ pos (width_of t) → HasBadCount t a b → ⊥
+pub counts_within : (t : IntType) (a b : Progression) (lo hi : ℤ) → IsLeastNumber (Has b) lo → IsGreatestNumber (Has b) hi → pos 0 ≤ℤ lo → hi <ℤ pos (width_of t) → HasBadCount t a b → ⊥
 counts_within t a b lo hi least greatest l g h =
     let e = both_true (int_le (pos 0) h.right) (int_lt h.right (pos (width_of t))) (le_is (pos 0) h.right (omega (arith, ints, least.bound h.right h.in_right, l)))
     (below h.right (pos (width_of t)) (omega (arith, ints, greatest.bound h.right h.in_right, g))) in
     let f = h.bad in
     absurd cc
 
-pub none_negative : (t : IntType) (a b : Progression) (lo : ℤ) → IsLeast (Has a) lo → pos 0 ≤ℤ lo → ShiftsNegative t a b → ⊥
+pub none_negative : (t : IntType) (a b : Progression) (lo : ℤ) → IsLeastNumber (Has a) lo → pos 0 ≤ℤ lo → ShiftsNegative t a b → ⊥
 none_negative t a b lo least l h = omega (arith, ints, least.bound h.left h.in_left, l, h.negative)

@@ -1,17 +1,16 @@
 -- Every error on members is among the classes.
 use Rattle.std.proofs.Common.{◌≡◌, ◌⊎◌, inl, inr, ⊎_elim, ℕ, zero, suc, ◌/◌, ℤ, pos, negsuc, neg_ℤ, ◌+ℤ◌, ◌-ℤ◌, ◌*ℤ◌, ◌≤ℤ◌, Result, Ok, Err, true, false, cond, ◌&&◌, refl, sym, ◌∙◌, subst, arith}
 use Rattle.std.specs.Prelude as P
-use Rattle.std.specs.Prelude.{unsigned_abs, int_div, int_rem, int_le, ◌<ℤ◌}
+use Rattle.std.specs.Prelude.{int_div, int_rem, int_le, ◌<ℤ◌}
 use Rattle.std.proofs.lemmas.Int.{ints}
 use Rattle.std.proofs.Math.Nat.{div-le_self}
 use Rattle.strided_dom.specs.Progression.{Progression, Has}
-use Rattle.interval_dom.specs.Laws as IL
+use Rattle.tm_numbers.specs.Operands.{AnyNumbers}
 use Rattle.interval_dom.specs.Rows as I
 use Rattle.interval_dom.proofs.Sums as S
 use Rattle.interval_dom.proofs.Products as M
 use Rattle.interval_dom.proofs.Quotients.{div_anti}
 use Rattle.interval_dom.proofs.Guarded.{both_true, is_le}
-use Rattle.congruence_dom.specs.Laws as CL
 use Rattle.congruence_dom.specs.Rows as C
 use Rattle.congruence_dom.proofs.Congruences as K
 use Rattle.transfer_int.specs.Rows.{InRows}
@@ -180,9 +179,9 @@ module _ (t : IntType) (a b : Progression) (x y : ℤ) (i : IsIn t x) (h : Has a
       by_test (inr p) = subst (λ c. MayFail Shr t a b c) (sym p.1) (refl, inl (bad_count p.0))
 
 pub error_holds : (op : BinOp) (t : IntType) (a b : Progression) (x y : ℤ) (class : Class) → IsIn t x → IsRightOperand op t y → Has a x → Has b y → outcome op t x y ≡ Err class → MayFail op t a b class
-error_holds Add t a b x y class i j h k e = fitted_fails t a b x y i h k Add (x +ℤ y) class refl (pair_holds a b x y h k IL.All CL.All I.add_row C.add_row ◌+ℤ◌ tt tt S.add_holds K.add_holds) e
-error_holds Sub t a b x y class i j h k e = fitted_fails t a b x y i h k Sub (x -ℤ y) class refl (pair_holds a b x y h k IL.All CL.All I.sub_row C.sub_row ◌-ℤ◌ tt tt S.sub_holds K.sub_holds) e
-error_holds Mul t a b x y class i j h k e = fitted_fails t a b x y i h k Mul (x *ℤ y) class refl (pair_holds a b x y h k IL.All CL.All I.mul_row C.mul_row ◌*ℤ◌ tt tt M.mul_holds K.mul_holds) e
+error_holds Add t a b x y class i j h k e = fitted_fails t a b x y i h k Add (x +ℤ y) class refl (pair_holds a b x y h k AnyNumbers AnyNumbers I.add_row C.add_row ◌+ℤ◌ tt tt S.add_holds K.add_holds) e
+error_holds Sub t a b x y class i j h k e = fitted_fails t a b x y i h k Sub (x -ℤ y) class refl (pair_holds a b x y h k AnyNumbers AnyNumbers I.sub_row C.sub_row ◌-ℤ◌ tt tt S.sub_holds K.sub_holds) e
+error_holds Mul t a b x y class i j h k e = fitted_fails t a b x y i h k Mul (x *ℤ y) class refl (pair_holds a b x y h k AnyNumbers AnyNumbers I.mul_row C.mul_row ◌*ℤ◌ tt tt M.mul_holds K.mul_holds) e
 error_holds Div t a b x y class i j h k e = div_fails t a b x y i h k class e
 error_holds Rem t a b x y class i j h k e = rem_fails t a b x y i h k class j e
 error_holds Shl t a b x y class i j h k e = shl_fails t a b x y i h k class e

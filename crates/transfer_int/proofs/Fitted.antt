@@ -7,21 +7,20 @@ use Rattle.std.proofs.Math.Nat.{mod-lt, mul-le-mul_left}
 use Rattle.std.proofs.lemmas.Nat.{div-add-mod', le-div}
 use Rattle.std.proofs.lemmas.Int.{ints, clamps, quot-rem, to_z-of_z}
 use Rattle.strided_dom.specs.Progression.{Progression, empty, Has, IsExactly, IsSpaced}
-use Rattle.strided_dom.proofs.Congruences.{divides}
 use Rattle.strided_dom.proofs.Members.{not_in_empty}
 use Rattle.interval_dom.specs.Interval.{Span}
-use Rattle.congruence_dom.specs.Class.{Divides}
+use Rattle.tm_numbers.specs.Divisors.{Divides}
 use Rattle.congruence_dom.specs.declared.classes.Cong.{Cong}
-use Rattle.congruence_dom.proofs.Divisibility.{divides_same, divides_add, divides_sub, divides_zero, divides_abs, divides_from_abs, from_natural}
-use Rattle.congruence_dom.proofs.Integers.{mul_neg, sub_mul}
+use Rattle.tm_numbers.proofs.Divisibility.{divides_same, divides_add, divides_sub, divides_zero, divides_abs, divides_from_abs, from_natural}
+use Rattle.tm_numbers.proofs.Integers.{mul_neg, sub_mul}
 use Rattle.tm_cint.specs.IntTypes.{IsIn, lo_of, hi_of, is_signed}
-use Rattle.tm_cint.specs.Conversions.{IsCongruent}
+use Rattle.tm_numbers.specs.Congruence.{IsCongruent}
 use Rattle.tm_cint.specs.declared.int_types.IntType.{IntType}
 use Rattle.tm_cint.specs.declared.operators.BinOp.{BinOp}
-use Rattle.transfer_int.specs.Fittings.{IsMember, IsMet, HasOutside, AreMembers, from_to}
+use Rattle.transfer_int.specs.reading.Fittings.{IsMember, IsMet, HasOutside, AreMembers, from_to}
 use Rattle.transfer_int.specs.Rows.{InRows}
 use Rattle.transfer_int.specs.Values.{IsWrapped, IsFitted, Leaves}
-use Rattle.transfer_int.proofs.Sets.{divided, congruent_from}
+use Rattle.tm_numbers.proofs.Congruences.{congruent_by, divides, divided, congruent_from}
 use Rattle.transfer_int.proofs.Placing.{nearest, ends_of}
 use Rattle.transfer_int.proofs.Wrapping.{fitting_grows}
 
@@ -192,14 +191,12 @@ none_wrapped t R s n z = record {
 
 -- ---- the value of an unsigned type that differs by turns
 
-pub by_rest : (n : ℕ) (v r : ℤ) → r ≡ int_rem v (pos (2 ^ n)) → IsCongruent n v r
-by_rest n v r e = (int_div v (pos (2 ^ n)), (let q = quot-rem v (pos (2 ^ n)) in omega (arith, ints, q, e)))
+pub by_rest : (n : ℕ) (v r : ℤ) → r ≡ int_rem v (pos (2 ^ n)) → IsCongruent (2 ^ n) v r
+by_rest n v r e = congruent_by (2 ^ n) v r (int_div v (pos (2 ^ n))) (let q = quot-rem v (pos (2 ^ n)) in omega (arith, ints, q, e))
 
-pub by_rest_up : (n : ℕ) (v r : ℤ) → r ≡ int_rem v (pos (2 ^ n)) +ℤ pos (2 ^ n) → IsCongruent n v r
-by_rest_up n v r e = (
-  int_div v (pos (2 ^ n)) -ℤ pos 1,
-  (let q = quot-rem v (pos (2 ^ n)) in let f = sub_mul (int_div v (pos (2 ^ n))) (pos 1) (pos (2 ^ n)) in omega (arith, ints, q, e, f)),
-)
+pub by_rest_up : (n : ℕ) (v r : ℤ) → r ≡ int_rem v (pos (2 ^ n)) +ℤ pos (2 ^ n) → IsCongruent (2 ^ n) v r
+by_rest_up n v r e = congruent_by (2 ^ n) v r (int_div v (pos (2 ^ n)) -ℤ pos 1)
+    (let q = quot-rem v (pos (2 ^ n)) in let f = sub_mul (int_div v (pos (2 ^ n))) (pos 1) (pos (2 ^ n)) in omega (arith, ints, q, e, f))
 
 -- ---- numbers as 128 bits keep them
 

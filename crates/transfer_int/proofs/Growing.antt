@@ -6,7 +6,7 @@ use Rattle.std.proofs.Math.Nat.{pow-le-pow_right}
 use Rattle.interval_dom.specs.Bitwise.{bit_length}
 use Rattle.interval_dom.proofs.Lengths.{length_grows}
 use Rattle.std.proofs.lemmas.Int.{ints, clamps}
-use Rattle.strided_dom.specs.Progression.{Progression, Has, IsBelow, first_of}
+use Rattle.strided_dom.specs.Progression.{Progression, Has, IsSubset, first_of}
 use Rattle.strided_dom.proofs.Members.{some_from}
 use Rattle.interval_dom.specs.Interval.{Span, InInterval}
 use Rattle.interval_dom.specs.Interval as IV
@@ -15,13 +15,14 @@ use Rattle.interval_dom.specs.Rows as I
 use Rattle.interval_dom.proofs.Sums as S
 use Rattle.interval_dom.proofs.Products as M
 use Rattle.interval_dom.proofs.Remainders as R
+use Rattle.tm_numbers.specs.Powers.{power}
 use Rattle.congruence_dom.specs.Laws as CL
 use Rattle.congruence_dom.specs.Rows as C
 use Rattle.congruence_dom.specs.declared.classes.Cong.{Cong}
 use Rattle.congruence_dom.proofs.Congruences as K
 use Rattle.congruence_dom.proofs.Quotients as Q
-use Rattle.congruence_dom.proofs.Divisibility.{divides_same, divides_add, divides_sub, divides_scaled}
-use Rattle.congruence_dom.proofs.Integers.{sub_mul}
+use Rattle.tm_numbers.proofs.Divisibility.{divides_same, divides_add, divides_sub, divides_scaled}
+use Rattle.tm_numbers.proofs.Integers.{sub_mul}
 use Rattle.transfer_int.specs.Operands.{span_of_set, class_of_set, IsDivisor, IsShifted, IsCount, IsResult, IsBetween}
 use Rattle.transfer_int.specs.Rows.{InRowPair, InQuotients, InRemainders, InLeftShifts, InRightShifts, InBits, InAnd, InOr, InRows, IsUnder}
 use Rattle.transfer_int.specs.Values.{IsTruth, IsValue, MayFail, Leaves, HasBadCount, ShiftsNegative}
@@ -51,8 +52,8 @@ in_within i j x h p = record { low = omega (arith, ints, h.low, p.low); high = o
 between_grows : (P Q : ℤ → Type 0) (v : ℤ) → ((r : ℤ) → P r → Q r) → IsBetween P v → IsBetween Q v
 between_grows P Q v more h = record { low = h.low; high = h.high; low_is = more h.low h.low_is; high_is = more h.high h.high_is; from = h.from; to = h.to }
 
-module _ (a b c d : Progression) (v : ℤ) (p : IsBelow a c) (q : IsBelow b d) where
-  has_first : (s t : Progression) → Has s (first_of s) → IsBelow s t → Has t (first_of t)
+module _ (a b c d : Progression) (v : ℤ) (p : IsSubset a c) (q : IsSubset b d) where
+  has_first : (s t : Progression) → Has s (first_of s) → IsSubset s t → Has t (first_of t)
   has_first s t h k = some_from t (first_of s) (k.within (first_of s) h)
 
   pair_grows : (span : Span → Span → Span) (class : Cong → Cong → Cong) → IL.Grows IL.Always span → CL.Grows class → InRowPair span class a b v → InRowPair span class c d v
@@ -82,7 +83,7 @@ module _ (a b c d : Progression) (v : ℤ) (p : IsBelow a c) (q : IsBelow b d) w
         between = between_grows _ _ v (λ r x. result_grows _ _ _ _ _ r p.within divisor_grows x) h.between;
         exact = λ w e n k.
             (let g = Q.div_grows (class_of_set a) (class_of_set c) w n k (class_within a c (some_from a l.left l.in_left) p) in
-            g.1 v (h.exact w (single_below b w (some_from b l.right l.in_right.member) (subst (λ s. IsBelow b s) e q)) n g.0));
+            g.1 v (h.exact w (single_below b w (some_from b l.right l.in_right.member) (subst (λ s. IsSubset b s) e q)) n g.0));
       }
 
   remainders_grow : InRemainders a b v → InRemainders c d v
@@ -105,8 +106,8 @@ module _ (a b c d : Progression) (v : ℤ) (p : IsBelow a c) (q : IsBelow b d) w
               let near = j z (shifted_grows z l.in_left) in
               let e = h.class.exact n m z (λ y f. k y (count_grows t y f)) l.in_left
               (λ y f. divides_same m (omega (arith, ints)) (divides_sub m (y -ℤ x) (z -ℤ x) (j y (shifted_grows y f)) near)) in
-              divides_same (m *ℤ C.power n) (omega (arith, ints, sub_mul z x (C.power n)))
-              (divides_add (m *ℤ C.power n) (v -ℤ z *ℤ C.power n) ((z -ℤ x) *ℤ C.power n) e (divides_scaled m (z -ℤ x) (C.power n) near)));
+              divides_same (m *ℤ power n) (omega (arith, ints, sub_mul z x (power n)))
+              (divides_add (m *ℤ power n) (v -ℤ z *ℤ power n) ((z -ℤ x) *ℤ power n) e (divides_scaled m (z -ℤ x) (power n) near)));
         };
       }
 
@@ -125,10 +126,10 @@ module _ (a b c d : Progression) (v : ℤ) (p : IsBelow a c) (q : IsBelow b d) w
     left = has_first a c h.left p;
     right = has_first b d h.right q;
     in_type = h.in_type;
-    exact = λ x y e k. h.exact x y (single_below a x h.left (subst (λ s. IsBelow a s) e p)) (single_below b y h.right (subst (λ s. IsBelow b s) k q));
+    exact = λ x y e k. h.exact x y (single_below a x h.left (subst (λ s. IsSubset a s) e p)) (single_below b y h.right (subst (λ s. IsSubset b s) k q));
   }
 
-  under_grows : (s t : Progression) → Has s (first_of s) → IsBelow s t → IsUnder s v → IsUnder t v
+  under_grows : (s t : Progression) → Has s (first_of s) → IsSubset s t → IsUnder s v → IsUnder t v
   under_grows s t some k h n =
       let w = span_within s t some k in
       let u = h (omega (arith, ints, n, w.low)) in
@@ -154,7 +155,7 @@ module _ (a b c d : Progression) (v : ℤ) (p : IsBelow a c) (q : IsBelow b d) w
   truth_grows : (op : BinOp) (t : IntType) → IsTruth op t a b v → IsTruth op t c d v
   truth_grows op t h = record { left = h.left; right = h.right; in_left = p.within h.left h.in_left; in_right = q.within h.right h.in_right; is = h.is }
 
-pub rows_grow : (op : BinOp) (t : IntType) (a b c d : Progression) (v : ℤ) → IsBelow a c → IsBelow b d → InRows op t a b v → InRows op t c d v
+pub rows_grow : (op : BinOp) (t : IntType) (a b c d : Progression) (v : ℤ) → IsSubset a c → IsSubset b d → InRows op t a b v → InRows op t c d v
 rows_grow Add t a b c d v p q h = pair_grows a b c d v p q I.add_row C.add_row S.add_grows K.add_grows h
 rows_grow Sub t a b c d v p q h = pair_grows a b c d v p q I.sub_row C.sub_row S.sub_grows K.sub_grows h
 rows_grow Mul t a b c d v p q h = pair_grows a b c d v p q I.mul_row C.mul_row M.mul_grows K.mul_grows h
@@ -172,7 +173,7 @@ rows_grow Ge t a b c d v p q h = absurd h
 rows_grow Eq t a b c d v p q h = absurd h
 rows_grow Ne t a b c d v p q h = absurd h
 
-pub value_grows : (op : BinOp) (t : IntType) (a b c d : Progression) (v : ℤ) → IsBelow a c → IsBelow b d → IsValue op t a b v → IsValue op t c d v
+pub value_grows : (op : BinOp) (t : IntType) (a b c d : Progression) (v : ℤ) → IsSubset a c → IsSubset b d → IsValue op t a b v → IsValue op t c d v
 value_grows Add t a b c d v p q h = fitting_grows t _ _ v (λ r x. rows_grow Add t a b c d r p q x) h
 value_grows Sub t a b c d v p q h = fitting_grows t _ _ v (λ r x. rows_grow Sub t a b c d r p q x) h
 value_grows Mul t a b c d v p q h = fitting_grows t _ _ v (λ r x. rows_grow Mul t a b c d r p q x) h
@@ -190,17 +191,17 @@ value_grows Ge t a b c d v p q h = truth_grows a b c d v p q Ge t h
 value_grows Eq t a b c d v p q h = truth_grows a b c d v p q Eq t h
 value_grows Ne t a b c d v p q h = truth_grows a b c d v p q Ne t h
 
-leaves_grow : (op : BinOp) (t : IntType) (a b c d : Progression) → IsBelow a c → IsBelow b d → Leaves op t a b → Leaves op t c d
+leaves_grow : (op : BinOp) (t : IntType) (a b c d : Progression) → IsSubset a c → IsSubset b d → Leaves op t a b → Leaves op t c d
 leaves_grow op t a b c d p q h = record { signed = h.signed; number = h.number; in_rows = rows_grow op t a b c d h.number p q h.in_rows; outside = h.outside }
 
-bad_count_grows : (t : IntType) (a b c d : Progression) → IsBelow a c → IsBelow b d → HasBadCount t a b → HasBadCount t c d
+bad_count_grows : (t : IntType) (a b c d : Progression) → IsSubset a c → IsSubset b d → HasBadCount t a b → HasBadCount t c d
 bad_count_grows t a b c d p q h = record { left = h.left; right = h.right; in_left = p.within h.left h.in_left; in_right = q.within h.right h.in_right; bad = h.bad }
 
-negative_grows : (t : IntType) (a b c d : Progression) → IsBelow a c → IsBelow b d → ShiftsNegative t a b → ShiftsNegative t c d
+negative_grows : (t : IntType) (a b c d : Progression) → IsSubset a c → IsSubset b d → ShiftsNegative t a b → ShiftsNegative t c d
 negative_grows t a b c d p q h =
     record { signed = h.signed; left = h.left; right = h.right; in_left = p.within h.left h.in_left; in_right = q.within h.right h.in_right; negative = h.negative }
 
-pub fail_grows : (op : BinOp) (t : IntType) (a b c d : Progression) (class : Class) → IsBelow a c → IsBelow b d → MayFail op t a b class → MayFail op t c d class
+pub fail_grows : (op : BinOp) (t : IntType) (a b c d : Progression) (class : Class) → IsSubset a c → IsSubset b d → MayFail op t a b class → MayFail op t c d class
 fail_grows op t a b c d Overflow p q (inl h) = inl (h.0, leaves_grow op t a b c d p q h.1)
 fail_grows op t a b c d Overflow p q (inr h) = inr (h.0, record { signed = h.1.signed; least = p.within _ h.1.least; minus_one = q.within _ h.1.minus_one })
 fail_grows op t a b c d DivByZero p q h =

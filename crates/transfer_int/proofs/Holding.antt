@@ -14,15 +14,17 @@ use Rattle.interval_dom.proofs.Sums as S
 use Rattle.interval_dom.proofs.Products as M
 use Rattle.interval_dom.proofs.Remainders as R
 use Rattle.interval_dom.proofs.Guarded.{both_true, is_le}
-use Rattle.congruence_dom.specs.Class.{Divides, InClass}
+use Rattle.tm_numbers.specs.Operands.{AnyNumbers, NotByZero}
+use Rattle.tm_numbers.specs.Powers.{power}
+use Rattle.congruence_dom.specs.Class.{InClass}
+use Rattle.tm_numbers.specs.Divisors.{Divides}
 use Rattle.congruence_dom.specs.Laws as CL
-use Rattle.congruence_dom.specs.Laws.{DividesAll}
 use Rattle.congruence_dom.specs.Rows as C
 use Rattle.congruence_dom.specs.declared.classes.Cong.{Cong}
 use Rattle.congruence_dom.proofs.Congruences as K
 use Rattle.congruence_dom.proofs.Quotients as Q
-use Rattle.congruence_dom.proofs.Divisibility.{divides_same, divides_product, divides_scaled}
-use Rattle.congruence_dom.proofs.Integers.{sub_mul}
+use Rattle.tm_numbers.proofs.Divisibility.{divides_same, divides_product, divides_scaled}
+use Rattle.tm_numbers.proofs.Integers.{sub_mul}
 use Rattle.transfer_int.specs.Operands.{span_of_set, class_of_set, IsDivisor, IsShifted, IsCount, IsResult, IsBetween}
 use Rattle.transfer_int.specs.Rows.{InRowPair, InQuotients, InRemainders, InLeftShifts, InRightShifts, InBits, InAnd}
 use Rattle.transfer_int.specs.Values.{IsFitted, IsValue}
@@ -50,8 +52,8 @@ pub rem_small : (x y : ℤ) → unsigned_abs x < unsigned_abs y → int_rem x y 
 rem_small (pos m) y l = ap pos (mod-eq_of_lt l)
 rem_small (negsuc m) y l = ap (λ n. neg_ℤ (pos n)) (mod-eq_of_lt l)
 
-pub powers_divide : (m n : ℕ) → m ≤ n → Divides (C.power m) (C.power n)
-powers_divide m n l = record { quotient = C.power (n - m); is = ap pos (ap (λ (e : ℕ). 2 ^ e) (rest m n l) ∙ pow-add 2 m (n - m)) }
+pub powers_divide : (m n : ℕ) → m ≤ n → Divides (power m) (power n)
+powers_divide m n l = record { quotient = power (n - m); is = ap pos (ap (λ (e : ℕ). 2 ^ e) (rest m n l) ∙ pow-add 2 m (n - m)) }
   where
     rest : (m n : ℕ) → m ≤ n → n ≡ m + (n - m)
     rest m n l = omega arith
@@ -83,7 +85,7 @@ module _ (a b : Progression) (x y : ℤ) (h : Has a x) (k : Has b y) where
   remainders_hold n =
       let divisor : IsDivisor b y = record { member = k; not_zero = n } in
       record {
-        rows = pair_holds IL.IsDivisor CL.IsDivisor I.rem_row C.rem_row int_rem n n R.rem_holds K.rem_holds;
+        rows = pair_holds NotByZero NotByZero I.rem_row C.rem_row int_rem n n R.rem_holds K.rem_holds;
         some = y;
         divisor = divisor;
         small = λ l. subst (λ w. Has a w) (sym (rem_small x y (l x y h divisor))) h;
@@ -96,10 +98,10 @@ module _ (a b : Progression) (x y : ℤ) (h : Has a x) (k : Has b y) where
       record {
         between = between_holds I.shift_left (IsShifted a) (IsCount t b) s n;
         class = record {
-          multiple = λ d m p q. divides_product d (C.power m) x (C.power (unsigned_abs y)) (p x s) (powers_divide m (unsigned_abs y) (q y n));
+          multiple = λ d m p q. divides_product d (power m) x (power (unsigned_abs y)) (p x s) (powers_divide m (unsigned_abs y) (q y n));
           exact = λ e m z p q r.
-              subst (λ w. Divides (m *ℤ C.power e) (x *ℤ C.power w -ℤ z *ℤ C.power e)) (sym (p y n))
-              (divides_same (m *ℤ C.power e) (sub_mul x z (C.power e)) (divides_scaled m (x -ℤ z) (C.power e) (r x s)));
+              subst (λ w. Divides (m *ℤ power e) (x *ℤ power w -ℤ z *ℤ power e)) (sym (p y n))
+              (divides_same (m *ℤ power e) (sub_mul x z (power e)) (divides_scaled m (x -ℤ z) (power e) (r x s)));
         };
       }
 
@@ -150,9 +152,9 @@ moved : (t : IntType) (S : ℤ → Type 0) (z r : ℤ) → IsFitted t S z → ok
 moved t S z r h e = subst (λ w. IsFitted t S w) (same z r e) h
 
 pub value_holds : (op : BinOp) (t : IntType) (a b : Progression) (x y r : ℤ) → IsIn t x → IsRightOperand op t y → Has a x → Has b y → outcome op t x y ≡ Ok r → IsValue op t a b r
-value_holds Add t a b x y r i j h k e = fitting_holds Overflow t _ _ r (pair_holds a b x y h k IL.All CL.All I.add_row C.add_row ◌+ℤ◌ tt tt S.add_holds K.add_holds) e
-value_holds Sub t a b x y r i j h k e = fitting_holds Overflow t _ _ r (pair_holds a b x y h k IL.All CL.All I.sub_row C.sub_row ◌-ℤ◌ tt tt S.sub_holds K.sub_holds) e
-value_holds Mul t a b x y r i j h k e = fitting_holds Overflow t _ _ r (pair_holds a b x y h k IL.All CL.All I.mul_row C.mul_row ◌*ℤ◌ tt tt M.mul_holds K.mul_holds) e
+value_holds Add t a b x y r i j h k e = fitting_holds Overflow t _ _ r (pair_holds a b x y h k AnyNumbers AnyNumbers I.add_row C.add_row ◌+ℤ◌ tt tt S.add_holds K.add_holds) e
+value_holds Sub t a b x y r i j h k e = fitting_holds Overflow t _ _ r (pair_holds a b x y h k AnyNumbers AnyNumbers I.sub_row C.sub_row ◌-ℤ◌ tt tt S.sub_holds K.sub_holds) e
+value_holds Mul t a b x y r i j h k e = fitting_holds Overflow t _ _ r (pair_holds a b x y h k AnyNumbers AnyNumbers I.mul_row C.mul_row ◌*ℤ◌ tt tt M.mul_holds K.mul_holds) e
 value_holds Div t a b x y r i j h k e =
     let d = right_of (is_zero y) _ _ r e in
     fitting_holds Overflow t _ _ r (quotients_hold a b x y h k (not_zero y d.0)) d.1

@@ -3,7 +3,7 @@ use Rattle.std.proofs.Common.{◌≡◌, ℤ, pos, ◌+ℤ◌, ◌-ℤ◌, ◌�
 use Rattle.std.specs.Prelude as P
 use Rattle.std.proofs.lemmas.Int.{ints}
 use Rattle.strided_dom.specs.Progression.{Progression, empty, Has, IsExactly, IsSpaced}
-use Rattle.strided_dom.proofs.Congruences.{cong_up}
+use Rattle.tm_numbers.proofs.Congruences.{cong_up}
 use Rattle.strided_dom.proofs.Members.{not_in_empty}
 use Rattle.tm_cint.specs.IntTypes.{IsIn, is_signed}
 use Rattle.tm_cint.specs.declared.int_types.IntType.{IntType}

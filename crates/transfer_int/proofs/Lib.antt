@@ -17,3 +17,5 @@ pub mod Spans
 pub mod Dividing
 pub mod Reducing
 pub mod Shifting
+pub mod TableWords
+pub mod Complementing

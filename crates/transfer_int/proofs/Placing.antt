@@ -1,27 +1,24 @@
 -- The wrapping of a progression: moved by turns where it then lies in the type, else its class in the type.
-use Rattle.std.proofs.Common.{◌≡◌, ℕ, zero, suc, ◌/◌, ◌%◌, ◌^◌, ◌<◌, ◌≤◌, ℤ, pos, negsuc, neg_ℤ, ◌+ℤ◌, ◌-ℤ◌, ◌*ℤ◌, ◌≤ℤ◌, refl, sym, ap, ◌∙◌, subst, arith}
+use Rattle.std.proofs.Common.{◌≡◌, ℕ, zero, suc, ◌/◌, ◌%◌, ◌^◌, ◌<◌, ◌≤◌, ℤ, pos, negsuc, neg_ℤ, ◌+ℤ◌, ◌-ℤ◌, ◌*ℤ◌, ◌≤ℤ◌, refl, sym, ap, ◌∙◌, subst, arith, ◌≢◌, ⊎_elim, true, false, nat_abs, to_z, of_z}
 use Rattle.std.specs.Prelude.{◌<ℤ◌, unsigned_abs}
-use Rattle.std.specs.Int.{◌∣◌, IsGcd}
-use Rattle.std.proofs.lemmas.Int.{ints}
+use Rattle.std.specs.Int.{◌∣◌, IsGcd, w128}
+use Rattle.std.proofs.lemmas.Int.{ints, to_z-of_z}
 use Rattle.std.proofs.lemmas.Nat.Gcd.{le_of_dvd}
 use Rattle.std.proofs.Math.Nat.{eq-zero_of_zero-dvd, mod-lt}
 use Rattle.std.specs.Prelude as P
-use Rattle.std.specs.Int.{w128}
-use Rattle.std.proofs.Common.{◌≢◌, ⊎_elim, true, false, nat_abs, to_z, of_z}
-use Rattle.std.proofs.lemmas.Int.{to_z-of_z}
 use Rattle.strided_dom.specs.Progression.{Progression, empty, single, Has, IsExactly, IsSpaced, first_of, last_of, stride_of}
 use Rattle.strided_dom.proofs.Members.{not_in_empty, some_or_empty, spaced_from, has_from, has_last, first_le_last}
 use Rattle.tm_cint.specs.Conversions.{converted_value}
-use Rattle.tm_cint.proofs.Values.{wrapped-in, converted_value-congruent}
-use Rattle.congruence_dom.specs.Class.{Divides}
-use Rattle.congruence_dom.proofs.Divisibility.{divides_same, divides_add, divides_sub, divides_times, divides_trans, divides_from_abs, to_natural, from_natural}
-use Rattle.congruence_dom.proofs.Integers.{mul_neg}
+use Rattle.tm_cint.proofs.Values.{wrapped-in, converted_value-turned}
+use Rattle.tm_numbers.specs.Divisors.{Divides}
+use Rattle.tm_numbers.proofs.Divisibility.{divides_same, divides_add, divides_sub, divides_times, divides_trans, divides_from_abs, to_natural, from_natural}
+use Rattle.tm_numbers.proofs.Integers.{mul_neg}
 use Rattle.tm_cint.specs.IntTypes.{IsIn, width_of, lo_of, hi_of}
 use Rattle.tm_cint.specs.declared.int_types.IntType.{IntType}
 use Rattle.tm_cint.specs.declared.int_types.IntType.TheVariants.{Bool, Char, UChar, Short, UShort, Int, UInt, Long, ULong, LLong, ULLong}
 use Rattle.std.proofs.lemmas.Nat.{pow_pos, div-add-mod'}
 use Rattle.transfer_int.specs.Values.{turns, IsWrapped}
-use Rattle.transfer_int.proofs.Sets.{divided, congruent_from}
+use Rattle.tm_numbers.proofs.Congruences.{divided, congruent_from}
 use Rattle.transfer_int.proofs.Wrapping.{same_turns, wrapping_grows}
 
 module _ (t : IntType) (low first k : ℤ) (extent m : ℕ) (start : IsIn t low) (moved : first ≡ low +ℤ turns t k) (steps : m ∣ extent) where
@@ -215,7 +212,7 @@ pub wrapped_exactly : (t : IntType) (a s : Progression) (low : ℤ) (extent m : 
     → extent ≡ nat_abs (last_of a -ℤ first_of a) → m ≡ stride_of a
     → ((first k : ℤ) → first ≡ low +ℤ turns t k → IsExactly (IsWrapped t (IsSpaced first (first +ℤ pos extent) m)) s) → IsExactly (IsWrapped t (Has a)) s
 wrapped_exactly t a s low extent m n some e f g h =
-    let c = converted_value-congruent (first_of a) t n in
+    let c = converted_value-turned (first_of a) t n in
     let end : first_of a +ℤ pos extent ≡ last_of a = omega (arith, ints, f, first_le_last a) in
     let exact = h (first_of a) c.0 (c.1 ∙ ap (λ x. x +ℤ turns t c.0) (sym e)) in
     rewrapped t (IsSpaced (first_of a) (last_of a) (stride_of a)) (Has a) s (λ v p. has_from a v some p) (λ v p. spaced_from a v p)

@@ -1,10 +1,10 @@
 -- The rows of remainders.
 use Rattle.std.proofs.Common.{◌≡◌, ◌≢◌, ◌⊎◌, inl, inr, ⊎_elim, ℕ, zero, suc, ◌+◌, ◌*◌, ◌<◌, ◌≤◌, ◌^◌, max, ℤ, pos, negsuc, neg_ℤ, ◌+ℤ◌, ◌-ℤ◌, ◌≤ℤ◌, true, false, refl, sym, ap, ◌∙◌, subst, arith}
 use Rattle.std.specs.Prelude as P
-use Rattle.std.specs.Prelude.{◌<ℤ◌, ◌↔◌, IsTrue, not, int_rem, unsigned_abs}
+use Rattle.std.specs.Prelude.{◌<ℤ◌, ◌↔◌, IsTrue, not, unsigned_abs}
 use Rattle.std.proofs.lemmas.Int.{ints, clamps}
 use Rattle.std.proofs.lemmas.Bool.{cases_lt}
-use Rattle.strided_dom.specs.Progression.{Progression, empty, single, row, Has, IsBelow, IsExactly, first_of, last_of}
+use Rattle.strided_dom.specs.Progression.{Progression, empty, single, row, Has, IsSubset, IsExactly, first_of, last_of}
 use Rattle.strided_dom.proofs.Members.{has_last, spaced_from}
 use Rattle.interval_dom.specs.Interval.{Span, span_of}
 use Rattle.interval_dom.specs.Interval as I
@@ -13,10 +13,10 @@ use Rattle.interval_dom.specs.Rows as IR
 use Rattle.congruence_dom.specs.Rows as C
 use Rattle.congruence_dom.specs.declared.classes.Cong.{Cong}
 use Rattle.tm_cint.specs.declared.int_types.IntType.{IntType}
-use Rattle.transfer_int.specs.Fittings.{AreRows}
+use Rattle.transfer_int.specs.reading.Fittings.{AreRows}
 use Rattle.transfer_int.specs.Operands.{AreValues, IsDivisor, span_of_set}
-use Rattle.transfer_int.specs.Parts.{IsPart}
-use Rattle.transfer_int.specs.Remainders.{HasSomeDivisor, AreSmaller}
+use Rattle.transfer_int.specs.reading.Parts.{IsPart}
+use Rattle.transfer_int.specs.reading.Remainders.{HasSomeDivisor, AreSmaller}
 use Rattle.transfer_int.specs.Rows.{InRemainders, InRowPair}
 use Rattle.transfer_int.specs.Values.{IsFitted}
 use Rattle.transfer_int.proofs.Holding.{remainders_hold, rem_small}
@@ -29,15 +29,15 @@ zero_or_not (pos zero) = inl refl
 zero_or_not (pos (suc n)) = inr (λ e. omega (arith, ints, e))
 zero_or_not (negsuc n) = inr (λ e. omega (arith, ints, e))
 
-zero_alone : (s : Progression) → IsBelow s (single (pos 0)) → (v : ℤ) → Has s v → v ≡ pos 0
+zero_alone : (s : Progression) → IsSubset s (single (pos 0)) → (v : ℤ) → Has s v → v ≡ pos 0
 unfolding Has
 zero_alone s h v p = h.within v p
 
-below_zero : (s : Progression) → ((v : ℤ) → Has s v → v ≡ pos 0) → IsBelow s (single (pos 0))
+below_zero : (s : Progression) → ((v : ℤ) → Has s v → v ≡ pos 0) → IsSubset s (single (pos 0))
 unfolding Has
 below_zero s h = record { within = h }
 
-divisor_or_none : (b : Progression) → HasSomeDivisor b ⊎ IsBelow b (single (pos 0))
+divisor_or_none : (b : Progression) → HasSomeDivisor b ⊎ IsSubset b (single (pos 0))
 unfolding Has
 divisor_or_none empty = inr (record { within = λ v h. absurd h })
 divisor_or_none (single w) = ⊎_elim (λ e. inr (record { within = λ v h. h ∙ e })) (λ n. inl (w, record { member = refl; not_zero = n })) (zero_or_not w)
@@ -45,7 +45,7 @@ divisor_or_none (row first gap more) =
     ⊎_elim (λ e. inl (first +ℤ pos (1 * (gap + 1)), record { member = (1, (omega arith, refl)); not_zero = λ z. omega (arith, ints, e, z) }))
     (λ n. inl (first, record { member = (0, (omega arith, omega (arith, ints))); not_zero = n })) (zero_or_not first)
 
-pub divisor_iff : (b : Progression) (t : P.Bool) → (IsTrue t ↔ IsBelow b (single (pos 0))) → (IsTrue (not t) ↔ HasSomeDivisor b)
+pub divisor_iff : (b : Progression) (t : P.Bool) → (IsTrue t ↔ IsSubset b (single (pos 0))) → (IsTrue (not t) ↔ HasSomeDivisor b)
 divisor_iff b true h = (λ e. absurd cc, λ d. absurd (d.1.not_zero (zero_alone b (h.0 refl) d.0 d.1.member)))
 divisor_iff b false h = (λ e. ⊎_elim (λ d. d) (λ k. absurd (let f = h.1 k in cc)) (divisor_or_none b), λ d. refl)
 
@@ -65,7 +65,7 @@ size_of s y h k = omega (arith, ints)
 
 pub smaller_iff : (a b p : Progression) (lo hi low high : ℤ) (t : P.Bool) → Has a (first_of a) → lo ≡ first_of a → hi ≡ last_of a
     → low ≡ neg_ℤ (pos (max (unsigned_abs lo) (unsigned_abs hi))) → high ≡ pos (max (unsigned_abs lo) (unsigned_abs hi)) → IsExactly (IsPart b low high) p
-    → (IsTrue t ↔ IsBelow p (single (pos 0))) → (IsTrue t ↔ AreSmaller a b)
+    → (IsTrue t ↔ IsSubset p (single (pos 0))) → (IsTrue t ↔ AreSmaller a b)
 smaller_iff a b p lo hi low high t some e f g h exact below = (λ u. to (below.0 u), λ u. below.1 (below_zero p (from u)))
   where
     size : ℕ
@@ -74,7 +74,7 @@ smaller_iff a b p lo hi low high t some e f g h exact below = (λ u. to (below.0
     in_part : (y : ℤ) → Has b y → unsigned_abs y ≤ size → Has p y
     in_part y k n = let r = in_size size y n in exact.complete y (record { member = k; from = omega (arith, ints, r.0, g); to = omega (arith, ints, r.1, h) })
 
-    to : IsBelow p (single (pos 0)) → AreSmaller a b
+    to : IsSubset p (single (pos 0)) → AreSmaller a b
     to u x y k d =
         let s = spaced_from a x k in
         let n = size_within lo hi x (omega (arith, ints, s.from, e)) (omega (arith, ints, s.to, f)) in

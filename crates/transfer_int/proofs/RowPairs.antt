@@ -17,7 +17,7 @@ use Rattle.tm_cint.specs.IntTypes.{IsIn, is_signed, lo_of, hi_of}
 use Rattle.tm_cint.specs.declared.int_types.IntType.{IntType}
 use Rattle.tm_cint.specs.declared.int_types.IntType.TheVariants.{Bool, Char, UChar, Short, UShort, Int, UInt, Long, ULong, LLong, ULLong}
 use Rattle.tm_cint.specs.declared.operators.BinOp.{BinOp}
-use Rattle.transfer_int.specs.Fittings.{IsMember, AreRows, HasOutside}
+use Rattle.transfer_int.specs.reading.Fittings.{IsMember, AreRows, HasOutside}
 use Rattle.transfer_int.specs.Operands.{AreValues, span_of_set, class_of_set}
 use Rattle.transfer_int.specs.Rows.{InRowPair, InRows}
 use Rattle.transfer_int.specs.Values.{IsFitted, Leaves, ones_of}
@@ -113,7 +113,7 @@ module _ (t : IntType) (a : Progression) (values : AreValues t a) (some : IsSome
   pub type_span : (i : Interval) → span_of i ≡ span_of_set a → I.HasTypeValues i
   type_span i e = record { low = omega (arith, ints, lo_is i e, first_in.at_least, ends_of t); high = omega (arith, ints, hi_is i e, last_in.at_most, ends_of t) }
 
-  pub type_class : (k : Cong) → k ≡ class_of_set a → C.HasTypeValues k
+  pub type_class : (k : Cong) → k ≡ class_of_set a → C.IsTypeClass k
   type_class k e = record {
     low = omega (arith, ints, residue_is k e, first_in.at_least, ends_of t);
     high = omega (arith, ints, residue_is k e, first_in.at_most, ends_of t);
@@ -124,7 +124,7 @@ module _ (t : IntType) (a : Progression) (values : AreValues t a) (some : IsSome
   pub signed_span : is_signed t ≡ true → (i : Interval) → span_of i ≡ span_of_set a → I.HasSignedValues i
   signed_span s i e = record { low = omega (arith, ints, lo_is i e, first_in.at_least, ends_of t); high = omega (arith, ints, hi_is i e, last_in.at_most, signed_end t s) }
 
-  pub signed_class : is_signed t ≡ true → (k : Cong) → k ≡ class_of_set a → C.HasSignedValues k
+  pub signed_class : is_signed t ≡ true → (k : Cong) → k ≡ class_of_set a → C.IsSignedClass k
   signed_class s k e = record {
     low = omega (arith, ints, residue_is k e, first_in.at_least, ends_of t);
     high = omega (arith, ints, residue_is k e, modulus_is k e, next_in.at_most, signed_end t s);
@@ -134,7 +134,7 @@ module _ (t : IntType) (a : Progression) (values : AreValues t a) (some : IsSome
   pub unsigned_span : is_signed t ≡ false → (i : Interval) → span_of i ≡ span_of_set a → I.HasUnsignedValues i
   unsigned_span s i e = record { low = omega (arith, ints, lo_is i e, first_in.at_least, unsigned_start t s); high = omega (arith, ints, hi_is i e, last_in.at_most, ends_of t) }
 
-  pub unsigned_class : is_signed t ≡ false → (k : Cong) → k ≡ class_of_set a → C.HasUnsignedValues k
+  pub unsigned_class : is_signed t ≡ false → (k : Cong) → k ≡ class_of_set a → C.IsUnsignedClass k
   unsigned_class s k e = record {
     low = omega (arith, ints, residue_is k e, first_in.at_least, unsigned_start t s);
     high = omega (arith, ints, residue_is k e, first_in.at_most, ends_of t);

@@ -11,14 +11,15 @@ use Rattle.interval_dom.specs.declared.intervals.Interval.{Interval}
 use Rattle.interval_dom.specs.Rows as I
 use Rattle.interval_dom.proofs.Guarded.{both_true, is_le}
 use Rattle.interval_dom.proofs.Floors.{shr_holds, shl_holds}
-use Rattle.congruence_dom.specs.Class.{Divides, InClass}
-use Rattle.congruence_dom.specs.Gcd.{int_gcd}
+use Rattle.tm_numbers.specs.Powers.{power}
+use Rattle.congruence_dom.specs.Class.{InClass}
+use Rattle.tm_numbers.specs.Divisors.{Divides, int_gcd}
 use Rattle.congruence_dom.specs.Laws.{DividesAll}
 use Rattle.congruence_dom.specs.Rows as C
 use Rattle.congruence_dom.specs.declared.classes.Cong.{Cong}
-use Rattle.congruence_dom.proofs.Divisibility.{divides_same, divides_add, divides_sub, divides_trans, divides_product, divides_scaled}
-use Rattle.congruence_dom.proofs.Gcds.{is_greatest}
-use Rattle.congruence_dom.proofs.Integers.{sub_mul}
+use Rattle.tm_numbers.proofs.Divisibility.{divides_same, divides_add, divides_sub, divides_trans, divides_product, divides_scaled}
+use Rattle.tm_numbers.proofs.Gcds.{is_greatest}
+use Rattle.tm_numbers.proofs.Integers.{sub_mul}
 use Rattle.congruence_dom.proofs.Quotients.{power_not_zero}
 use Rattle.tm_cint.proofs.Values.{int_shr-in}
 use Rattle.tm_cint.proofs.Wide.{power_at_most}
@@ -26,11 +27,11 @@ use Rattle.tm_cint.specs.IntTypes.{IsIn, width_of, hi_of}
 use Rattle.tm_cint.specs.Operators.{is_count}
 use Rattle.tm_cint.specs.declared.int_types.IntType.{IntType}
 use Rattle.tm_cint.specs.declared.int_types.IntType.TheVariants.{Char, UChar, Short, UShort, Int, UInt, Long, ULong, LLong, ULLong, Bool as BoolType}
-use Rattle.transfer_int.specs.Fittings.{AreRows}
+use Rattle.transfer_int.specs.reading.Fittings.{AreRows}
 use Rattle.transfer_int.specs.Operands.{AreValues, IsCount, IsShifted, IsResult, span_of_set, class_of_set}
-use Rattle.transfer_int.specs.Parts.{IsPart, IsLeastSpan}
-use Rattle.transfer_int.specs.Quotients.{IsCommonDivisor}
-use Rattle.transfer_int.specs.Shifts.{AreCounts}
+use Rattle.transfer_int.specs.reading.Parts.{IsPart, IsLeastSpan}
+use Rattle.transfer_int.specs.reading.Quotients.{IsCommonDivisor}
+use Rattle.transfer_int.specs.reading.Shifts.{AreShiftCounts}
 use Rattle.transfer_int.specs.Rows.{InLeftShiftClass, InLeftShifts, InRightShiftClass, InRightShifts}
 use Rattle.transfer_int.proofs.BitSets.{le_is, true_both}
 use Rattle.transfer_int.proofs.Holding.{powers_divide}
@@ -67,7 +68,7 @@ counts_are t b s low high e f exact = record {
 
 -- ---- one count
 
-pub one_count : (c : Progression) → Has c (first_of c) → AreCounts c → (n : ℕ) → ((y : ℤ) → Has c y → unsigned_abs y ≡ n) → first_of c ≡ last_of c
+pub one_count : (c : Progression) → Has c (first_of c) → AreShiftCounts c → (n : ℕ) → ((y : ℤ) → Has c y → unsigned_abs y ≡ n) → first_of c ≡ last_of c
 one_count c q counts n same =
     let l = has_last c q in
     omega (arith, ints, same (first_of c) q, same (last_of c) l, (counts.all (first_of c) q).0, (counts.all (last_of c) l).0)
@@ -77,7 +78,7 @@ only_count c q one y h = let r = spaced_from c y h in let e : y ≡ first_of c =
 
 -- ---- left: the class
 
-module _ (s c : Progression) (p : Has s (first_of s)) (q : Has c (first_of c)) (counts : AreCounts c) where
+module _ (s c : Progression) (p : Has s (first_of s)) (q : Has c (first_of c)) (counts : AreShiftCounts c) where
   -- the least count, and the class of the numbers
   abbrev Least : ℕ
   Least = unsigned_abs (first_of c)
@@ -100,15 +101,15 @@ module _ (s c : Progression) (p : Has s (first_of s)) (q : Has c (first_of c)) (
   -- by counts of which there may be many
   pub from_many : (k : Cong) → k ≡ C.shl_from_row (class_of_set s) Least → ((first_of c ≡ last_of c) → ⊥) → (v : ℤ) → (InClass k v → Shifted v) × (Shifted v → InClass k v)
   from_many k e many v = (
-    λ h. (let g : Divides (int_gcd (pos (stride_of s)) (first_of s) *ℤ C.power Least) (v -ℤ pos 0) = subst (λ x. InClass x v) e h in record {
+    λ h. (let g : Divides (int_gcd (pos (stride_of s)) (first_of s) *ℤ power Least) (v -ℤ pos 0) = subst (λ x. InClass x v) e h in record {
       multiple = λ d n all low.
           (let m = is_greatest.greatest d (pos (stride_of s)) (first_of s) (all_stride d (pos 0) (from_zero d all)) (all_first d all) in
-          let r = divides_product d (C.power n) (int_gcd (pos (stride_of s)) (first_of s)) (C.power Least) m (powers_divide n Least (low (first_of c) q)) in
-          divides_same (d *ℤ C.power n) (omega (arith, ints)) (divides_trans (d *ℤ C.power n) _ (v -ℤ pos 0) r g));
+          let r = divides_product d (power n) (int_gcd (pos (stride_of s)) (first_of s)) (power Least) m (powers_divide n Least (low (first_of c) q)) in
+          divides_same (d *ℤ power n) (omega (arith, ints)) (divides_trans (d *ℤ power n) _ (v -ℤ pos 0) r g));
       exact = λ n m x same here near. absurd (many (one_count c q counts n same));
     }),
     λ h. subst (λ x. InClass x v) (sym e)
-        (divides_same (int_gcd (pos (stride_of s)) (first_of s) *ℤ C.power Least) (omega (arith, ints)) (h.multiple (int_gcd (pos (stride_of s)) (first_of s)) Least all_divided least_below)),
+        (divides_same (int_gcd (pos (stride_of s)) (first_of s) *ℤ power Least) (omega (arith, ints)) (h.multiple (int_gcd (pos (stride_of s)) (first_of s)) Least all_divided least_below)),
   )
     where
       all_divided : (x : ℤ) → Has s x → Divides (int_gcd (pos (stride_of s)) (first_of s)) x
@@ -120,19 +121,19 @@ module _ (s c : Progression) (p : Has s (first_of s)) (q : Has c (first_of c)) (
   -- by one count
   pub from_one : (k : Cong) → k ≡ C.shl_row (class_of_set s) Least → first_of c ≡ last_of c → (v : ℤ) → (InClass k v → Shifted v) × (Shifted v → InClass k v)
   from_one k e one v = (
-    λ h. (let g : Divides (pos (stride_of s) *ℤ C.power Least) (v -ℤ first_of s *ℤ C.power Least) = subst (λ x. InClass x v) e h in record {
+    λ h. (let g : Divides (pos (stride_of s) *ℤ power Least) (v -ℤ first_of s *ℤ power Least) = subst (λ x. InClass x v) e h in record {
       multiple = λ d n all low.
           (let w = powers_divide n Least (low (first_of c) q) in
-          let r = divides_product d (C.power n) (pos (stride_of s)) (C.power Least) (all_stride d (pos 0) (from_zero d all)) w in
-          let f = divides_product d (C.power n) (first_of s) (C.power Least) (all_first d all) w in
-          divides_same (d *ℤ C.power n) (omega (arith, ints))
-          (divides_add (d *ℤ C.power n) (v -ℤ first_of s *ℤ C.power Least) (first_of s *ℤ C.power Least) (divides_trans (d *ℤ C.power n) _ _ r g) f));
+          let r = divides_product d (power n) (pos (stride_of s)) (power Least) (all_stride d (pos 0) (from_zero d all)) w in
+          let f = divides_product d (power n) (first_of s) (power Least) (all_first d all) w in
+          divides_same (d *ℤ power n) (omega (arith, ints))
+          (divides_add (d *ℤ power n) (v -ℤ first_of s *ℤ power Least) (first_of s *ℤ power Least) (divides_trans (d *ℤ power n) _ _ r g) f));
       exact = λ n m x same here near.
-          (let r = divides_scaled m (pos (stride_of s)) (C.power Least) (all_stride m x near) in
-          let f = divides_scaled m (first_of s -ℤ x) (C.power Least) (near (first_of s) p) in
-          let sum = divides_same (m *ℤ C.power Least) (omega (arith, ints, sub_mul (first_of s) x (C.power Least)))
-          (divides_add (m *ℤ C.power Least) (v -ℤ first_of s *ℤ C.power Least) ((first_of s -ℤ x) *ℤ C.power Least) (divides_trans (m *ℤ C.power Least) _ _ r g) f) in
-          subst (λ w. Divides (m *ℤ C.power w) (v -ℤ x *ℤ C.power w)) (same (first_of c) q) sum);
+          (let r = divides_scaled m (pos (stride_of s)) (power Least) (all_stride m x near) in
+          let f = divides_scaled m (first_of s -ℤ x) (power Least) (near (first_of s) p) in
+          let sum = divides_same (m *ℤ power Least) (omega (arith, ints, sub_mul (first_of s) x (power Least)))
+          (divides_add (m *ℤ power Least) (v -ℤ first_of s *ℤ power Least) ((first_of s -ℤ x) *ℤ power Least) (divides_trans (m *ℤ power Least) _ _ r g) f) in
+          subst (λ w. Divides (m *ℤ power w) (v -ℤ x *ℤ power w)) (same (first_of c) q) sum);
     }),
     λ h. subst (λ x. InClass x v) (sym e) (h.exact Least (pos (stride_of s)) (first_of s) (only_count c q one) p (in_class s)),
   )
@@ -162,10 +163,10 @@ width_most ULong = omega arith
 width_most LLong = omega arith
 width_most ULLong = omega arith
 
-pub are_counts : (t : IntType) (b c : Progression) → IsExactly (IsCount t b) c → AreCounts c
+pub are_counts : (t : IntType) (b c : Progression) → IsExactly (IsCount t b) c → AreShiftCounts c
 are_counts t b c exact = record { all = λ y h. (let k = count_between t y (exact.sound y h).count in (k.0, omega (arith, ints, k.1, width_most t))) }
 
-pub counts_span : (c : Progression) (i : Interval) → AreCounts c → Has c (first_of c) → span_of i ≡ span_of_set c → HasCounts i
+pub counts_span : (c : Progression) (i : Interval) → AreShiftCounts c → Has c (first_of c) → span_of i ≡ span_of_set c → HasCounts i
 counts_span c i counts q e =
     let l = ap (λ (s : Span). s.lo) e in
     let h = ap (λ (s : Span). s.hi) e in
@@ -244,33 +245,33 @@ no_counts t a b c e exact v h = let r = h.between.low_is in none_in c r.right e 
 
 -- ---- right
 
-module _ (a c : Progression) (q : Has c (first_of c)) (counts : AreCounts c) where
+module _ (a c : Progression) (q : Has c (first_of c)) (counts : AreShiftCounts c) where
   abbrev ShiftedClass : ℤ → Type 0
   ShiftedClass = InRightShiftClass a (Has c)
 
   pub right_by_many : (k : Cong) → ((v : ℤ) → InClass k v) → (first_of c ≡ last_of c → ⊥) → (v : ℤ) → (InClass k v → ShiftedClass v) × (ShiftedClass v → InClass k v)
   right_by_many k all many v = (λ h n same d. absurd (many (one_count c q counts n same)), λ h. all v)
 
-  pub right_undivided : (k : Cong) (p : ℤ) (class : Cong) (t : P.Bool) → ((v : ℤ) → InClass k v) → p ≡ C.power (unsigned_abs (first_of c)) → class ≡ class_of_set a → (IsTrue t ↔ IsCommonDivisor p class) → t ≡ false
+  pub right_undivided : (k : Cong) (p : ℤ) (class : Cong) (t : P.Bool) → ((v : ℤ) → InClass k v) → p ≡ power (unsigned_abs (first_of c)) → class ≡ class_of_set a → (IsTrue t ↔ IsCommonDivisor p class) → t ≡ false
       → (v : ℤ) → (InClass k v → ShiftedClass v) × (ShiftedClass v → InClass k v)
   right_undivided k p class t all e f i g v = (λ h n same d. absurd (no n same d), λ h. all v)
     where
-      no : (n : ℕ) → ((y : ℤ) → Has c y → unsigned_abs y ≡ n) → DividesAll (C.power n) (class_of_set a) → ⊥
+      no : (n : ℕ) → ((y : ℤ) → Has c y → unsigned_abs y ≡ n) → DividesAll (power n) (class_of_set a) → ⊥
       no n same d =
-          let s : C.power n ≡ p = ap C.power (sym (same (first_of c) q)) ∙ sym e in
-          let u : IsCommonDivisor (C.power n) (class_of_set a) = record { not_zero = power_not_zero n; divides = d } in
-          let w = i.1 (subst (λ x. IsCommonDivisor x class) s (subst (λ x. IsCommonDivisor (C.power n) x) (sym f) u)) in
+          let s : power n ≡ p = ap power (sym (same (first_of c) q)) ∙ sym e in
+          let u : IsCommonDivisor (power n) (class_of_set a) = record { not_zero = power_not_zero n; divides = d } in
+          let w = i.1 (subst (λ x. IsCommonDivisor x class) s (subst (λ x. IsCommonDivisor (power n) x) (sym f) u)) in
           cc
 
-  pub right_by_one : (k : Cong) → k ≡ C.shr_row (class_of_set a) (unsigned_abs (first_of c)) → first_of c ≡ last_of c → DividesAll (C.power (unsigned_abs (first_of c))) (class_of_set a)
+  pub right_by_one : (k : Cong) → k ≡ C.shr_row (class_of_set a) (unsigned_abs (first_of c)) → first_of c ≡ last_of c → DividesAll (power (unsigned_abs (first_of c))) (class_of_set a)
       → (v : ℤ) → (InClass k v → ShiftedClass v) × (ShiftedClass v → InClass k v)
   right_by_one k e one d v = (
     λ h n same g. subst (λ m. InClass (C.shr_row (class_of_set a) m) v) (same (first_of c) q) (subst (λ x. InClass x v) e h),
     λ h. subst (λ x. InClass x v) (sym e) (h (unsigned_abs (first_of c)) (only_count c q one) d),
   )
 
-pub divides_class : (p : ℤ) (n : ℕ) (k l : Cong) → p ≡ C.power n → k ≡ l → IsCommonDivisor p k → DividesAll (C.power n) l
-divides_class p n k l e f h = subst (λ x. DividesAll (C.power n) x) f (subst (λ x. DividesAll x k) e h.divides)
+pub divides_class : (p : ℤ) (n : ℕ) (k l : Cong) → p ≡ power n → k ≡ l → IsCommonDivisor p k → DividesAll (power n) l
+divides_class p n k l e f h = subst (λ x. DividesAll (power n) x) f (subst (λ x. DividesAll x k) e h.divides)
 
 right_narrow : (t : IntType) (a b : Progression) (i : Interval) → AreValues t a → IsLeastSpan (IsResult I.shift_right (Has a) (IsCount t b)) (span_of i) → (i.hi -ℤ i.lo) <ℤ pos (2 ^ 127)
 right_narrow t a b i values h = omega (arith, ints, (in_type i.lo h.least.member).at_least, (in_type i.hi h.greatest.member).at_most, length_of t)

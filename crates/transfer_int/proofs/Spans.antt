@@ -5,16 +5,17 @@ use Rattle.std.specs.Int.{int_max, int_min}
 use Rattle.std.proofs.lemmas.Int.{ints, clamps}
 use Rattle.strided_dom.specs.Progression.{Progression, empty, Has, IsExactly, IsSpaced, first_of}
 use Rattle.strided_dom.specs.Combinations.{IsInBoth}
-use Rattle.strided_dom.proofs.Congruences.{cong_up}
+use Rattle.tm_numbers.proofs.Congruences.{cong_up}
 use Rattle.strided_dom.proofs.Members.{has_last, some_or_empty}
 use Rattle.interval_dom.specs.Interval.{Span, InInterval, span_of}
 use Rattle.interval_dom.specs.declared.intervals.Interval.{Interval}
 use Rattle.interval_dom.specs.Rows.{least, greatest, spanned, at_ends}
-use Rattle.congruence_dom.specs.Class.{Divides, InClass}
+use Rattle.congruence_dom.specs.Class.{InClass}
+use Rattle.tm_numbers.specs.Divisors.{Divides}
 use Rattle.congruence_dom.specs.declared.classes.Cong.{Cong}
 use Rattle.transfer_int.specs.Operands.{AreValues, IsResult, IsBetween, span_of_set}
-use Rattle.transfer_int.specs.Fittings.{AreRows}
-use Rattle.transfer_int.specs.Parts.{IsPart, IsLeastSpan}
+use Rattle.transfer_int.specs.reading.Fittings.{AreRows}
+use Rattle.transfer_int.specs.reading.Parts.{IsPart, IsLeastSpan}
 use Rattle.transfer_int.proofs.Inside.{none_in}
 use Rattle.tm_cint.specs.declared.int_types.IntType.{IntType}
 

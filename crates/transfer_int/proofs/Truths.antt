@@ -3,9 +3,10 @@ use Rattle.std.proofs.Common.{◌≡◌, ◌≢◌, zero, suc, ℤ, pos, negsuc,
 use Rattle.std.specs.Prelude as P
 use Rattle.std.specs.Prelude.{int_le}
 use Rattle.std.proofs.lemmas.Int.{ints}
-use Rattle.strided_dom.specs.Progression.{Progression, empty, single, Has, IsExactly, IsLeast, IsGreatest, IsSpaced, IsCongruent}
+use Rattle.strided_dom.specs.Progression.{Progression, empty, single, Has, IsExactly, IsLeastNumber, IsGreatestNumber, IsSpaced}
+use Rattle.tm_numbers.specs.Congruence.{IsCongruent}
 use Rattle.strided_dom.proofs.Members.{not_in_empty}
-use Rattle.strided_dom.proofs.Congruences.{cong_up}
+use Rattle.tm_numbers.proofs.Congruences.{cong_up}
 use Rattle.tm_cint.specs.Conversions.{converted_value}
 use Rattle.tm_cint.specs.declared.int_types.IntType.TheVariants.{Bool}
 use Rattle.transfer_int.specs.Values.{IsConverted}
@@ -33,7 +34,7 @@ one a s m h n e = record {
   complete = λ v p. (let q : v ≡ pos 1 = p.1.1 ∙ not_zero p.0 (λ z. n (subst (λ x. Has a x) z p.1.0)) in subst (λ x. Has x v) (sym e) q);
 }
 
-pub zero_alone : (a s : Progression) (lo hi : ℤ) → Has a (pos 0) → IsLeast (Has a) lo → IsGreatest (Has a) hi → lo ≡ hi → s ≡ single (pos 0) → IsExactly (IsConverted Bool a) s
+pub zero_alone : (a s : Progression) (lo hi : ℤ) → Has a (pos 0) → IsLeastNumber (Has a) lo → IsGreatestNumber (Has a) hi → lo ≡ hi → s ≡ single (pos 0) → IsExactly (IsConverted Bool a) s
 unfolding Has
 zero_alone a s lo hi h least greatest same e = record {
   sound = λ v p. (let q : v ≡ pos 0 = subst (λ x. Has x v) e p in (pos 0, (h, q)));

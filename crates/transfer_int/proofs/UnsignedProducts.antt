@@ -11,19 +11,21 @@ use Rattle.interval_dom.specs.Interval.{Span, InInterval, span_of_unsigned}
 use Rattle.interval_dom.specs.Rows as IR
 use Rattle.interval_dom.specs.declared.intervals.IntervalU.{IntervalU}
 use Rattle.interval_dom.proofs.Ranges.{natural_row}
-use Rattle.congruence_dom.specs.Class.{Divides, InClass, class_of_unsigned}
+use Rattle.congruence_dom.specs.Class.{InClass, class_of_unsigned}
+use Rattle.tm_numbers.specs.Divisors.{Divides}
 use Rattle.congruence_dom.specs.Rows as CR
 use Rattle.congruence_dom.specs.declared.classes.Cong.{Cong}
 use Rattle.congruence_dom.specs.declared.classes.CongU.{CongU}
 use Rattle.congruence_dom.proofs.Congruences.{mul_holds}
-use Rattle.congruence_dom.proofs.Divisibility.{divides_same, to_natural}
+use Rattle.tm_numbers.proofs.Divisibility.{divides_same, to_natural}
 use Rattle.tm_cint.specs.IntTypes.{IsIn, is_signed, width_of, hi_of}
 use Rattle.tm_cint.specs.declared.int_types.IntType.{IntType}
 use Rattle.tm_cint.specs.declared.int_types.IntType.TheVariants.{Bool, Char, UChar, Short, UShort, Int, UInt, Long, ULong, LLong, ULLong}
 use Rattle.transfer_int.specs.Operands.{AreValues, span_of_set, class_of_set}
 use Rattle.transfer_int.specs.Rows.{InRowPair}
 use Rattle.transfer_int.specs.Values.{turns, IsWrapped}
-use Rattle.transfer_int.proofs.Sets.{in_class, divided, congruent_from}
+use Rattle.transfer_int.proofs.Sets.{in_class}
+use Rattle.tm_numbers.proofs.Congruences.{divided, congruent_from}
 use Rattle.transfer_int.proofs.Placing.{rewrapped, ends_of}
 use Rattle.transfer_int.proofs.RowPairs.{unsigned_start}
 

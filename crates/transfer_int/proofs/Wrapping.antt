@@ -3,16 +3,16 @@ use Rattle.std.proofs.Common.{◌≡◌, ◌^◌, ℤ, pos, neg_ℤ, ◌+ℤ◌,
 use Rattle.std.specs.Prelude as P
 use Rattle.std.specs.Prelude.{Err}
 use Rattle.std.proofs.lemmas.Int.{ints}
-use Rattle.strided_dom.specs.Progression.{Progression, Has, IsBelow}
-use Rattle.congruence_dom.proofs.Divisibility.{divides_same, divides_times}
-use Rattle.congruence_dom.proofs.Integers.{mul_neg}
+use Rattle.strided_dom.specs.Progression.{Progression, Has, IsSubset}
+use Rattle.tm_numbers.proofs.Divisibility.{divides_same, divides_times}
+use Rattle.tm_numbers.proofs.Integers.{mul_neg}
 use Rattle.tm_cint.specs.IntTypes.{IsIn, is_in, is_signed, width_of}
 use Rattle.tm_cint.specs.Conversions.{wrapped, converted_value}
 use Rattle.tm_cint.specs.Operators.{fitted}
 use Rattle.tm_cint.specs.declared.Class.{Class}
 use Rattle.tm_cint.specs.declared.int_types.IntType.{IntType}
 use Rattle.tm_cint.specs.declared.int_types.IntType.TheVariants.{Bool, Char, UChar, Short, UShort, Int, UInt, Long, ULong, LLong, ULLong}
-use Rattle.tm_cint.proofs.Values.{wrapped-in, wrapped-congruent}
+use Rattle.tm_cint.proofs.Values.{wrapped-in, wrapped-turned}
 use Rattle.tm_cint.proofs.Ranges.{IsIn-from_test}
 use Rattle.transfer_int.specs.Values.{turns, IsWrapped, IsFitted, IsConverted}
 
@@ -39,7 +39,7 @@ apart z w j m e = mul_neg m j ∙ omega (arith, ints)
 
 pub wrapping_holds : (t : IntType) (R : ℤ → Type 0) (z : ℤ) → R z → IsWrapped t R (wrapped t z)
 wrapping_holds t R z p =
-    let j = wrapped-congruent t z in
+    let j = wrapped-turned t z in
     record {
       in_type = wrapped-in t z;
       some = z;
@@ -91,7 +91,7 @@ conversion_holds ULong a x h = wrapping_holds ULong (Has a) x h
 conversion_holds LLong a x h = wrapping_holds LLong (Has a) x h
 conversion_holds ULLong a x h = wrapping_holds ULLong (Has a) x h
 
-pub conversion_grows : (t : IntType) (a c : Progression) (v : ℤ) → IsBelow a c → IsConverted t a v → IsConverted t c v
+pub conversion_grows : (t : IntType) (a c : Progression) (v : ℤ) → IsSubset a c → IsConverted t a v → IsConverted t c v
 conversion_grows Bool a c v b h = (h.0, (b.within h.0 h.1.0, h.1.1))
 conversion_grows Char a c v b h = wrapping_grows Char (Has a) (Has c) v b.within h
 conversion_grows UChar a c v b h = wrapping_grows UChar (Has a) (Has c) v b.within h

@@ -29,7 +29,8 @@ pub record IsDivisor (b : Progression) (y : ℤ) : Type 0 where
   pub member : Has b y
   pub not_zero : y ≢ pos 0
 
--- x is a member that is not negative: a negative one of a signed type may not be shifted left (C99 6.5.7), and an unsigned type has none.
+-- x is a member that is not negative: a negative one of a signed type may not be shifted left (C99 6.5.7), and an
+-- unsigned type has none.
 pub record IsShifted (a : Progression) (x : ℤ) : Type 0 where
   pub member : Has a x
   pub not_negative : pos 0 ≤ℤ x

@@ -2,7 +2,8 @@
 use Rattle.std.specs.Prelude.{false}
 use Rattle.std.specs.Prelude as P
 use Rattle.tm_cint.specs.declared.Class.{Class}
-use Rattle.tm_cint.specs.declared.Class.TheVariants.{Overflow, Shift, Index, Pointer, Deref, Lock, Race, Div as DivByZero}
+use Rattle.tm_cint.specs.declared.Class.TheVariants.{Overflow, Shift, Index, Pointer, Deref, Lock, Race}
+use Rattle.tm_cint.specs.declared.Class.TheVariants.{Div as DivByZero}
 use Rattle.transfer_int.specs.declared.outcomes.Classes.{Classes}
 
 -- The class is noted; `Race` is none of an outcome.

@@ -1,10 +1,13 @@
 -- R: for each operator the integers that lie in all of its rows whose guards hold.
-use Rattle.std.specs.Prelude.{◌≡◌, ◌≢◌, ℕ, ◌<◌, ◌≤◌, ℤ, pos, ◌-ℤ◌, ◌*ℤ◌, ◌≤ℤ◌, unsigned_abs, int_div, bit_and, bit_or, bit_xor}
+use Rattle.std.specs.Prelude.{◌≡◌, ◌≢◌, ℕ, ◌<◌, ◌≤◌, ℤ, pos, ◌-ℤ◌, ◌*ℤ◌, ◌≤ℤ◌, unsigned_abs, int_div, bit_and, bit_or}
+use Rattle.std.specs.Prelude.{bit_xor}
 use Rattle.std.specs.Int.{int_max}
 use Rattle.strided_dom.specs.Progression.{Progression, single, Has, first_of, last_of}
 use Rattle.interval_dom.specs.Interval.{Span, InInterval}
 use Rattle.interval_dom.specs.Rows as I
-use Rattle.congruence_dom.specs.Class.{Divides, InClass}
+use Rattle.tm_numbers.specs.Powers.{power}
+use Rattle.congruence_dom.specs.Class.{InClass}
+use Rattle.tm_numbers.specs.Divisors.{Divides}
 use Rattle.congruence_dom.specs.Laws.{DividesAll}
 use Rattle.congruence_dom.specs.Rows as C
 use Rattle.congruence_dom.specs.declared.classes.Cong.{Cong}
@@ -28,7 +31,8 @@ IsQuotient a b = IsResult int_div (Has a) (IsDivisor b)
 
 -- Where B is one number that divides all of A, v is in the class of the quotients.
 abbrev pub InQuotientClass : Progression → Progression → ℤ → Type 0
-InQuotientClass a b v = (d : ℤ) → b ≡ single d → d ≢ pos 0 → DividesAll d (class_of_set a) → InClass (C.div_row (class_of_set a) d) v
+InQuotientClass a b v = (d : ℤ) → b ≡ single d → d ≢ pos 0 → DividesAll d (class_of_set a)
+    → InClass (C.div_row (class_of_set a) d) v
 
 -- A/B: from the least to the greatest quotient, and in their class.
 pub record InQuotients (a b : Progression) (v : ℤ) : Type 0 where
@@ -42,20 +46,25 @@ pub record InRemainders (a b : Progression) (v : ℤ) : Type 0 where
   pub divisor : IsDivisor b some
   pub small : ((x y : ℤ) → Has a x → IsDivisor b y → unsigned_abs x < unsigned_abs y) → Has a v
 
--- Of numbers with the property P and counts with the property Q: v is a multiple of d * 2^n where d divides all numbers and no count is below n;
--- and where n is the only count, congruent to x * 2^n modulo m * 2^n where all are congruent to x modulo m.
+-- Of numbers with the property P and counts with the property Q: v is a multiple of d * 2^n where d divides all numbers
+-- and no count is below n; and where n is the only count, congruent to x * 2^n modulo m * 2^n where all are congruent
+-- to x modulo m.
 pub record InLeftShiftClass (P Q : ℤ → Type 0) (v : ℤ) : Type 0 where
-  pub multiple : (d : ℤ) (n : ℕ) → ((x : ℤ) → P x → Divides d x) → ((y : ℤ) → Q y → n ≤ unsigned_abs y) → Divides (d *ℤ C.power n) v
-  pub exact : (n : ℕ) (m x : ℤ) → ((y : ℤ) → Q y → unsigned_abs y ≡ n) → P x → ((z : ℤ) → P z → Divides m (z -ℤ x)) → Divides (m *ℤ C.power n) (v -ℤ x *ℤ C.power n)
+  pub multiple : (d : ℤ) (n : ℕ) → ((x : ℤ) → P x → Divides d x) → ((y : ℤ) → Q y → n ≤ unsigned_abs y)
+      → Divides (d *ℤ power n) v
+  pub exact : (n : ℕ) (m x : ℤ) → ((y : ℤ) → Q y → unsigned_abs y ≡ n) → P x → ((z : ℤ) → P z → Divides m (z -ℤ x))
+      → Divides (m *ℤ power n) (v -ℤ x *ℤ power n)
 
--- A<<N, of the numbers of A that are not negative by the counts of N: from the least to the greatest result, and in their class.
+-- A<<N, of the numbers of A that are not negative by the counts of N: from the least to the greatest result, and in
+-- their class.
 pub record InLeftShifts (t : IntType) (a b : Progression) (v : ℤ) : Type 0 where
   pub between : IsBetween (IsResult I.shift_left (IsShifted a) (IsCount t b)) v
   pub class : InLeftShiftClass (IsShifted a) (IsCount t b) v
 
 -- Where n is the only count with the property Q and 2^n divides all of A, v is in the class of the quotients.
 abbrev pub InRightShiftClass : Progression → (ℤ → Type 0) → ℤ → Type 0
-InRightShiftClass a Q v = (n : ℕ) → ((y : ℤ) → Q y → unsigned_abs y ≡ n) → DividesAll (C.power n) (class_of_set a) → InClass (C.shr_row (class_of_set a) n) v
+InRightShiftClass a Q v = (n : ℕ) → ((y : ℤ) → Q y → unsigned_abs y ≡ n) → DividesAll (power n) (class_of_set a)
+    → InClass (C.shr_row (class_of_set a) n) v
 
 -- A>>N, rounded down: from the least to the greatest result, and in their class.
 pub record InRightShifts (t : IntType) (a b : Progression) (v : ℤ) : Type 0 where
@@ -79,10 +88,12 @@ pub record InAnd (t : IntType) (a b : Progression) (v : ℤ) : Type 0 where
   pub under_left : IsUnder a v
   pub under_right : IsUnder b v
 
--- A|B and A^B: v lies from low to 2^k - 1, for the least k with the greatest numbers below 2^k, where no number is negative.
+-- A|B and A^B: v lies from low to 2^k - 1, for the least k with the greatest numbers below 2^k, where no number is
+-- negative.
 pub record InOr (f : ℕ → ℕ → ℕ) (low : ℤ) (t : IntType) (a b : Progression) (v : ℤ) : Type 0 where
   pub bits : InBits f t a b v
-  pub spread : pos 0 ≤ℤ first_of a → pos 0 ≤ℤ first_of b → (low ≤ℤ v) × (v ≤ℤ I.ones_over (span_of_set a) (span_of_set b))
+  pub spread : pos 0 ≤ℤ first_of a → pos 0 ≤ℤ first_of b → (low ≤ℤ v)
+      × (v ≤ℤ I.ones_over (span_of_set a) (span_of_set b))
 
 -- R of an operator that is no comparison
 abbrev pub InRows : BinOp → IntType → Progression → Progression → ℤ → Type 0

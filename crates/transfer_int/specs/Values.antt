@@ -2,7 +2,7 @@
 use Rattle.std.specs.Prelude.{◌≡◌, ◌⊎◌, ◌^◌, ℤ, pos, negsuc, ◌+ℤ◌, ◌-ℤ◌, ◌*ℤ◌, ◌<ℤ◌, Ok, true, false, if◌then◌else◌}
 use Rattle.std.specs.Prelude as P
 use Rattle.strided_dom.specs.Progression.{Progression, Has}
-use Rattle.congruence_dom.specs.Class.{Divides}
+use Rattle.tm_numbers.specs.Divisors.{Divides}
 use Rattle.transfer_int.specs.Rows.{InRows}
 use Rattle.tm_cint.specs.IntTypes.{IsIn, is_signed, width_of, lo_of, hi_of}
 use Rattle.tm_cint.specs.Conversions.{converted_value}
@@ -12,19 +12,22 @@ use Rattle.tm_cint.specs.declared.Class.TheVariants.{Overflow, Shift, Div as Div
 use Rattle.tm_cint.specs.declared.int_types.IntType.{IntType}
 use Rattle.tm_cint.specs.declared.int_types.IntType.TheVariants.{Bool}
 use Rattle.tm_cint.specs.declared.operators.BinOp.{BinOp}
-use Rattle.tm_cint.specs.declared.operators.BinOp.TheVariants.{Add, Sub, Mul, Div, Rem, Shl, Shr, Lt, Le, Gt, Ge, Eq, Ne}
+use Rattle.tm_cint.specs.declared.operators.BinOp.TheVariants.{Add, Sub, Mul, Div, Rem, Shl, Shr, Lt, Le, Gt, Ge, Eq}
+use Rattle.tm_cint.specs.declared.operators.BinOp.TheVariants.{Ne}
 
 -- k times 2 to the power of the width
 abbrev pub turns : IntType → ℤ → ℤ
 turns t k = k *ℤ pos (2 ^ width_of t)
 
--- v is in the wrapping of R into the type: where R lies in the type's range moved by some turns, v moved by them is in R; and v is congruent
--- to the numbers of R modulo every divisor of 2^width modulo which these are congruent to one another.
+-- v is in the wrapping of R into the type: where R lies in the type's range moved by some turns, v moved by them is in
+-- R; and v is congruent to the numbers of R modulo every divisor of 2^width modulo which these are congruent to one
+-- another.
 pub record IsWrapped (t : IntType) (R : ℤ → Type 0) (v : ℤ) : Type 0 where
   pub in_type : IsIn t v
   pub some : ℤ
   pub in_rows : R some
-  pub congruent : (d : ℤ) → Divides d (pos (2 ^ width_of t)) → ((r : ℤ) → R r → Divides d (r -ℤ some)) → Divides d (v -ℤ some)
+  pub congruent : (d : ℤ) → Divides d (pos (2 ^ width_of t)) → ((r : ℤ) → R r → Divides d (r -ℤ some))
+      → Divides d (v -ℤ some)
   pub in_turn : (k : ℤ) → ((r : ℤ) → R r → IsIn t (r -ℤ turns t k)) → R (v +ℤ turns t k)
 
 -- R met with the range of a signed type; an unsigned type wraps it.
@@ -111,7 +114,8 @@ abbrev pub MayDivideByZero : BinOp → Progression → Progression → Type 0
 MayDivideByZero op a b = (is_division op ≡ true) × HasZeroDivisor a b
 
 abbrev pub MayShiftBadly : BinOp → IntType → Progression → Progression → Type 0
-MayShiftBadly op t a b = (is_shift op ≡ true) × (HasBadCount t a b ⊎ ((op ≡ Shl) × (ShiftsNegative t a b ⊎ Leaves Shl t a b)))
+MayShiftBadly op t a b = (is_shift op ≡ true) × (HasBadCount t a b
+    ⊎ ((op ≡ Shl) × (ShiftsNegative t a b ⊎ Leaves Shl t a b)))
 
 -- The class of errors is not excluded.
 abbrev pub MayFail : BinOp → IntType → Progression → Progression → Class → Type 0

@@ -56,8 +56,8 @@ pub(crate) fn bits_or(ty: IntType, a: &Strided, b: &Strided) -> Strided
     numbers(ty, interval_dom::or(interval_of(a), interval_of(b)))
 }
 
-/// `a ^ b`: of sets without negative numbers, from 0 to the least 2^k - 1 that no member passes; of two single numbers the
-/// exact value.
+/// `a ^ b`: of sets without negative numbers, from 0 to the least 2^k - 1 that no member passes; of two single numbers
+/// the exact value.
 pub(crate) fn bits_xor(ty: IntType, a: &Strided, b: &Strided) -> Strided
     requires left { AreValues ty a.now }
     requires right { AreValues ty b.now }

@@ -1,8 +1,8 @@
 //! The values of comparisons (C99 6.5.8, 6.5.9).
 ghost use Rattle.std.specs.Prelude.{◌≡◌, ◌↔◌, IsTrue, true, false, int_lt, int_le};
 ghost use Rattle.strided_dom.specs.Progression.{IsExactly};
-ghost use Rattle.tm_cint.specs.Operators.{is_same};
-ghost use Rattle.transfer_int.specs.Comparisons.{IsComparison, HasPair, IsTruthValue};
+ghost use Rattle.tm_cint.specs.Operators.{is_same, IsComparison};
+ghost use Rattle.transfer_int.specs.reading.Comparisons.{HasPair, IsTruthValue};
 ghost use Rattle.transfer_int.specs.Values.{IsTruth};
 
 use strided_dom::Strided;

@@ -6,9 +6,9 @@ ghost use Rattle.tm_cint.specs.IntTypes.{IsIn, width_of, hi_of};
 ghost use Rattle.tm_cint.specs.declared.int_types.IntType.{IntType};
 ghost use Rattle.transfer_int.specs.Values.{turns, IsWrapped, IsConverted};
 
-use crate::divisors::gcd;
 use strided_dom::Strided;
 use tm_cint::{IntType, convert};
+use tm_numbers::gcd;
 
 /// What a conversion of the members to `to` gives (C99 6.3.1.2, 6.3.1.3): 0 or 1 for `_Bool`; for another type the set
 /// moved by turns of 2^width where all of it then lies in the type, else the numbers of the type that are congruent to

@@ -1,11 +1,12 @@
 //! The numbers of an interval row and a congruence row, met with a signed type or wrapped into an unsigned one.
-ghost use Rattle.std.specs.Prelude.{◌≡◌, ◌↔◌, ◌+◌, ◌<◌, ◌≤◌, ◌^◌, ℤ, pos, ◌+ℤ◌, ◌-ℤ◌, ◌<ℤ◌, ◌≤ℤ◌, false, IsTrue, MatchOption};
+ghost use Rattle.std.specs.Prelude.{◌≡◌, ◌↔◌, ◌+◌, ◌<◌, ◌≤◌, ◌^◌, ℤ, pos, ◌+ℤ◌, ◌-ℤ◌, ◌<ℤ◌, ◌≤ℤ◌, false, IsTrue};
+ghost use Rattle.std.specs.Prelude.{MatchOption};
 ghost use Rattle.strided_dom.specs.Progression.{IsExactly};
 ghost use Rattle.interval_dom.specs.Interval.{span_of};
-ghost use Rattle.congruence_dom.specs.Class.{Divides};
+ghost use Rattle.tm_numbers.specs.Divisors.{Divides};
 ghost use Rattle.tm_cint.specs.IntTypes.{IsIn, is_signed, width_of};
-ghost use Rattle.tm_cint.specs.Conversions.{IsCongruent};
-ghost use Rattle.transfer_int.specs.Fittings.{IsMember, IsMet, HasOutside, AreMembers, from_to};
+ghost use Rattle.tm_numbers.specs.Congruence.{IsCongruent};
+ghost use Rattle.transfer_int.specs.reading.Fittings.{IsMember, IsMet, HasOutside, AreMembers, from_to};
 ghost use Rattle.transfer_int.specs.Values.{IsFitted, IsWrapped};
 
 use crate::conversions::{placed, progression, size};
@@ -77,7 +78,7 @@ fn wrapped(ty: IntType, span: Interval, class: Cong) -> Strided
 fn turned(ty: IntType, v: i128) -> i128
     requires { is_signed ty ≡ false }
     ensures in_type { IsIn ty result }
-    ensures congruent { IsCongruent (width_of ty) v result }
+    ensures congruent { IsCongruent (2 ^ width_of ty) v result }
 {
     let size = size(ty) as i128;
     let rest = v % size;
@@ -112,8 +113,12 @@ fn members(lo: i128, hi: i128, class: Cong) -> Option<Steps>
 
 /// The residue, where it lies from `lo` to `hi`.
 fn residue_alone(lo: i128, hi: i128, residue: i128) -> Option<Steps>
-    ensures { MatchOption result ((v : ℤ) → ¬ IsMember (from_to lo hi) (record { residue = residue; modulus = pos 0 }) v)
-        (λ row. AreMembers (from_to lo hi) (record { residue = residue; modulus = pos 0 }) row.first row.extent row.step) }
+    ensures { MatchOption result ((v : ℤ) → ¬ IsMember (from_to lo hi)
+        (record { residue = residue; modulus = pos 0 }) v)
+        (λ row. AreMembers (from_to lo hi) (record {
+          residue = residue;
+          modulus = pos 0;
+        }) row.first row.extent row.step) }
 {
     if residue < lo {
         return None;

@@ -1,11 +1,14 @@
-//! Operators on strided sets.
+//! C's operators and conversions on strided sets: the value, which holds the result for each pair of members, and the
+//! classes of errors that are not excluded. They know no variables and no memory: a set is all that they see of an
+//! operand.
+//!
+//! So in an `int` {100, 200} / {0, 5} gives the numbers from 20 to 40, and the class of a zero divisor is not excluded.
 #![tactic(auto)]
 
 mod bits;
 mod classes;
 mod comparisons;
 mod conversions;
-mod divisors;
 mod fittings;
 pub mod laws;
 mod operands;
@@ -23,6 +26,3 @@ pub use conversions::converted;
 pub use operators::binary;
 pub use outcomes::{Classes, Outcome};
 pub use unary::{invert, negate};
-
-#[cfg(test)]
-mod tests;

@@ -19,9 +19,9 @@ use crate::sums::{differences, differences_leave, sums, sums_leave};
 use strided_dom::Strided;
 use tm_cint::{BinOp, IntType};
 
-/// What `a op b` gives in the type `ty`, the common type of both operands, or for a shift the promoted type of the left one:
-/// the value, a set that holds the result for each pair of members, and the classes of errors that no pair excludes. An empty
-/// operand gives the empty set and no class.
+/// What `a op b` gives in the type `ty`, the common type of both operands, or for a shift the promoted type of the left
+/// one: the value, a set that holds the result for each pair of members, and the classes of errors that are not
+/// excluded. An empty operand gives the empty set and no class.
 pub fn binary(op: BinOp, ty: IntType, a: &Strided, b: &Strided) -> Outcome
     requires left { AreValues ty a.now }
     requires right { AreRightOperands op ty b.now }

@@ -3,7 +3,7 @@ ghost use Rattle.std.specs.Prelude.{◌≡◌, ℤ};
 ghost use Rattle.std.specs.Int.{int_max, int_min};
 ghost use Rattle.strided_dom.specs.Progression.{IsExactly, IsInReach};
 ghost use Rattle.congruence_dom.specs.Class.{InClass};
-ghost use Rattle.transfer_int.specs.Parts.{IsPart};
+ghost use Rattle.transfer_int.specs.reading.Parts.{IsPart};
 
 use congruence_dom::Cong;
 use interval_dom::Interval;

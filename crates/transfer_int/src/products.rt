@@ -3,7 +3,7 @@ ghost use Rattle.std.specs.Prelude.{◌≡◌, ◌≢◌, ◌↔◌, ℤ, true, 
 ghost use Rattle.strided_dom.specs.Progression.{empty, IsExactly};
 ghost use Rattle.tm_cint.specs.IntTypes.{is_signed};
 ghost use Rattle.tm_cint.specs.declared.operators.BinOp.{BinOp};
-ghost use Rattle.transfer_int.specs.Fittings.{AreRows};
+ghost use Rattle.transfer_int.specs.reading.Fittings.{AreRows};
 ghost use Rattle.transfer_int.specs.Operands.{AreValues};
 ghost use Rattle.transfer_int.specs.Rows.{InRows};
 ghost use Rattle.transfer_int.specs.Values.{IsValue, IsWrapped, Leaves};

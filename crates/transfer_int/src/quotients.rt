@@ -3,11 +3,12 @@ ghost use Rattle.std.specs.Prelude.{◌≡◌, ◌≢◌, ◌↔◌, ◌<◌, �
 ghost use Rattle.strided_dom.specs.Progression.{empty, Has, IsExactly, IsInReach};
 ghost use Rattle.interval_dom.specs.Interval.{span_of};
 ghost use Rattle.interval_dom.specs.Rows.{IsOneSided};
-ghost use Rattle.congruence_dom.specs.Class.{Divides, HasTypeValues, InClass};
-ghost use Rattle.transfer_int.specs.Fittings.{AreRows, from_to};
+ghost use Rattle.congruence_dom.specs.Class.{IsTypeClass, InClass};
+ghost use Rattle.tm_numbers.specs.Divisors.{Divides};
+ghost use Rattle.transfer_int.specs.reading.Fittings.{AreRows, from_to};
 ghost use Rattle.transfer_int.specs.Operands.{AreValues, IsResult};
-ghost use Rattle.transfer_int.specs.Parts.{IsLeastSpan, IsPart};
-ghost use Rattle.transfer_int.specs.Quotients.{IsCommonDivisor};
+ghost use Rattle.transfer_int.specs.reading.Parts.{IsLeastSpan, IsPart};
+ghost use Rattle.transfer_int.specs.reading.Quotients.{IsCommonDivisor};
 ghost use Rattle.transfer_int.specs.Rows.{InQuotientClass, InRows, IsQuotient};
 ghost use Rattle.transfer_int.specs.Values.{IsValue, Leaves};
 
@@ -126,7 +127,7 @@ fn quotient_class(ty: IntType, a: &Strided, b: &Strided) -> Cong
 
 /// Whether `d` is not 0 and divides residue and modulus.
 pub(crate) fn is_common_divisor(d: i128, class: Cong) -> bool
-    requires { HasTypeValues class }
+    requires { IsTypeClass class }
     ensures { IsTrue result ↔ IsCommonDivisor d class }
 {
     if d == 0 {

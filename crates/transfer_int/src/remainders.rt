@@ -3,7 +3,7 @@ ghost use Rattle.std.specs.Prelude.{◌≢◌, ◌↔◌, IsTrue};
 ghost use Rattle.strided_dom.specs.Progression.{empty, IsExactly};
 ghost use Rattle.tm_cint.specs.declared.operators.BinOp.{BinOp};
 ghost use Rattle.transfer_int.specs.Operands.{AreValues};
-ghost use Rattle.transfer_int.specs.Remainders.{AreSmaller, HasSomeDivisor};
+ghost use Rattle.transfer_int.specs.reading.Remainders.{AreSmaller, HasSomeDivisor};
 ghost use Rattle.transfer_int.specs.Values.{IsValue};
 
 use crate::fittings::fitted;

@@ -2,12 +2,12 @@
 ghost use Rattle.std.specs.Prelude.{◌≡◌, ◌≢◌, ◌↔◌, ◌<◌, ◌≤ℤ◌, ◌<ℤ◌, ℤ, pos, IsTrue, MatchOption};
 ghost use Rattle.strided_dom.specs.Progression.{empty, Has, IsExactly};
 ghost use Rattle.congruence_dom.specs.Class.{InClass};
-ghost use Rattle.congruence_dom.specs.Rows.{power};
+ghost use Rattle.tm_numbers.specs.Powers.{power};
 ghost use Rattle.tm_cint.specs.declared.operators.BinOp.{BinOp};
-ghost use Rattle.transfer_int.specs.Fittings.{AreRows};
+ghost use Rattle.transfer_int.specs.reading.Fittings.{AreRows};
 ghost use Rattle.transfer_int.specs.Operands.{AreValues, IsCount, IsShifted};
 ghost use Rattle.transfer_int.specs.Rows.{InLeftShiftClass, InRightShiftClass, InRows};
-ghost use Rattle.transfer_int.specs.Shifts.{AreCounts};
+ghost use Rattle.transfer_int.specs.reading.Shifts.{AreShiftCounts};
 ghost use Rattle.transfer_int.specs.Values.{IsValue, Leaves};
 
 use crate::fittings::{fitted, leaves};
@@ -18,6 +18,7 @@ use congruence_dom::Cong;
 use interval_dom::Interval;
 use strided_dom::Strided;
 use tm_cint::IntType;
+use tm_numbers::power_of_two;
 
 /// `a << b`, of the numbers that are not negative, by the counts from 0 to the width less 1.
 pub(crate) fn left_shifts(ty: IntType, a: &Strided, b: &Strided) -> Strided
@@ -98,13 +99,13 @@ fn counts(ty: IntType, b: &Strided) -> Strided
     part(b, 0, i128::from(ty.width()) - 1)
 }
 
-/// The class of the left shifts: by one count the class shifted, else the multiples of the least power of two and of the
-/// greatest number that divides all.
+/// The class of the left shifts: by one count the class shifted, else the multiples of the least power of two and of
+/// the greatest number that divides all.
 fn left_shift_class(ty: IntType, a: &Strided, by: &Strided) -> Cong
     requires some_left { a.now ≢ empty }
     requires some_right { by.now ≢ empty }
     requires left { AreValues ty a.now }
-    requires right { AreCounts by.now }
+    requires right { AreShiftCounts by.now }
     ensures { (v : ℤ) → InClass result v ↔ InLeftShiftClass (Has a.now) (Has by.now) v }
 {
     let least = by.lo() as u32;
@@ -119,7 +120,7 @@ fn right_shift_class(ty: IntType, a: &Strided, by: &Strided) -> Cong
     requires some_left { a.now ≢ empty }
     requires some_right { by.now ≢ empty }
     requires left { AreValues ty a.now }
-    requires right { AreCounts by.now }
+    requires right { AreShiftCounts by.now }
     ensures { (v : ℤ) → InClass result v ↔ InRightShiftClass a.now (Has by.now) v }
 {
     let class = class_of(a);
@@ -131,12 +132,4 @@ fn right_shift_class(ty: IntType, a: &Strided, by: &Strided) -> Cong
         return all_integers();
     }
     congruence_dom::shr(class, count)
-}
-
-/// 2^n
-fn power_of_two(n: u32) -> i128
-    requires { n < 64 }
-    ensures { result ≡ power n }
-{
-    1 << n
 }

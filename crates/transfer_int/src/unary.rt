@@ -17,7 +17,8 @@ use tm_cint::{BinOp, IntType};
 pub fn negate(ty: IntType, a: &Strided) -> Outcome
     requires { AreValues ty a.now }
     ensures value { IsExactly (IsValue BinOp.Sub ty (single (pos 0)) a.now) result.value }
-    ensures classes { (class : Class) → IsTrue (notes result.classes class) ↔ MayFail BinOp.Sub ty (single (pos 0)) a.now class }
+    ensures classes { (class : Class) → IsTrue (notes result.classes class)
+        ↔ MayFail BinOp.Sub ty (single (pos 0)) a.now class }
 {
     binary(BinOp::Sub, ty, &Strided::one(0), a)
 }

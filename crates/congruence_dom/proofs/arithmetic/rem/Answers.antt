@@ -1,5 +1,5 @@
 use Rattle.std.proofs.Common.{ℤ, ap, ◌∙◌}
-use Rattle.congruence_dom.specs.Gcd.{int_gcd}
+use Rattle.tm_numbers.specs.Divisors.{int_gcd}
 use Rattle.congruence_dom.proofs.Ranges.{back, modulus_fits, of_two, residue_fits, same_parts}
 use Rattle.congruence_dom.proofs.arithmetic.rem.Goals as goal
 

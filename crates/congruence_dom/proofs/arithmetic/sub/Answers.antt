@@ -1,6 +1,6 @@
 use Rattle.std.proofs.Common.{arith, ◌∙◌}
 use Rattle.std.proofs.lemmas.Int.{ints}
-use Rattle.congruence_dom.specs.Gcd.{int_gcd}
+use Rattle.tm_numbers.specs.Divisors.{int_gcd}
 use Rattle.congruence_dom.proofs.Ranges.{back, modulus_fits, of_two, same_parts}
 use Rattle.congruence_dom.proofs.arithmetic.sub.Goals as goal
 

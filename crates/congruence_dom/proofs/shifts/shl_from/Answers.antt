@@ -1,6 +1,6 @@
 use Rattle.std.proofs.Common.{ℤ, ◌*ℤ◌, ap, ◌∙◌, refl}
-use Rattle.congruence_dom.specs.Gcd.{int_gcd}
-use Rattle.congruence_dom.specs.Rows.{power}
+use Rattle.tm_numbers.specs.Divisors.{int_gcd}
+use Rattle.tm_numbers.specs.Powers.{power}
 use Rattle.congruence_dom.proofs.Ranges.{back, modulus_fits, of_two, residue_fits, same_parts}
 use Rattle.congruence_dom.proofs.shifts.shl_from.Goals as goal
 

@@ -1,5 +1,5 @@
 use Rattle.std.proofs.Common.{sym, subst, arith}
-use Rattle.strided_dom.specs.Progression.{IsHull, IsBelow}
+use Rattle.strided_dom.specs.Progression.{IsHull, IsSubset}
 use Rattle.strided_dom.specs.Combinations.{IsSum}
 use Rattle.pointer_dom.specs.Offset.{IsOffsetAmong}
 use Rattle.pointer_dom.specs.OffsetSets.{IsOffsetsOf}
@@ -22,4 +22,4 @@ returns-clause-offsets c = advanced_is c.args.offsets.now c.args.steps.now c.sum
 pub returns-clause-inside : goal.returns-clause-inside
 returns-clause-inside c =
     let same = stay_is c.args.offsets.now c.args.steps.now c.sum-sums.result c.within-reached.result (hull c) (within c) in
-    (λ e. same.0 (subst (λ s. IsBelow c.sum-sums.result s) c.set-2.ensures.value (c.below-inside.ensures.0 e)), λ h. c.below-inside.ensures.1 (subst (λ s. IsBelow c.sum-sums.result s) (sym c.set-2.ensures.value) (same.1 h)))
+    (λ e. same.0 (subst (λ s. IsSubset c.sum-sums.result s) c.set-2.ensures.value (c.below-inside.ensures.0 e)), λ h. c.below-inside.ensures.1 (subst (λ s. IsSubset c.sum-sums.result s) (sym c.set-2.ensures.value) (same.1 h)))

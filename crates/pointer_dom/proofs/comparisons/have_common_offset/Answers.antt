@@ -1,4 +1,4 @@
-use Rattle.std.proofs.Common.{◌∙◌, T, take, refl, sym, ap, subst}
+use Rattle.std.proofs.Common.{◌∙◌, T, take, refl, sym, subst}
 use Rattle.std.proofs.lemmas.Bool.{false≢true}
 use Rattle.std.proofs.lemmas.List.{take_all}
 use Rattle.std.specs.Ordering.{nat_cmp}

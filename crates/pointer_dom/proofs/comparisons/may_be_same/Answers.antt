@@ -1,5 +1,3 @@
-use Rattle.std.proofs.Common.{subst}
-use Rattle.pointer_dom.specs.Equality.{MeetTables}
 use Rattle.pointer_dom.proofs.CommonFacts.{meet_is}
 use Rattle.pointer_dom.proofs.comparisons.may_be_same.Goals as goal
 

@@ -1,4 +1,4 @@
-use Rattle.std.proofs.Common.{◌≡◌, pos, nat_abs, to_z, of_z, sym, ap, subst, ◌∙◌, arith}
+use Rattle.std.proofs.Common.{◌≡◌, to_z, sym, ap, subst, ◌∙◌, arith}
 use Rattle.std.proofs.lemmas.Int.{ints}
 use Rattle.std.specs.Int.{w128}
 use Rattle.strided_dom.specs.Progression.{single, Has}

@@ -1,4 +1,4 @@
-use Rattle.pointer_dom.proofs.EqualityFacts.{truths_both, truths_first, truths_second, truths_none}
+use Rattle.pointer_dom.proofs.EqualityFacts.{truths_first, truths_second, truths_none}
 use Rattle.pointer_dom.proofs.comparisons.truths.Goals as goal
 
 pub returns-else-may_fail : goal.returns-else-may_fail

@@ -1,4 +1,4 @@
-use Rattle.pointer_dom.specs.PointerLaws.{pointers_order, pointers_join, pointers_closure, pointers_nothing}
+use Rattle.pointer_dom.specs.laws.PointerLaws.{pointers_order, pointers_join, pointers_closure, pointers_nothing}
 use Rattle.pointer_dom.proofs.laws.pointer_sets_are_a_lattice.Goals as goal
 
 pub returns-clause-order : goal.returns-clause-order

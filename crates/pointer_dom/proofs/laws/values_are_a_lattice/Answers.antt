@@ -1,4 +1,4 @@
-use Rattle.pointer_dom.specs.ValueLaws.{values_order, values_join, values_closure, values_nothing}
+use Rattle.pointer_dom.specs.laws.ValueLaws.{values_order, values_join, values_closure, values_nothing}
 use Rattle.pointer_dom.proofs.laws.values_are_a_lattice.Goals as goal
 
 pub returns-clause-order : goal.returns-clause-order

@@ -20,7 +20,7 @@ high_reach : (c : After-max) → IsInReach c.max.result
 high_reach c = reach_max (high_is c) c.requires.left.high c.requires.right.high
 
 outer : (c : After-max) → IsGcd c.gcd.result (nat_abs (c.args.s.lo -ℤ c.args.t.lo)) c.gcd-stride.result
-outer c = rw (c.abs_diff-apart.ensures, kept c.requires.left.low, kept c.requires.right.low) at c.gcd-stride.ensures
+outer c = rw (c.abs_diff-apart.ensures, kept c.requires.left.low, kept c.requires.right.low) at c.gcd-stride.ensures.greatest
 
 pub between-requires-clause-low : goal.between-requires-clause-low
 between-requires-clause-low c = rw (kept (low_reach c)) (low_reach c)
@@ -35,10 +35,10 @@ between-requires-clause-ordered c =
 pub between-requires-clause-congruent : goal.between-requires-clause-congruent
 between-requires-clause-congruent c =
     rw (kept (low_reach c), kept (high_reach c), low_is c, high_is c)
-    (hull_congruent c.args.s.lo c.args.s.hi c.args.s.stride c.args.t.lo c.args.t.hi c.args.t.stride c.gcd.result c.gcd-stride.result c.gcd.ensures (outer c) c.requires.left c.requires.right)
+    (hull_congruent c.args.s.lo c.args.s.hi c.args.s.stride c.args.t.lo c.args.t.hi c.args.t.stride c.gcd.result c.gcd-stride.result c.gcd.ensures.greatest (outer c) c.requires.left c.requires.right)
 
 pub returns : goal.returns
 returns c =
     let m = (goal.at.returns c).After-max in
     let exact = rw (kept (low_reach m), kept (high_reach m), low_is m, high_is m) at c.between.ensures in
-    λ a b h k. hull_is c.args.s.lo c.args.s.hi c.args.s.stride c.args.t.lo c.args.t.hi c.args.t.stride c.gcd.result c.gcd-stride.result c.gcd.ensures (outer m) a b c.between.result h k exact
+    λ a b h k. hull_is c.args.s.lo c.args.s.hi c.args.s.stride c.args.t.lo c.args.t.hi c.args.t.stride c.gcd.result c.gcd-stride.result c.gcd.ensures.greatest (outer m) a b c.between.result h k exact

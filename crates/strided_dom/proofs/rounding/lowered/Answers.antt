@@ -1,7 +1,7 @@
 use Rattle.std.proofs.Common.{pos, subst, arith, SFits, rules, slice_index_or, ◌-◌}
 use Rattle.std.specs.Int.{w128}
 use Rattle.std.proofs.lemmas.Int.{to_z-of_z}
-use Rattle.strided_dom.specs.Rounding.{IsSplitAt}
+use Rattle.strided_dom.specs.reading.Classes.{IsSplitAt}
 use Rattle.strided_dom.proofs.Thresholds.{lowered_none, lowered_at}
 use Rattle.strided_dom.proofs.rounding.lowered.Goals as goal
 

@@ -17,21 +17,21 @@ returns-then-extent-abs_diff c =
     (rw low at c.progression.ensures)
 
 pub nonzero_rem-first : goal.nonzero_rem-first
-nonzero_rem-first c = let s = step_within c.args.ty c.args.stride c.gcd-step.result (rw c.size.ensures at c.gcd-step.ensures) in omega (arith, s)
+nonzero_rem-first c = let s = step_within c.args.ty c.args.stride c.gcd-step.result (rw c.size.ensures at c.gcd-step.ensures.greatest) in omega (arith, s)
 
 pub overflow_cast-step : goal.overflow_cast-step
-overflow_cast-step c = let s = step_within c.args.ty c.args.stride c.gcd-step.result (rw c.size.ensures at c.gcd-step.ensures) in omega (arith, ints, s)
+overflow_cast-step c = let s = step_within c.args.ty c.args.stride c.gcd-step.result (rw c.size.ensures at c.gcd-step.ensures.greatest) in omega (arith, ints, s)
 
 pub range-requires-clause-positive : goal.range-requires-clause-positive
-range-requires-clause-positive c = let s = step_within c.args.ty c.args.stride c.gcd-step.result (rw c.size.ensures at c.gcd-step.ensures) in omega (arith, ints, s)
+range-requires-clause-positive c = let s = step_within c.args.ty c.args.stride c.gcd-step.result (rw c.size.ensures at c.gcd-step.ensures.greatest) in omega (arith, ints, s)
 
 gcd_is : (c : After-range) → IsGcd c.args.stride (2 ^ width_of c.args.ty) c.gcd-step.result
-gcd_is c = rw c.size.ensures at c.gcd-step.ensures
+gcd_is c = rw c.size.ensures at c.gcd-step.ensures.greatest
 
 pub range-requires-clause-in_reach : goal.range-requires-clause-in_reach
 range-requires-clause-in_reach c = λ v p.
     let t = c.args.ty in
-    let r = rest_small t c.args.stride c.gcd-step.result c.abs_diff-2.result (rw c.size.ensures at c.gcd-step.ensures) in
+    let r = rest_small t c.args.stride c.gcd-step.result c.abs_diff-2.result (rw c.size.ensures at c.gcd-step.ensures.greatest) in
     let first = first_kept t c.lo.result (c.abs_diff-2.result % c.gcd-step.result) c.lo.ensures r in
     let last = hi_kept t c.hi-2.result c.hi-2.ensures in
     record { low = omega (arith, ints, ends_of t, first, p.from); high = omega (arith, ints, ends_of t, last, p.to) }

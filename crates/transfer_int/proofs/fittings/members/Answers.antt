@@ -2,7 +2,7 @@ use Rattle.std.proofs.Common.{◌≡◌, pos, ◌+ℤ◌, ◌-ℤ◌, to_z, refl
 use Rattle.std.specs.Prelude.{MatchOption, unsigned_abs}
 use Rattle.std.specs.Int.{w128}
 use Rattle.std.proofs.lemmas.Int.{ints, to_z-of_z}
-use Rattle.transfer_int.specs.Fittings.{IsMember, AreMembers, from_to}
+use Rattle.transfer_int.specs.reading.Fittings.{IsMember, AreMembers, from_to}
 use Rattle.transfer_int.proofs.Fitted.{none_in, all_in, modulo_zero}
 use Rattle.transfer_int.proofs.fittings.members.Goals as goal
 

@@ -2,7 +2,7 @@ use Rattle.std.proofs.Common.{ap, subst, ◌∙◌, to_z}
 use Rattle.std.specs.Int.{w128}
 use Rattle.congruence_dom.specs.Rows.{div_row}
 use Rattle.strided_dom.proofs.Reach.{kept}
-use Rattle.transfer_int.specs.Quotients.{IsCommonDivisor}
+use Rattle.transfer_int.specs.reading.Quotients.{IsCommonDivisor}
 use Rattle.transfer_int.proofs.Dividing.{by_many, by_one_divisor, not_one_number, not_this_divisor, one_number}
 use Rattle.transfer_int.proofs.RowPairs.{type_class}
 use Rattle.transfer_int.proofs.Spans.{some_of}

@@ -1,7 +1,8 @@
 use Rattle.std.proofs.Common.{ap, sym, refl, ◌∙◌, to_z, nat_abs}
 use Rattle.std.specs.Int.{w128}
 use Rattle.std.proofs.lemmas.Int.{to_z-of_z}
-use Rattle.congruence_dom.specs.Rows.{power, shr_row}
+use Rattle.congruence_dom.specs.Rows.{shr_row}
+use Rattle.tm_numbers.specs.Powers.{power}
 use Rattle.strided_dom.proofs.Reach.{kept}
 use Rattle.transfer_int.proofs.RowPairs.{type_class}
 use Rattle.transfer_int.proofs.Shifting.{right_by_many, right_undivided, right_by_one, divides_class, same_class_row}

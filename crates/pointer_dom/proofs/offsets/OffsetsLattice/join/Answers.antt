@@ -1,6 +1,6 @@
 use Rattle.std.proofs.Common.{sym, ap₂, ◌∙◌, subst}
 use Rattle.pointer_dom.specs.OffsetSets.{IsOffsetSet, joined_offsets}
-use Rattle.pointer_dom.specs.OffsetLaws.{offsets_join}
+use Rattle.pointer_dom.specs.laws.OffsetLaws.{offsets_join}
 use Rattle.pointer_dom.proofs.OffsetFacts.{joined_is}
 use Rattle.pointer_dom.proofs.offsets.OffsetsLattice.join.Goals as goal
 

@@ -1,6 +1,6 @@
 use Rattle.std.proofs.Common.{sym, ap, ◌∙◌, subst}
 use Rattle.pointer_dom.specs.OffsetSets.{IsOffsetSet, rounded_offsets}
-use Rattle.pointer_dom.specs.OffsetLaws.{offsets_closure}
+use Rattle.pointer_dom.specs.laws.OffsetLaws.{offsets_closure}
 use Rattle.pointer_dom.proofs.OffsetFacts.{rounded_is}
 use Rattle.pointer_dom.proofs.offsets.OffsetsLattice.round.Goals as goal
 

@@ -1,4 +1,4 @@
-use Rattle.std.proofs.Common.{◌≡◌, ◌∷◌, [], ◌∙◌, ap, slice_index_or, arith}
+use Rattle.std.proofs.Common.{◌∙◌, ap, arith}
 use Rattle.std.specs.FinMap as map
 use Rattle.pointer_dom.proofs.OnlyFacts.{no_entry, one_entry, only_flags, not_empty, flag_and_object, two_offsets, one_offset, two_objects}
 use Rattle.pointer_dom.proofs.pointer_set.PointerSet.only.Goals as goal

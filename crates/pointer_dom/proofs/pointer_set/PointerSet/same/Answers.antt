@@ -1,6 +1,6 @@
 use Rattle.std.proofs.Common.{subst}
 use Rattle.pointer_dom.specs.PointerSets.{IsPointers, IsPointersBelow}
-use Rattle.pointer_dom.specs.PointerLaws.{pointers_order}
+use Rattle.pointer_dom.specs.laws.PointerLaws.{pointers_order}
 use Rattle.pointer_dom.proofs.pointer_set.PointerSet.same.Goals as goal
 
 pub returns : goal.returns

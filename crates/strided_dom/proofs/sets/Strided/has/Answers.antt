@@ -8,4 +8,4 @@ returns-in-None c = has_none c.args.self.now c.args.v c.in-None.ensures
 pub returns-in-Some : goal.returns-in-Some
 returns-in-Some c =
     let e = to_z-of_z _ _ c.ranges.v in
-    has_iff c.args.self.now _ _ _ c.args.v _ c.in-Some.ensures (rw e at c.is_in_span.ensures)
+    has_iff c.args.self.now _ _ _ c.args.v _ c.in-Some.ensures (rw e at c.is_among.ensures)

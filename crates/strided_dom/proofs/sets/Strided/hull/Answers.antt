@@ -5,13 +5,13 @@ pub hull_of-requires-clause-left : goal.hull_of-requires-clause-left
 hull_of-requires-clause-left c = span_from_of _ _ _ _ c.in-Some.ensures
 
 pub hull_of-requires-clause-right : goal.hull_of-requires-clause-right
-hull_of-requires-clause-right c = span_from_of _ _ _ _ c.in-Some-span.ensures
+hull_of-requires-clause-right c = span_from_of _ _ _ _ c.in-Some-ends.ensures
 
 pub returns-in-None : goal.returns-in-None
 returns-in-None c = hull_left_empty c.args.self.now c.args.other.now c.in-None.ensures
 
-pub returns-in-None-span : goal.returns-in-None-span
-returns-in-None-span c = hull_right_empty c.args.self.now c.args.other.now c.in-None-span.ensures
+pub returns-in-None-ends : goal.returns-in-None-ends
+returns-in-None-ends c = hull_right_empty c.args.self.now c.args.other.now c.in-None-ends.ensures
 
-pub returns-in-Some-span : goal.returns-in-Some-span
-returns-in-Some-span c = c.hull_of.ensures c.args.self.now c.args.other.now c.in-Some.ensures c.in-Some-span.ensures
+pub returns-in-Some-ends : goal.returns-in-Some-ends
+returns-in-Some-ends c = c.hull_of.ensures c.args.self.now c.args.other.now c.in-Some.ensures c.in-Some-ends.ensures

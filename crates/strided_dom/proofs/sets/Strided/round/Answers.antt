@@ -6,8 +6,8 @@ use Rattle.strided_dom.proofs.Reach.{kept}
 use Rattle.strided_dom.proofs.Thresholds.{rounding_empty, rounding_is}
 use Rattle.strided_dom.proofs.sets.Strided.round.Goals as goal
 
-pub round_span-requires-clause-span : goal.round_span-requires-clause-span
-round_span-requires-clause-span c = span_from_of _ _ _ _ c.in-Some.ensures
+pub round_ends-requires-clause-ends : goal.round_ends-requires-clause-ends
+round_ends-requires-clause-ends c = span_from_of _ _ _ _ c.in-Some.ensures
 
 pub returns-in-None : goal.returns-in-None
 returns-in-None c = rounding_empty c.args.marks.now c.args.self.now c.in-None.ensures
@@ -20,5 +20,5 @@ returns-in-Some c =
     let h = to_z-of_z _ _ high in
     let down = rw (c.ends-ends.ensures.value, kept (span_low c.in-Some.ensures)) at c.lowered.ensures in
     let up = rw (c.ends-ends.ensures.value, kept (span_high c.in-Some.ensures)) at c.raised.ensures in
-    let exact = rw (l, h) at c.round_span.ensures in
-    rounding_is c.args.marks.now c.args.self.now c.round_span.result _ _ c.lowered.result c.raised.result _ c.in-Some.ensures down up exact
+    let exact = rw (l, h) at c.round_ends.ensures in
+    rounding_is c.args.marks.now c.args.self.now c.round_ends.result _ _ c.lowered.result c.raised.result _ c.in-Some.ensures down up exact

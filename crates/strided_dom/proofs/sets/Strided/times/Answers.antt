@@ -4,8 +4,8 @@ use Rattle.strided_dom.proofs.Hulls.{span_from_of, low_in, high_in}
 use Rattle.strided_dom.proofs.Products.{times_empty}
 use Rattle.strided_dom.proofs.sets.Strided.times.Goals as goal
 
-pub times_of-requires-clause-span : goal.times_of-requires-clause-span
-times_of-requires-clause-span c = span_from_of _ _ _ _ c.in-Some.ensures
+pub times_of-requires-clause-ends : goal.times_of-requires-clause-ends
+times_of-requires-clause-ends c = span_from_of _ _ _ _ c.in-Some.ensures
 
 pub times_of-requires-clause-low : goal.times_of-requires-clause-low
 times_of-requires-clause-low c =

@@ -3,8 +3,8 @@ use Rattle.strided_dom.proofs.Hulls.{span_from_of, spaced_of}
 use Rattle.strided_dom.proofs.Others.{without_none, empty_has_none}
 use Rattle.strided_dom.proofs.sets.Strided.without.Goals as goal
 
-pub without_member-requires-clause-span : goal.without_member-requires-clause-span
-without_member-requires-clause-span c = span_from_of _ _ _ _ c.in-Some.ensures
+pub without_member-requires-clause-ends : goal.without_member-requires-clause-ends
+without_member-requires-clause-ends c = span_from_of _ _ _ _ c.in-Some.ensures
 
 pub without_member-requires-clause-member : goal.without_member-requires-clause-member
 without_member-requires-clause-member c = spaced_of c.args.self.now _ _ _ _ c.in-Some.ensures (c.has.ensures.0 c.if-not-has.false)

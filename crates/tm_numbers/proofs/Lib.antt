@@ -1,0 +1,4 @@
+pub mod Congruences
+pub mod Divisibility
+pub mod Gcds
+pub mod Integers
