@@ -8,13 +8,13 @@ use Rattle.tm_terms.specs.declared.types_named.PointerWord.{PointerWord}
 use Rattle.tm_terms.specs.declared.types_named.PointerWord.TheVariants as Pointers
 use Rattle.tm_terms.specs.ExprSpelling.{BySign, SpellsPointers, BeginsWithStar, is_type_name_list, GoesOn}
 use Rattle.c_expr_parser.specs.declared.marks.Mark.TheVariants as Marks
-use Rattle.c_expr_parser.specs.Reading.{then_read, and_after, after, begins_type}
+use Rattle.c_expr_parser.specs.reading.Parts.{then_read, and_after, after, begins_type}
 use Rattle.c_expr_parser.proofs.Tokens.{none_some, from_some, after_finds, after_spelled, then_read_some, and_after_some, cond_some}
 use Rattle.c_expr_parser.proofs.Sound.{by_shorter}
 use Rattle.tm_trees.specs.DeclarationTrees.{DeclaratorTree, a_declared_name, a_nested, declared_name, count_as, as_specifiers, InitialiserTree, InitDeclaratorTree, init_declarator_height, init_declarators_height, DeclarationTree, declaration_height}
 use Rattle.tm_trees.specs.DeclarationSpelling.{with_declared, SpellsDeclarator, SpellsInitialiser, SpellsInitDeclarator, SpellsMoreInitDeclarators, SpellsInitDeclarators, SpellsLocalDeclaration}
-use Rattle.c_decl_parser.specs.Repetitions.{separated_by, separated, one_or_more}
-use Rattle.c_decl_parser.specs.DeclarationDescent.{pointers, declarator_after, specifiers, initialiser, init_declarator_after, init_declarator, init_declarators_by, init_declarators, local_after, local_declaration, typedef_after, typedefs_from, rest_of_declaration, file_declarators}
+use Rattle.c_decl_parser.specs.reading.Repetitions.{separated_by, separated, one_or_more}
+use Rattle.c_decl_parser.specs.reading.DeclarationDescent.{pointers, declarator_after, specifiers, initialiser, init_declarator_after, init_declarator, init_declarators_by, init_declarators, local_after, local_declaration, typedef_after, typedefs_from, rest_of_declaration, file_declarators}
 use Rattle.c_decl_parser.proofs.MarkReading.{mark_stops}
 use Rattle.c_decl_parser.proofs.RepetitionReading.{Relation, Separated, OneOrMore, separated_sound, one_or_more_sound, separated_complete, one_or_more_complete}
 use Rattle.c_decl_parser.proofs.DeclaratorReading.{declarator_parts, name_begins, declarator_pointers, declarator_shorter, pointers_sound, with_pointers, declarator_after_sound, declarator_after_complete}

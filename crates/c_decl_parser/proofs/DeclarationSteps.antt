@@ -7,14 +7,14 @@ use Rattle.tm_terms.specs.declared.types_named.PointerWord.{PointerWord}
 use Rattle.tm_terms.specs.ExprTrees.{Tree}
 use Rattle.tm_terms.specs.ExprSpelling.{is_type_name_list}
 use Rattle.c_expr_parser.specs.declared.marks.Mark.TheVariants as Marks
-use Rattle.c_expr_parser.specs.Reading.{then_read, and_after, after}
+use Rattle.c_expr_parser.specs.reading.Parts.{then_read, and_after, after}
 use Rattle.tm_trees.specs.DeclarationTrees.{LengthTree, DeclaratorTree, a_declared_name, a_nested, declared_name, SpecifierTree, count_as, as_specifiers, an_expression, a_list, as_values, InitDeclaratorTree}
 use Rattle.tm_trees.specs.DeclarationSpelling.{with_declared}
 use Rattle.c_decl_parser.specs.declared.reads.Read.{Read}
 use Rattle.c_decl_parser.specs.declared.reads.Read.TheVariants.{Found, Stuck}
-use Rattle.c_decl_parser.specs.Reading.{seen, place_after, declared_at, expression, until}
-use Rattle.c_decl_parser.specs.Repetitions.{separated_by, in_braces}
-use Rattle.c_decl_parser.specs.DeclarationDescent.{lengths_by, lengths_from, lengths, named_by, nested_by, direct_by, declarator_after, declarator, pointers, value_by, value, initialiser, init_declarators, init_declarator_after, local_after, typedef_after, typedefs_from}
+use Rattle.c_decl_parser.specs.reading.Parts.{seen, place_after, declared_at, expression, until}
+use Rattle.c_decl_parser.specs.reading.Repetitions.{separated_by, in_braces}
+use Rattle.c_decl_parser.specs.reading.DeclarationDescent.{lengths_by, lengths_from, lengths, named_by, nested_by, direct_by, declarator_after, declarator, pointers, value_by, value, initialiser, init_declarators, init_declarator_after, local_after, typedef_after, typedefs_from}
 
 -- ## Lengths of arrays
 

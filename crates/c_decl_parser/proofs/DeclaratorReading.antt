@@ -10,14 +10,14 @@ use Rattle.tm_terms.specs.declared.tokens.Shape.TheVariants as Shapes
 use Rattle.tm_terms.specs.ExprTrees.{Tree}
 use Rattle.tm_terms.specs.ExprSpelling.{Begins, BySign, SpellsPointers, BeginsWithStar}
 use Rattle.c_expr_parser.specs.declared.marks.Mark.TheVariants as Marks
-use Rattle.c_expr_parser.specs.Reading.{then_read, and_after, after, pointer_at}
+use Rattle.c_expr_parser.specs.reading.Parts.{then_read, and_after, after, pointer_at}
 use Rattle.c_expr_parser.proofs.Tokens.{none_some, from_some, after_finds, after_spelled, then_read_some, and_after_some, begins_shorter}
 use Rattle.c_expr_parser.proofs.TypeReading.{pointers_find, pointers_spelled, pointers_shorter}
 use Rattle.c_expr_parser.proofs.Sound.{shorter, by_shorter}
 use Rattle.tm_trees.specs.DeclarationTrees.{LengthTree, DeclaratorTree, a_declared_name, a_nested, lengths_height, declarator_height}
 use Rattle.tm_trees.specs.DeclarationSpelling.{SpellsOptional, SpellsLengths, SpellsDeclaredName, SpellsDeclarator}
-use Rattle.c_decl_parser.specs.Reading.{place_after, declared_at, until}
-use Rattle.c_decl_parser.specs.DeclarationDescent.{lengths_by, lengths_from, lengths, pointers, named_by, nested_by, direct_by, declarator_after, declarator}
+use Rattle.c_decl_parser.specs.reading.Parts.{place_after, declared_at, until}
+use Rattle.c_decl_parser.specs.reading.DeclarationDescent.{lengths_by, lengths_from, lengths, pointers, named_by, nested_by, direct_by, declarator_after, declarator}
 use Rattle.c_decl_parser.proofs.MarkReading.{place_after_finds, place_after_spelled, place_after_none, declared_finds, declared_spelled}
 use Rattle.c_decl_parser.proofs.ExpressionReading.{until_sound, until_complete}
 

@@ -7,14 +7,14 @@ use Rattle.tm_terms.specs.declared.tokens.Token.{Token}
 use Rattle.tm_terms.specs.ExprTrees.{Tree}
 use Rattle.tm_terms.specs.ExprSpelling.{GoesOn}
 use Rattle.c_expr_parser.specs.declared.marks.Mark.TheVariants as Marks
-use Rattle.c_expr_parser.specs.Reading.{then_read, after}
+use Rattle.c_expr_parser.specs.reading.Parts.{then_read, after}
 use Rattle.c_expr_parser.proofs.Tokens.{none_some, from_some, after_finds, after_spelled, then_read_some, begins_shorter}
 use Rattle.c_expr_parser.proofs.Sound.{shorter, by_shorter}
 use Rattle.tm_trees.specs.DeclarationTrees.{EnumeratorTree, optional_height, enumerators_height}
 use Rattle.tm_trees.specs.DeclarationSpelling.{SpellsConstant, SpellsEnumerator, SpellsMoreEnumerators, SpellsEnumerators}
-use Rattle.c_decl_parser.specs.Reading.{declared_at, expression}
-use Rattle.c_decl_parser.specs.Repetitions.{in_braces}
-use Rattle.c_decl_parser.specs.DeclarationDescent.{constant_by, constant, enumerator}
+use Rattle.c_decl_parser.specs.reading.Parts.{declared_at, expression}
+use Rattle.c_decl_parser.specs.reading.Repetitions.{in_braces}
+use Rattle.c_decl_parser.specs.reading.DeclarationDescent.{constant_by, constant, enumerator}
 use Rattle.c_decl_parser.proofs.MarkReading.{declared_finds, declared_spelled, mark_stops}
 use Rattle.c_decl_parser.proofs.ExpressionReading.{expression_sound, expression_complete}
 use Rattle.c_decl_parser.proofs.RepetitionReading.{Relation, Braced, InBraces, in_braces_sound, in_braces_complete}

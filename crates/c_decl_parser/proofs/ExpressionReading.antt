@@ -8,13 +8,13 @@ use Rattle.tm_terms.specs.ExprTrees.{Tree, height}
 use Rattle.tm_terms.specs.ExprSpelling.{BySign, Spells, GoesOn, IsFront, continued_level}
 use Rattle.c_expr_parser.specs.declared.marks.Mark.{Mark}
 use Rattle.c_expr_parser.specs.declared.marks.Mark.TheVariants as Marks
-use Rattle.c_expr_parser.specs.Descent.{reads}
-use Rattle.c_expr_parser.specs.Reading.{then_read, and_after, after}
+use Rattle.c_expr_parser.specs.reading.Descent.{reads}
+use Rattle.c_expr_parser.specs.reading.Parts.{then_read, and_after, after}
 use Rattle.std.proofs.lemmas.Bool.Decides.{nat_tests}
 use Rattle.tm_terms.specs.declared.places.Place.{Place}
 use Rattle.tm_terms.specs.declared.tokens.Shape.{Shape}
 use Rattle.tm_terms.specs.declared.tokens.Shape.TheVariants as Shapes
-use Rattle.c_expr_parser.specs.Reading.{is_mark}
+use Rattle.c_expr_parser.specs.reading.Parts.{is_mark}
 use Rattle.c_expr_parser.proofs.FirstTokens.{Starts, by_operator, started}
 use Rattle.c_expr_parser.proofs.Tokens.{mark_sign, none_some, from_some, after_finds, after_spelled, then_read_some, and_after_some, cond_some, and_true, and_both}
 use Rattle.c_expr_parser.proofs.Sound.{le_true}
@@ -23,7 +23,7 @@ use Rattle.c_expr_parser.proofs.CompleteForms.{exactly}
 use Rattle.c_expr_parser.proofs.CompleteSteps.{reads_complete}
 use Rattle.tm_trees.specs.DeclarationTrees.{optional_height}
 use Rattle.tm_trees.specs.DeclarationSpelling.{SpellsAt, SpellsOptional}
-use Rattle.c_decl_parser.specs.Reading.{continues_by, continues, settled, expression, until_by, until, in_parentheses}
+use Rattle.c_decl_parser.specs.reading.Parts.{continues_by, continues, settled, expression, until_by, until, in_parentheses}
 use Rattle.c_decl_parser.proofs.MarkReading.{first_shape, least_stop, mark_stops}
 
 -- what is read is spelled, and within the height

@@ -3,7 +3,7 @@ pub mod DeclarationSteps
 pub mod DeclaratorReading
 pub mod EnumeratorReading
 pub mod ExpressionReading
-pub mod Longest
+pub mod SettledReading
 pub mod MarkReading
 pub mod RepetitionReading
 pub mod RepetitionSteps

@@ -12,12 +12,12 @@ use Rattle.tm_terms.specs.Names.{is_typedef}
 use Rattle.tm_terms.specs.ExprSpelling.{Begins, BySign, GoesOn}
 use Rattle.c_expr_parser.specs.declared.marks.Mark.{Mark}
 use Rattle.c_expr_parser.specs.declared.marks.Mark.TheVariants as Marks
-use Rattle.c_expr_parser.specs.Reading.{is_mark, after, name_at}
+use Rattle.c_expr_parser.specs.reading.Parts.{is_mark, after, name_at}
 use Rattle.c_expr_parser.proofs.Tokens.{mark_sign, false_true, none_some, from_some, shaped, after_finds, after_spelled, name_at_finds, then_read_some, cond_some, not_true}
 use Rattle.tm_trees.specs.DeclarationSpelling.{ByWord, SpellsDeclaredName}
 use Rattle.c_decl_parser.specs.declared.tokens.Keyword.{Keyword}
 use Rattle.c_decl_parser.specs.declared.tokens.Keyword.TheVariants as Keywords
-use Rattle.c_decl_parser.specs.Reading.{place_after, is_keyword, after_word, declared_at}
+use Rattle.c_decl_parser.specs.reading.Parts.{place_after, is_keyword, after_word, declared_at}
 
 -- ## Marks and their places
 

@@ -5,11 +5,11 @@ use Rattle.tm_terms.specs.declared.tokens.Sign.TheVariants as Signs
 use Rattle.tm_terms.specs.declared.tokens.Token.{Token}
 use Rattle.tm_terms.specs.ExprSpelling.{BySign}
 use Rattle.c_expr_parser.specs.declared.marks.Mark.TheVariants as Marks
-use Rattle.c_expr_parser.specs.Reading.{then_read, after}
+use Rattle.c_expr_parser.specs.reading.Parts.{then_read, after}
 use Rattle.c_expr_parser.proofs.Tokens.{none_some, from_some, after_finds, after_spelled, then_read_some}
 use Rattle.c_expr_parser.proofs.Sound.{by_shorter}
 use Rattle.tm_trees.specs.DeclarationSpelling.{EndsBraces}
-use Rattle.c_decl_parser.specs.Repetitions.{separated_by, separated, one_or_more, ended_by, until_brace, braced_by, braced, in_braces}
+use Rattle.c_decl_parser.specs.reading.Repetitions.{separated_by, separated, one_or_more, ended_by, until_brace, braced_by, braced, in_braces}
 
 -- what `P` says of an element, the tokens that begin with it, and those that follow it
 abbrev pub Relation : Type 0 → Type 1

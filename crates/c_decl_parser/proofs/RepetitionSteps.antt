@@ -1,9 +1,14 @@
 -- One step of each loop over a repetition, as the code makes it.
-use Rattle.std.proofs.Common.{◌≡◌, ℕ, zero, suc, List, [], ◌∷◌, ◌++◌, Option, Some, None, refl, ap, ◌∙◌}
+use Rattle.std.proofs.Common.{◌≡◌, ℕ, zero, suc, List, [], ◌∷◌, ◌++◌, map, Option, Some, None, refl, ap, ◌∙◌}
+use Rattle.std.proofs.lemmas.List.{map-append}
 use Rattle.tm_terms.specs.declared.tokens.Token.{Token}
 use Rattle.c_expr_parser.specs.declared.marks.Mark.TheVariants as Marks
-use Rattle.c_expr_parser.specs.Reading.{then_read, after}
-use Rattle.c_decl_parser.specs.Repetitions.{separated_by, separated, ended_by, until_brace, braced_by, braced}
+use Rattle.c_expr_parser.specs.reading.Parts.{then_read, after}
+use Rattle.c_decl_parser.specs.reading.Repetitions.{separated_by, separated, ended_by, until_brace, braced_by, braced}
+
+-- the trees of a vector with one more element
+pub pushed_tree : {A B : Type 0} (f : A → B) (xs ys : List A) (x : A) → ys ≡ xs ++ x ∷ [] → map f ys ≡ map f xs ++ f x ∷ []
+pushed_tree f xs ys x e = ap (map f) e ∙ map-append f xs (x ∷ [])
 
 module _ {A : Type 0} (read : List Token → Option (A × List Token)) where
   -- ## With a `,` between each two

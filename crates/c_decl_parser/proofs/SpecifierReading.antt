@@ -18,15 +18,15 @@ use Rattle.tm_terms.specs.declared.types_named.PointerWord.TheVariants as Pointe
 use Rattle.tm_terms.specs.Names.{is_typedef}
 use Rattle.tm_terms.specs.ExprSpelling.{BySign, SpellsPointers, BeginsWithStar, is_storage, is_typedef_word, many, is_type_spec, is_type_list, is_type_name_list}
 use Rattle.c_expr_parser.specs.declared.marks.Mark.TheVariants as Marks
-use Rattle.c_expr_parser.specs.Reading.{then_read, and_after, after, spec_at, begins_type}
+use Rattle.c_expr_parser.specs.reading.Parts.{then_read, and_after, after, spec_at, begins_type}
 use Rattle.c_expr_parser.proofs.Tokens.{false_true, none_some, from_some, after_finds, after_spelled, then_read_some, and_after_some, cond_some, and_true}
 use Rattle.c_expr_parser.proofs.TypeReading.{spec_at_finds, spec_at_spelled}
 use Rattle.c_expr_parser.proofs.Sound.{le_true, by_shorter}
 use Rattle.tm_trees.specs.declared.declarations.Tag.{Tag}
 use Rattle.tm_trees.specs.DeclarationTrees.{DeclaratorTree, a_declared_name, a_nested, declarator_height, declarators_height, EnumeratorTree, enumerators_height, SpecifierTree, a_plain, a_struct, an_enum, SpecifierTrees, no_specifiers, and_specifier, MemberTrees, no_members, and_members, counts_as, count_as, as_specifiers, as_members, word_height, specifier_height, tallest_specifier, specifiers_height, members_height}
 use Rattle.tm_trees.specs.DeclarationSpelling.{is_file_list, SpellsDeclarator, SpellsMoreMembers, SpellsMemberDeclarators, HasMembers, SpellsSpecifier, SpellsSpecifiers, SpellsMembers, SpellsEnumerators}
-use Rattle.c_decl_parser.specs.Repetitions.{one_or_more, until_brace, in_braces}
-use Rattle.c_decl_parser.specs.DeclarationDescent.{declarator, enumerator, Opened, opened, plain_by, found_specifier, specifier_by, specifier, specifiers_by, specifiers_from, member_after, members_by, body_by, specifiers, body, member}
+use Rattle.c_decl_parser.specs.reading.Repetitions.{one_or_more, until_brace, in_braces}
+use Rattle.c_decl_parser.specs.reading.DeclarationDescent.{declarator, enumerator, Opened, opened, plain_by, found_specifier, specifier_by, specifier, specifiers_by, specifiers_from, member_after, members_by, body_by, specifiers, body, member}
 use Rattle.c_decl_parser.proofs.ExpressionReading.{true_le}
 use Rattle.c_decl_parser.proofs.RepetitionReading.{Relation, Separated, OneOrMore, UntilBrace, ReadsOnly, one_or_more_sound, until_brace_sound, ReadsAll, one_or_more_complete, until_brace_complete}
 use Rattle.c_decl_parser.proofs.DeclaratorReading.{declarator_shorter, declarator_sound, declarator_complete, name_begins}

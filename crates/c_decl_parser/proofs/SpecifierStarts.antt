@@ -15,14 +15,14 @@ use Rattle.tm_terms.specs.declared.types_named.TagKind.TheVariants as Tags
 use Rattle.tm_terms.specs.ExprSpelling.{Begins, BySign, spec_of, tag_word, is_type_spec, SpellsSpec}
 use Rattle.c_expr_parser.specs.declared.marks.Mark.{Mark}
 use Rattle.c_expr_parser.specs.declared.marks.Mark.TheVariants as Marks
-use Rattle.c_expr_parser.specs.Reading.{and_after, after, name_at, begins_word, begins_type}
+use Rattle.c_expr_parser.specs.reading.Parts.{and_after, after, name_at, begins_word, begins_type}
 use Rattle.c_expr_parser.proofs.Tokens.{false_true, none_some, from_some, after_finds, after_spelled, name_at_finds, name_at_spelled, and_after_some, begins_shorter}
 use Rattle.c_expr_parser.proofs.TypeReading.{spec_shorter}
 use Rattle.c_expr_parser.proofs.Sound.{by_shorter}
 use Rattle.tm_trees.specs.declared.declarations.Tag.{Tag}
 use Rattle.tm_trees.specs.DeclarationTrees.{DeclaratorTree, SpecifierTree, a_plain, a_struct, an_enum, SpecifierTrees, no_specifiers, and_specifier, MemberTrees, no_members, and_members, counts_as}
 use Rattle.tm_trees.specs.DeclarationSpelling.{SpellsTag, SpellsMoreMembers, SpellsMemberDeclarators, SpellsSpecifier, SpellsSpecifiers, SpellsMembers}
-use Rattle.c_decl_parser.specs.DeclarationDescent.{Opened, tag_by, tag_at, opened_by, opened_word, opened_shape, opened}
+use Rattle.c_decl_parser.specs.reading.DeclarationDescent.{Opened, tag_by, tag_at, opened_by, opened_word, opened_shape, opened}
 use Rattle.c_decl_parser.proofs.DeclaratorReading.{declarator_shorter}
 use Rattle.c_decl_parser.proofs.EnumeratorReading.{enumerators_shorter}
 

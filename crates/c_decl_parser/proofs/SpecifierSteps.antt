@@ -9,13 +9,13 @@ use Rattle.tm_terms.specs.declared.types_named.TagKind.{TagKind}
 use Rattle.tm_terms.specs.ExprTrees.{Tree}
 use Rattle.tm_terms.specs.ExprSpelling.{is_type_spec, is_type_name_list}
 use Rattle.c_expr_parser.specs.declared.marks.Mark.TheVariants as Marks
-use Rattle.c_expr_parser.specs.Reading.{then_read, and_after, after}
+use Rattle.c_expr_parser.specs.reading.Parts.{then_read, and_after, after}
 use Rattle.tm_trees.specs.declared.declarations.Tag.{Tag}
 use Rattle.tm_trees.specs.declared.declarations.Specifier.{Specifier}
 use Rattle.tm_trees.specs.DeclarationTrees.{SpecifierTree, specifier_tree, counts_as, count_as, as_specifiers}
-use Rattle.c_decl_parser.specs.Reading.{declared_at}
-use Rattle.c_decl_parser.specs.Repetitions.{one_or_more}
-use Rattle.c_decl_parser.specs.DeclarationDescent.{Opened, declarator, constant, enumerator, specifier, specifiers_by, specifiers_from, body_by, member_after, specifiers, body, member}
+use Rattle.c_decl_parser.specs.reading.Parts.{declared_at}
+use Rattle.c_decl_parser.specs.reading.Repetitions.{one_or_more}
+use Rattle.c_decl_parser.specs.reading.DeclarationDescent.{Opened, declarator, constant, enumerator, specifier, specifiers_by, specifiers_from, body_by, member_after, specifiers, body, member}
 
 abbrev pub counts_of : List Specifier → List Spec
 counts_of specifiers = count_as (as_specifiers (map specifier_tree specifiers))

@@ -7,15 +7,15 @@ use Rattle.tm_terms.specs.declared.tokens.Sign.TheVariants as Signs
 use Rattle.tm_terms.specs.declared.tokens.Shape.TheVariants as Shapes
 use Rattle.tm_terms.specs.ExprSpelling.{GoesOn}
 use Rattle.c_expr_parser.specs.declared.marks.Mark.TheVariants as Marks
-use Rattle.c_expr_parser.specs.Reading.{then_read, after}
+use Rattle.c_expr_parser.specs.reading.Parts.{then_read, after}
 use Rattle.c_expr_parser.proofs.Tokens.{none_some, from_some, after_finds, then_read_some, begins_shorter}
 use Rattle.c_expr_parser.proofs.LevelFacts.{has_height}
 use Rattle.c_expr_parser.proofs.Sound.{shorter, by_shorter}
 use Rattle.tm_trees.specs.DeclarationTrees.{ValueTree, an_expression, a_list, ValueTrees, no_values, and_value, as_values, value_height, values_height, InitialiserTree, initialiser_height}
 use Rattle.tm_trees.specs.DeclarationSpelling.{EndsBraces, SpellsValue, SpellsValues, SpellsMoreValues, SpellsInitialiser}
-use Rattle.c_decl_parser.specs.Reading.{place_after, expression}
-use Rattle.c_decl_parser.specs.Repetitions.{in_braces}
-use Rattle.c_decl_parser.specs.DeclarationDescent.{value_by, value, initialiser_by, initialiser}
+use Rattle.c_decl_parser.specs.reading.Parts.{place_after, expression}
+use Rattle.c_decl_parser.specs.reading.Repetitions.{in_braces}
+use Rattle.c_decl_parser.specs.reading.DeclarationDescent.{value_by, value, initialiser_by, initialiser}
 use Rattle.c_decl_parser.proofs.MarkReading.{place_after_finds, place_after_spelled, place_after_none, mark_stops}
 use Rattle.c_decl_parser.proofs.ExpressionReading.{expression_sound, expression_complete, no_mark}
 use Rattle.c_decl_parser.proofs.RepetitionReading.{Relation, Braced, InBraces, ReadsOnly, in_braces_sound, in_braces_complete}

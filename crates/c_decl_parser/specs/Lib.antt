@@ -1,4 +1,1 @@
-pub mod DeclarationDescent
-pub mod Openings
-pub mod Reading
-pub mod Repetitions
+pub mod reading

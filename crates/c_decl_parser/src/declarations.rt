@@ -1,14 +1,18 @@
 //! Declarations (C99 6.7).
-ghost use Rattle.std.specs.Prelude.{◌≡◌, ◌≤◌, [], ◌∷◌, ◌++◌, true, false, length, map, Some, IfOk, OnOk};
-ghost use Rattle.c_expr_parser.specs.Reading.{then_read, and_after, after};
-ghost use Rattle.tm_trees.specs.DeclarationTrees.{declared_name, specifier_tree, as_specifiers, declarator_tree, init_declarator_tree, declaration_tree};
+ghost use Rattle.std.specs.Prelude.{◌≡◌, ◌≤◌, [], ◌∷◌, true, false, length, map, Some, IfOk};
+ghost use Rattle.c_expr_parser.specs.reading.Parts.{then_read, and_after, after};
+ghost use Rattle.tm_trees.specs.DeclarationTrees.{declared_name, specifier_tree, as_specifiers, declarator_tree};
+ghost use Rattle.tm_trees.specs.DeclarationTrees.{init_declarator_tree, declaration_tree};
 ghost use Rattle.tm_trees.specs.DeclarationSpelling.{is_file_list, is_typedef_list};
-ghost use Rattle.c_decl_parser.specs.Reading.{seen};
-ghost use Rattle.c_decl_parser.specs.Repetitions.{separated, one_or_more};
-ghost use Rattle.c_decl_parser.specs.DeclarationDescent.{pointers, initialiser, init_declarator_after, init_declarator, init_declarators, local_after, local_declaration, typedef_after, typedefs_from, rest_of_declaration, file_declarators};
+ghost use Rattle.c_decl_parser.specs.reading.Parts.{seen};
+ghost use Rattle.c_decl_parser.specs.reading.Repetitions.{separated, one_or_more};
+ghost use Rattle.c_decl_parser.specs.reading.DeclarationDescent.{pointers, initialiser, init_declarator_after};
+ghost use Rattle.c_decl_parser.specs.reading.DeclarationDescent.{init_declarator, init_declarators, local_after};
+ghost use Rattle.c_decl_parser.specs.reading.DeclarationDescent.{local_declaration, typedef_after, typedefs_from};
+ghost use Rattle.c_decl_parser.specs.reading.DeclarationDescent.{rest_of_declaration, file_declarators};
 
 use crate::declarators::declarator_after;
-use crate::reads::Read;
+use crate::reads::{Read, push};
 use crate::specifiers::{names_type, specifiers};
 use crate::values::initialiser;
 use c_expr_parser::marks::{Mark, after};
@@ -35,18 +39,6 @@ pub fn is_typedef_list(specs: &[Spec]) -> bool
 
 // ## Declarators with their values
 
-fn push_init_declarator(
-    declarators: &mut Vec<InitDeclarator>,
-    declarator: InitDeclarator,
-) -> Result<(), NoMemory>
-    ensures { OnOk result (map init_declarator_tree declarators.new.items ≡ map init_declarator_tree declarators.old.items ++ init_declarator_tree declarator ∷ []) }
-{
-    match declarators.push(declarator) {
-        Ok(()) => Ok(()),
-        Err(_) => Err(NoMemory),
-    }
-}
-
 // The declarator with its value, if there is one.
 fn valued<'a>(
     alloc: Global,
@@ -56,7 +48,9 @@ fn valued<'a>(
     tokens: &'a [Token],
 ) -> Result<Read<'a, InitDeclarator>, NoMemory>
     requires { allowed ≤ 500 }
-    ensures { IfOk result (λ read. seen init_declarator_tree read ≡ then_read (initialiser types.now allowed tokens.now) (λ i rest. Some (record { declarator = declarator_tree declarator; initialiser = i }, rest))) }
+    ensures { IfOk result (λ read. seen init_declarator_tree read
+        ≡ then_read (initialiser types.now allowed tokens.now)
+        (λ i rest. Some (record { declarator = declarator_tree declarator; initialiser = i }, rest))) }
 {
     match initialiser(alloc, types, allowed, tokens)? {
         Read::Stuck(at) => Ok(Read::Stuck(at)),
@@ -71,7 +65,7 @@ fn valued<'a>(
 }
 
 // A declarator whose pointer part was read, and its value.
-#[tactic(auto, unfolding(crate::specs::DeclarationDescent::init_declarator_after))]
+#[tactic(auto, unfolding(crate::specs::reading::DeclarationDescent::init_declarator_after))]
 fn init_declarator_after<'a>(
     alloc: Global,
     types: &Names,
@@ -80,7 +74,8 @@ fn init_declarator_after<'a>(
     tokens: &'a [Token],
 ) -> Result<Read<'a, InitDeclarator>, NoMemory>
     requires { allowed ≤ 500 }
-    ensures { IfOk result (λ read. seen init_declarator_tree read ≡ init_declarator_after types.now allowed pointers.items tokens.now) }
+    ensures { IfOk result (λ read. seen init_declarator_tree read
+        ≡ init_declarator_after types.now allowed pointers.items tokens.now) }
 {
     if allowed == 0 {
         return Ok(Read::Stuck(tokens));
@@ -113,10 +108,12 @@ fn further_declarators<'a>(
     tokens: &'a [Token],
 ) -> Result<Read<'a, Vec<InitDeclarator>>, NoMemory>
     requires { allowed ≤ 500 }
-    ensures { IfOk result (λ read. seen (λ v. map init_declarator_tree v.items) read ≡ separated (init_declarator types.now allowed) (length tokens.now) (init_declarator_tree first ∷ []) tokens.now) }
+    ensures { IfOk result (λ read. seen (λ v. map init_declarator_tree v.items) read
+        ≡ separated (init_declarator types.now allowed) (length tokens.now)
+        (init_declarator_tree first ∷ []) tokens.now) }
 {
     let mut found = Vec::new(alloc);
-    push_init_declarator(&mut found, first)?;
+    push(&mut found, first)?;
     let mut rest = tokens;
     let limit = tokens.len();
     'declarators: for _i in 0..limit {
@@ -125,7 +122,7 @@ fn further_declarators<'a>(
             Some(parted) => match init_declarator(alloc, types, allowed, parted)? {
                 Read::Stuck(at) => return Ok(Read::Stuck(at)),
                 Read::Found(declarator, next) => {
-                    push_init_declarator(&mut found, declarator)?;
+                    push(&mut found, declarator)?;
                     rest = next;
                 }
             },
@@ -141,7 +138,8 @@ fn some_declarators<'a>(
     tokens: &'a [Token],
 ) -> Result<Read<'a, Vec<InitDeclarator>>, NoMemory>
     requires { allowed ≤ 500 }
-    ensures { IfOk result (λ read. seen (λ v. map init_declarator_tree v.items) read ≡ one_or_more (init_declarator types.now allowed) tokens.now) }
+    ensures { IfOk result (λ read. seen (λ v. map init_declarator_tree v.items) read
+        ≡ one_or_more (init_declarator types.now allowed) tokens.now) }
 {
     match init_declarator(alloc, types, allowed, tokens)? {
         Read::Stuck(at) => Ok(Read::Stuck(at)),
@@ -150,7 +148,7 @@ fn some_declarators<'a>(
 }
 
 // Any number of declarators, and the `;`.
-#[tactic(auto, unfolding(crate::specs::DeclarationDescent::init_declarators))]
+#[tactic(auto, unfolding(crate::specs::reading::DeclarationDescent::init_declarators))]
 fn init_declarators<'a>(
     alloc: Global,
     types: &Names,
@@ -158,7 +156,8 @@ fn init_declarators<'a>(
     tokens: &'a [Token],
 ) -> Result<Read<'a, Vec<InitDeclarator>>, NoMemory>
     requires { allowed ≤ 500 }
-    ensures { IfOk result (λ read. seen (λ v. map init_declarator_tree v.items) read ≡ init_declarators types.now allowed tokens.now) }
+    ensures { IfOk result (λ read. seen (λ v. map init_declarator_tree v.items) read
+        ≡ init_declarators types.now allowed tokens.now) }
 {
     match after(Mark::Semicolon, tokens) {
         Some(rest) => Ok(Read::Found(Vec::new(alloc), rest)),
@@ -182,7 +181,15 @@ fn declared<'a>(
     tokens: &'a [Token],
 ) -> Result<Read<'a, Declaration>, NoMemory>
     requires { allowed ≤ 500 }
-    ensures { IfOk result (λ read. seen declaration_tree read ≡ then_read (init_declarators types.now allowed tokens.now) (λ declarators rest. Some (record { specifiers = as_specifiers (map specifier_tree specifiers.items); declarators = declarators }, rest))) }
+    ensures { IfOk result (λ read. seen declaration_tree read
+        ≡ then_read (init_declarators types.now allowed tokens.now)
+        (λ declarators rest. Some (
+          record {
+            specifiers = as_specifiers (map specifier_tree specifiers.items);
+            declarators = declarators;
+          },
+          rest,
+        ))) }
 {
     match init_declarators(alloc, types, allowed, tokens)? {
         Read::Stuck(at) => Ok(Read::Stuck(at)),
@@ -204,7 +211,8 @@ fn local_after<'a>(
     tokens: &'a [Token],
 ) -> Result<Read<'a, Declaration>, NoMemory>
     requires { allowed ≤ 500 }
-    ensures { IfOk result (λ read. seen declaration_tree read ≡ local_after types.now allowed (map specifier_tree specifiers.items) tokens.now) }
+    ensures { IfOk result (λ read. seen declaration_tree read
+        ≡ local_after types.now allowed (map specifier_tree specifiers.items) tokens.now) }
 {
     let named = names_type(alloc, &specifiers)?;
     if named {
@@ -215,7 +223,7 @@ fn local_after<'a>(
 }
 
 /// A declaration in a block.
-#[tactic(auto, unfolding(crate::specs::DeclarationDescent::local_declaration))]
+#[tactic(auto, unfolding(crate::specs::reading::DeclarationDescent::local_declaration))]
 pub fn local_declaration<'a>(
     alloc: Global,
     types: &Names,
@@ -245,7 +253,7 @@ pub fn declared_name(declarator: &Declarator) -> Name
 
 // A declarator of a typedef whose pointer part was read, and its value. Its name is one of a typedef from
 // the end of the declarator on.
-#[tactic(auto, unfolding(crate::specs::DeclarationDescent::typedef_after))]
+#[tactic(auto, unfolding(crate::specs::reading::DeclarationDescent::typedef_after))]
 fn typedef_after<'a>(
     alloc: Global,
     types: &mut Names,
@@ -254,7 +262,8 @@ fn typedef_after<'a>(
     tokens: &'a [Token],
 ) -> Result<Read<'a, InitDeclarator>, NoMemory>
     requires { allowed ≤ 500 }
-    ensures { IfOk result (λ read. seen (λ d. (init_declarator_tree d, types.new)) read ≡ typedef_after types.old allowed pointers.items tokens.now) }
+    ensures { IfOk result (λ read. seen (λ d. (init_declarator_tree d, types.new)) read
+        ≡ typedef_after types.old allowed pointers.items tokens.now) }
 {
     if allowed == 0 {
         return Ok(Read::Stuck(tokens));
@@ -276,7 +285,8 @@ fn typedef_declarator<'a>(
     tokens: &'a [Token],
 ) -> Result<Read<'a, InitDeclarator>, NoMemory>
     requires { allowed ≤ 500 }
-    ensures { IfOk result (λ read. seen (λ d. (init_declarator_tree d, types.new)) read ≡ typedef_after types.old allowed (pointers tokens.now).0 (pointers tokens.now).1) }
+    ensures { IfOk result (λ read. seen (λ d. (init_declarator_tree d, types.new)) read
+        ≡ typedef_after types.old allowed (pointers tokens.now).0 (pointers tokens.now).1) }
 {
     let (pointers, rest) = read_pointers(alloc, tokens)?;
     typedef_after(alloc, types, allowed, pointers, rest)
@@ -291,10 +301,11 @@ fn further_typedefs<'a>(
     tokens: &'a [Token],
 ) -> Result<Read<'a, Vec<InitDeclarator>>, NoMemory>
     requires { allowed ≤ 500 }
-    ensures { IfOk result (λ read. seen (λ v. (map init_declarator_tree v.items, types.new)) read ≡ typedefs_from allowed (length tokens.now) types.old (init_declarator_tree first ∷ []) tokens.now) }
+    ensures { IfOk result (λ read. seen (λ v. (map init_declarator_tree v.items, types.new)) read
+        ≡ typedefs_from allowed (length tokens.now) types.old (init_declarator_tree first ∷ []) tokens.now) }
 {
     let mut found = Vec::new(alloc);
-    push_init_declarator(&mut found, first)?;
+    push(&mut found, first)?;
     let mut rest = tokens;
     let limit = tokens.len();
     'typedefs: for _i in 0..limit {
@@ -303,7 +314,7 @@ fn further_typedefs<'a>(
             Some(parted) => match typedef_declarator(alloc, types, allowed, parted)? {
                 Read::Stuck(at) => return Ok(Read::Stuck(at)),
                 Read::Found(declarator, next) => {
-                    push_init_declarator(&mut found, declarator)?;
+                    push(&mut found, declarator)?;
                     rest = next;
                 }
             },
@@ -320,7 +331,8 @@ fn typedefs<'a>(
     tokens: &'a [Token],
 ) -> Result<Read<'a, Vec<InitDeclarator>>, NoMemory>
     requires { allowed ≤ 500 }
-    ensures { IfOk result (λ read. seen (λ v. (map init_declarator_tree v.items, types.new)) read ≡ rest_of_declaration types.old allowed true pointers.items tokens.now) }
+    ensures { IfOk result (λ read. seen (λ v. (map init_declarator_tree v.items, types.new)) read
+        ≡ rest_of_declaration types.old allowed true pointers.items tokens.now) }
 {
     match typedef_after(alloc, types, allowed, pointers, tokens)? {
         Read::Stuck(at) => Ok(Read::Stuck(at)),
@@ -336,7 +348,8 @@ fn objects<'a>(
     tokens: &'a [Token],
 ) -> Result<Read<'a, Vec<InitDeclarator>>, NoMemory>
     requires { allowed ≤ 500 }
-    ensures { IfOk result (λ read. seen (λ v. (map init_declarator_tree v.items, types.now)) read ≡ rest_of_declaration types.now allowed false pointers.items tokens.now) }
+    ensures { IfOk result (λ read. seen (λ v. (map init_declarator_tree v.items, types.now)) read
+        ≡ rest_of_declaration types.now allowed false pointers.items tokens.now) }
 {
     match init_declarator_after(alloc, types, allowed, pointers, tokens)? {
         Read::Stuck(at) => Ok(Read::Stuck(at)),
@@ -356,7 +369,8 @@ fn rest_of_declaration<'a>(
     tokens: &'a [Token],
 ) -> Result<Read<'a, Vec<InitDeclarator>>, NoMemory>
     requires { allowed ≤ 500 }
-    ensures { IfOk result (λ read. seen (λ v. (map init_declarator_tree v.items, types.new)) read ≡ rest_of_declaration types.old allowed typedef pointers.items tokens.now) }
+    ensures { IfOk result (λ read. seen (λ v. (map init_declarator_tree v.items, types.new)) read
+        ≡ rest_of_declaration types.old allowed typedef pointers.items tokens.now) }
 {
     if typedef {
         typedefs(alloc, types, allowed, pointers, tokens)
@@ -367,7 +381,7 @@ fn rest_of_declaration<'a>(
 
 /// The declarators at file scope, the first of which had its pointer part read, and the `;`. A typedef's
 /// names are added as they are declared.
-#[tactic(auto, unfolding(crate::specs::DeclarationDescent::file_declarators))]
+#[tactic(auto, unfolding(crate::specs::reading::DeclarationDescent::file_declarators))]
 pub fn file_declarators<'a>(
     alloc: Global,
     types: &mut Names,
@@ -377,7 +391,8 @@ pub fn file_declarators<'a>(
     tokens: &'a [Token],
 ) -> Result<Read<'a, Vec<InitDeclarator>>, NoMemory>
     requires { allowed ≤ 500 }
-    ensures { IfOk result (λ read. seen (λ v. (map init_declarator_tree v.items, types.new)) read ≡ file_declarators types.old allowed typedef pointers.items tokens.now) }
+    ensures { IfOk result (λ read. seen (λ v. (map init_declarator_tree v.items, types.new)) read
+        ≡ file_declarators types.old allowed typedef pointers.items tokens.now) }
 {
     match rest_of_declaration(alloc, types, allowed, typedef, pointers, tokens)? {
         Read::Stuck(at) => Ok(Read::Stuck(at)),

@@ -1,13 +1,13 @@
 //! Declarators (C99 6.7.5).
-ghost use Rattle.std.specs.Prelude.{◌≡◌, ◌≤◌, [], ◌∷◌, ◌++◌, length, map, true, Some, IfOk, OnOk};
-ghost use Rattle.c_expr_parser.specs.Reading.{then_read};
+ghost use Rattle.std.specs.Prelude.{◌≡◌, ◌≤◌, [], ◌∷◌, length, map, true, Some, IfOk};
+ghost use Rattle.c_expr_parser.specs.reading.Parts.{then_read};
 ghost use Rattle.tm_trees.specs.DeclarationTrees.{length_tree, a_declared_name, a_nested, declarator_tree};
-ghost use Rattle.c_decl_parser.specs.Reading.{seen};
-ghost use Rattle.c_decl_parser.specs.Repetitions.{separated, one_or_more};
-ghost use Rattle.c_decl_parser.specs.DeclarationDescent.{lengths, declarator_after, declarator};
+ghost use Rattle.c_decl_parser.specs.reading.Parts.{seen};
+ghost use Rattle.c_decl_parser.specs.reading.Repetitions.{separated, one_or_more};
+ghost use Rattle.c_decl_parser.specs.reading.DeclarationDescent.{lengths, declarator_after, declarator};
 
 use crate::expressions::until;
-use crate::reads::Read;
+use crate::reads::{Read, push};
 use crate::tokens::{declared_at, place_after};
 use c_expr_parser::marks::{Mark, after};
 use c_expr_parser::type_names::read_pointers;
@@ -15,15 +15,6 @@ use std::alloc::Global;
 use tm_lattice::NoMemory;
 use tm_terms::{Level, Name, Names, Place, PointerWord, Token};
 use tm_trees::{Declarator, Length};
-
-fn push_length(lengths: &mut Vec<Length>, length: Length) -> Result<(), NoMemory>
-    ensures { OnOk result (map length_tree lengths.new.items ≡ map length_tree lengths.old.items ++ length_tree length ∷ []) }
-{
-    match lengths.push(length) {
-        Ok(()) => Ok(()),
-        Err(_) => Err(NoMemory),
-    }
-}
 
 /// All lengths of arrays that come first.
 pub fn lengths<'a>(
@@ -52,7 +43,7 @@ pub fn lengths<'a>(
                 )? {
                     Read::Stuck(at) => return Ok(Read::Stuck(at)),
                     Read::Found(value, next) => {
-                        push_length(&mut found, Length { value, place })?;
+                        push(&mut found, Length { value, place })?;
                         rest = next;
                     }
                 }
@@ -73,7 +64,9 @@ fn named<'a>(
     tokens: &'a [Token],
 ) -> Result<Read<'a, Declarator>, NoMemory>
     requires { allowed ≤ 500 }
-    ensures { IfOk result (λ read. seen declarator_tree read ≡ then_read (lengths types.now allowed tokens.now) (λ sizes rest. Some (a_declared_name pointers.items name place sizes, rest))) }
+    ensures { IfOk result (λ read. seen declarator_tree read
+        ≡ then_read (lengths types.now allowed tokens.now)
+        (λ sizes rest. Some (a_declared_name pointers.items name place sizes, rest))) }
 {
     match lengths(alloc, types, allowed, tokens)? {
         Read::Stuck(at) => Ok(Read::Stuck(at)),
@@ -89,15 +82,6 @@ fn named<'a>(
     }
 }
 
-fn boxed(alloc: Global, declarator: Declarator) -> Result<Box<Declarator>, NoMemory>
-    ensures { IfOk result (λ b. b.value ≡ declarator) }
-{
-    match Box::new(alloc, declarator) {
-        Ok(declarator) => Ok(declarator),
-        Err(_) => Err(NoMemory),
-    }
-}
-
 // The declarator around one in parentheses, whose lengths follow.
 fn nested<'a>(
     alloc: Global,
@@ -108,9 +92,11 @@ fn nested<'a>(
     tokens: &'a [Token],
 ) -> Result<Read<'a, Declarator>, NoMemory>
     requires { allowed ≤ 500 }
-    ensures { IfOk result (λ read. seen declarator_tree read ≡ then_read (lengths types.now allowed tokens.now) (λ sizes rest. Some (a_nested pointers.items (declarator_tree inside) sizes, rest))) }
+    ensures { IfOk result (λ read. seen declarator_tree read
+        ≡ then_read (lengths types.now allowed tokens.now)
+        (λ sizes rest. Some (a_nested pointers.items (declarator_tree inside) sizes, rest))) }
 {
-    let inside = boxed(alloc, inside)?;
+    let inside = Box::new(alloc, inside)?;
     match lengths(alloc, types, allowed, tokens)? {
         Read::Stuck(at) => Ok(Read::Stuck(at)),
         Read::Found(lengths, rest) => Ok(Read::Found(
@@ -126,7 +112,7 @@ fn nested<'a>(
 
 /// The declarator whose pointer part was read.
 #[cycle(declarator)]
-#[tactic(auto, unfolding(crate::specs::DeclarationDescent::declarator_after))]
+#[tactic(auto, unfolding(crate::specs::reading::DeclarationDescent::declarator_after))]
 pub fn declarator_after<'a>(
     alloc: Global,
     types: &Names,
@@ -136,7 +122,8 @@ pub fn declarator_after<'a>(
     tokens: &'a [Token],
 ) -> Result<Read<'a, Declarator>, NoMemory>
     requires { allowed ≤ 500 }
-    ensures { IfOk result (λ read. seen declarator_tree read ≡ declarator_after member types.now allowed pointers.items tokens.now) }
+    ensures { IfOk result (λ read. seen declarator_tree read
+        ≡ declarator_after member types.now allowed pointers.items tokens.now) }
 {
     if allowed == 0 {
         return Ok(Read::Stuck(tokens));
@@ -174,18 +161,6 @@ pub fn declarator<'a>(
     declarator_after(alloc, types, member, allowed, pointers, rest)
 }
 
-fn push_declarator(
-    declarators: &mut Vec<Declarator>,
-    declarator: Declarator,
-) -> Result<(), NoMemory>
-    ensures { OnOk result (map declarator_tree declarators.new.items ≡ map declarator_tree declarators.old.items ++ declarator_tree declarator ∷ []) }
-{
-    match declarators.push(declarator) {
-        Ok(()) => Ok(()),
-        Err(_) => Err(NoMemory),
-    }
-}
-
 // Behind the first declarator of members the further ones, each after a `,`.
 fn further_members<'a>(
     alloc: Global,
@@ -195,10 +170,11 @@ fn further_members<'a>(
     tokens: &'a [Token],
 ) -> Result<Read<'a, Vec<Declarator>>, NoMemory>
     requires { allowed ≤ 500 }
-    ensures { IfOk result (λ read. seen (λ v. map declarator_tree v.items) read ≡ separated (declarator true types.now allowed) (length tokens.now) (declarator_tree first ∷ []) tokens.now) }
+    ensures { IfOk result (λ read. seen (λ v. map declarator_tree v.items) read
+        ≡ separated (declarator true types.now allowed) (length tokens.now) (declarator_tree first ∷ []) tokens.now) }
 {
     let mut found = Vec::new(alloc);
-    push_declarator(&mut found, first)?;
+    push(&mut found, first)?;
     let mut rest = tokens;
     let limit = tokens.len();
     'declarators: for _i in 0..limit {
@@ -207,7 +183,7 @@ fn further_members<'a>(
             Some(parted) => match declarator(alloc, types, true, allowed, parted)? {
                 Read::Stuck(at) => return Ok(Read::Stuck(at)),
                 Read::Found(declarator, next) => {
-                    push_declarator(&mut found, declarator)?;
+                    push(&mut found, declarator)?;
                     rest = next;
                 }
             },
@@ -224,7 +200,8 @@ pub fn member_declarators<'a>(
     tokens: &'a [Token],
 ) -> Result<Read<'a, Vec<Declarator>>, NoMemory>
     requires { allowed ≤ 500 }
-    ensures { IfOk result (λ read. seen (λ v. map declarator_tree v.items) read ≡ one_or_more (declarator true types.now allowed) tokens.now) }
+    ensures { IfOk result (λ read. seen (λ v. map declarator_tree v.items) read
+        ≡ one_or_more (declarator true types.now allowed) tokens.now) }
 {
     match declarator(alloc, types, true, allowed, tokens)? {
         Read::Stuck(at) => Ok(Read::Stuck(at)),

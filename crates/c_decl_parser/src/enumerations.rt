@@ -1,12 +1,12 @@
 //! The constants of enumerations (C99 6.7.2.2).
-ghost use Rattle.std.specs.Prelude.{◌≡◌, ◌≤◌, [], ◌∷◌, ◌++◌, length, map, IfOk, OnOk};
+ghost use Rattle.std.specs.Prelude.{◌≡◌, ◌≤◌, [], ◌∷◌, length, map, IfOk};
 ghost use Rattle.tm_trees.specs.DeclarationTrees.{optional_tree, enumerator_tree};
-ghost use Rattle.c_decl_parser.specs.Reading.{seen};
-ghost use Rattle.c_decl_parser.specs.Repetitions.{braced, in_braces};
-ghost use Rattle.c_decl_parser.specs.DeclarationDescent.{constant, enumerator};
+ghost use Rattle.c_decl_parser.specs.reading.Parts.{seen};
+ghost use Rattle.c_decl_parser.specs.reading.Repetitions.{braced, in_braces};
+ghost use Rattle.c_decl_parser.specs.reading.DeclarationDescent.{constant, enumerator};
 
 use crate::expressions::expression;
-use crate::reads::Read;
+use crate::reads::{Read, push};
 use crate::tokens::declared_at;
 use c_expr_parser::marks::{Mark, after};
 use std::alloc::Global;
@@ -15,7 +15,7 @@ use tm_terms::{Expr, Level, Names, Token};
 use tm_trees::Enumerator;
 
 // The value of a constant, if a `=` comes first.
-#[tactic(auto, unfolding(crate::specs::DeclarationDescent::constant))]
+#[tactic(auto, unfolding(crate::specs::reading::DeclarationDescent::constant))]
 fn constant<'a>(
     alloc: Global,
     types: &Names,
@@ -34,7 +34,7 @@ fn constant<'a>(
     }
 }
 
-#[tactic(auto, unfolding(crate::specs::DeclarationDescent::enumerator))]
+#[tactic(auto, unfolding(crate::specs::reading::DeclarationDescent::enumerator))]
 fn enumerator<'a>(
     alloc: Global,
     types: &Names,
@@ -56,18 +56,6 @@ fn enumerator<'a>(
     }
 }
 
-fn push_enumerator(
-    enumerators: &mut Vec<Enumerator>,
-    enumerator: Enumerator,
-) -> Result<(), NoMemory>
-    ensures { OnOk result (map enumerator_tree enumerators.new.items ≡ map enumerator_tree enumerators.old.items ++ enumerator_tree enumerator ∷ []) }
-{
-    match enumerators.push(enumerator) {
-        Ok(()) => Ok(()),
-        Err(_) => Err(NoMemory),
-    }
-}
-
 // Behind the first constant the further ones, each after a `,`, and the `}`, before which a `,` may stand.
 fn further_enumerators<'a>(
     alloc: Global,
@@ -77,10 +65,11 @@ fn further_enumerators<'a>(
     tokens: &'a [Token],
 ) -> Result<Read<'a, Vec<Enumerator>>, NoMemory>
     requires { allowed ≤ 500 }
-    ensures { IfOk result (λ read. seen (λ v. map enumerator_tree v.items) read ≡ braced (enumerator types.now allowed) (length tokens.now) (enumerator_tree first ∷ []) tokens.now) }
+    ensures { IfOk result (λ read. seen (λ v. map enumerator_tree v.items) read
+        ≡ braced (enumerator types.now allowed) (length tokens.now) (enumerator_tree first ∷ []) tokens.now) }
 {
     let mut found = Vec::new(alloc);
-    push_enumerator(&mut found, first)?;
+    push(&mut found, first)?;
     let mut rest = tokens;
     let limit = tokens.len();
     'constants: for _i in 0..limit {
@@ -93,7 +82,7 @@ fn further_enumerators<'a>(
                     None => match enumerator(alloc, types, allowed, parted)? {
                         Read::Stuck(at) => return Ok(Read::Stuck(at)),
                         Read::Found(constant, next) => {
-                            push_enumerator(&mut found, constant)?;
+                            push(&mut found, constant)?;
                             rest = next;
                         }
                     },
@@ -112,7 +101,8 @@ pub fn enumerators<'a>(
     tokens: &'a [Token],
 ) -> Result<Read<'a, Vec<Enumerator>>, NoMemory>
     requires { allowed ≤ 500 }
-    ensures { IfOk result (λ read. seen (λ v. map enumerator_tree v.items) read ≡ in_braces (enumerator types.now allowed) tokens.now) }
+    ensures { IfOk result (λ read. seen (λ v. map enumerator_tree v.items) read
+        ≡ in_braces (enumerator types.now allowed) tokens.now) }
 {
     match enumerator(alloc, types, allowed, tokens)? {
         Read::Stuck(at) => Ok(Read::Stuck(at)),

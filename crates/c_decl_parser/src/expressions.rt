@@ -1,14 +1,16 @@
 //! Expressions inside declarations and statements.
-ghost use Rattle.std.specs.Prelude.{◌≡◌, ◌≤◌, IfOk};
+ghost use Rattle.std.specs.Prelude.{◌≡◌, ◌≤◌, IfOk, Some};
 ghost use Rattle.tm_terms.specs.ExprTrees.{tree_of, rank};
 ghost use Rattle.tm_trees.specs.DeclarationTrees.{optional_tree};
-ghost use Rattle.c_decl_parser.specs.Reading.{seen, continues, continues_by, expression, until, in_parentheses};
+ghost use Rattle.c_expr_parser.specs.reading.Founds.{pair_of};
+ghost use Rattle.c_decl_parser.specs.reading.Parts.{seen, continues, continues_by, settled, expression, until};
+ghost use Rattle.c_decl_parser.specs.reading.Parts.{in_parentheses};
 
-use crate::breaks::break_of;
 use crate::reads::Read;
+use c_expr_parser::found::{Found, Tried};
 use c_expr_parser::levels::rank;
 use c_expr_parser::marks::{Mark, after, continued_level};
-use c_expr_parser::parse_at;
+use c_expr_parser::read_at;
 use std::alloc::Global;
 use tm_lattice::NoMemory;
 use tm_terms::{Expr, Level, Names, Token};
@@ -32,6 +34,19 @@ fn continues(level: Level, tokens: &[Token]) -> bool
     false
 }
 
+// The expression that was read, where it has at most the allowed height and the token after it does not go on.
+fn settled<'a>(allowed: u32, level: Level, found: Found<'a>) -> Read<'a, Expr>
+    ensures { seen tree_of result ≡ settled allowed (rank level) (Some (pair_of found.entry)) }
+{
+    if found.height > allowed {
+        return Read::Stuck(found.rest);
+    }
+    if continues(level, found.rest) {
+        return Read::Stuck(found.stuck);
+    }
+    Read::Found(Box::into_inner(found.expr), found.rest)
+}
+
 /// An expression at a level, of at most the allowed height, that the token after it does not go on.
 pub fn expression<'a>(
     alloc: Global,
@@ -43,24 +58,14 @@ pub fn expression<'a>(
     requires { allowed ≤ 500 }
     ensures { IfOk result (λ read. seen tree_of read ≡ expression types.now allowed (rank level) tokens.now) }
 {
-    match parse_at(alloc, tokens, 0, types, level)? {
-        None => Ok(Read::Stuck(break_of(types, level, tokens))),
-        Some(parsed) => {
-            let height = parsed.height;
-            let rest = &tokens[parsed.end..];
-            if height > allowed {
-                return Ok(Read::Stuck(break_of(types, level, tokens)));
-            }
-            if continues(level, rest) {
-                return Ok(Read::Stuck(break_of(types, level, tokens)));
-            }
-            Ok(Read::Found(parsed.expr, rest))
-        }
+    match read_at(alloc, types, level, tokens)? {
+        Tried::Stuck(at) => Ok(Read::Stuck(at)),
+        Tried::Found(found) => Ok(settled(allowed, level, found)),
     }
 }
 
 /// An expression, or nothing, and the mark.
-#[tactic(auto, unfolding(crate::specs::Reading::until))]
+#[tactic(auto, unfolding(crate::specs::reading::Parts::until))]
 pub fn until<'a>(
     alloc: Global,
     types: &Names,
@@ -85,7 +90,7 @@ pub fn until<'a>(
 }
 
 /// An expression in parentheses.
-#[tactic(auto, unfolding(crate::specs::Reading::in_parentheses))]
+#[tactic(auto, unfolding(crate::specs::reading::Parts::in_parentheses))]
 pub fn in_parentheses<'a>(
     alloc: Global,
     types: &Names,

@@ -1,7 +1,10 @@
-//! Declarations, and the expressions in them and in statements: from tokens to trees, exactly by the grammar.
+//! From tokens to declarations and their parts, and to the expressions in them and in statements, exactly by the
+//! grammar; where a form breaks off, a reader answers with the tokens at which it got stuck. It knows the names of
+//! typedefs, in the order in which they are declared, and not what any other name means.
+//!
+//! In `int a[2]={1,;` the reader of values gets stuck at the `;`.
 #![tactic(auto)]
 
-mod breaks;
 pub mod declarations;
 pub mod declarators;
 pub mod enumerations;

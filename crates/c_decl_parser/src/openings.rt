@@ -1,7 +1,7 @@
 //! What opens the body of a structure or an enumeration (C99 6.7.2.1, 6.7.2.2).
 ghost use Rattle.std.specs.Prelude.{◌≡◌};
-ghost use Rattle.c_decl_parser.specs.Openings.{seen_opened};
-ghost use Rattle.c_decl_parser.specs.DeclarationDescent.{tag_at, opened_by, opened_word, opened};
+ghost use Rattle.c_decl_parser.specs.reading.Openings.{seen_opened};
+ghost use Rattle.c_decl_parser.specs.reading.DeclarationDescent.{tag_at, opened_by, opened_word, opened};
 
 use c_expr_parser::marks::{Mark, after, name_at};
 use tm_terms::{Place, Shape, TagKind, Token, Word};
@@ -46,7 +46,7 @@ fn opened_word(word: Word, place: Place, tokens: &[Token]) -> Option<(Opening, &
 }
 
 /// What opens the body of a structure or an enumeration, if it comes first, and what follows its `{`.
-#[tactic(auto, unfolding(crate::specs::DeclarationDescent::opened))]
+#[tactic(auto, unfolding(crate::specs::reading::DeclarationDescent::opened))]
 pub fn opened(tokens: &[Token]) -> Option<(Opening, &[Token])>
     ensures { seen_opened result ≡ opened tokens.now }
 {

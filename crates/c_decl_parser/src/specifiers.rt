@@ -1,17 +1,20 @@
 //! Specifiers of declarations, structures and their members (C99 6.7, 6.7.2).
-ghost use Rattle.std.specs.Prelude.{◌≡◌, ◌≤◌, ◌||◌, [], ◌∷◌, ◌++◌, true, false, length, map, Some, IfOk, OnOk};
+ghost use Rattle.std.specs.Prelude.{◌≡◌, ◌≤◌, ◌||◌, [], ◌∷◌, true, false, length, map, Some, IfOk};
 ghost use Rattle.tm_terms.specs.ExprSpelling.{is_type_spec, is_type_name_list};
-ghost use Rattle.c_expr_parser.specs.Reading.{then_read, and_after, after, spec_at};
-ghost use Rattle.tm_trees.specs.DeclarationTrees.{a_struct, specifier_tree, member_tree, as_members, name_or_none, counts_as, count_as, as_specifiers, word_height};
-ghost use Rattle.c_decl_parser.specs.Reading.{seen};
-ghost use Rattle.c_decl_parser.specs.Repetitions.{until_brace, one_or_more};
-ghost use Rattle.c_decl_parser.specs.Openings.{opened_of, seen_begun};
-ghost use Rattle.c_decl_parser.specs.DeclarationDescent.{declarator, plain_by, specifier, specifiers_from, specifiers, body_by, body, member_after, members_by, member};
+ghost use Rattle.c_expr_parser.specs.reading.Parts.{then_read, and_after, after, spec_at};
+ghost use Rattle.tm_trees.specs.DeclarationTrees.{a_struct, specifier_tree, member_tree, as_members, name_or_none};
+ghost use Rattle.tm_trees.specs.DeclarationTrees.{counts_as, count_as, as_specifiers, word_height};
+ghost use Rattle.c_decl_parser.specs.reading.Parts.{seen};
+ghost use Rattle.c_decl_parser.specs.reading.Repetitions.{until_brace, one_or_more};
+ghost use Rattle.c_decl_parser.specs.reading.Openings.{opened_of, seen_begun};
+ghost use Rattle.c_decl_parser.specs.reading.DeclarationDescent.{declarator, plain_by, specifier, specifiers_from};
+ghost use Rattle.c_decl_parser.specs.reading.DeclarationDescent.{specifiers, body_by, body, member_after, members_by};
+ghost use Rattle.c_decl_parser.specs.reading.DeclarationDescent.{member};
 
 use crate::declarators::member_declarators;
 use crate::enumerations::enumerators;
 use crate::openings::{Opening, opened};
-use crate::reads::Read;
+use crate::reads::{Read, push};
 use c_expr_parser::marks::{Mark, after};
 use c_expr_parser::spec_lists::{is_type_name_list, is_type_spec};
 use c_expr_parser::type_names::spec_at;
@@ -64,50 +67,24 @@ fn counts_as(specifier: &Specifier) -> Spec
     }
 }
 
-fn push_spec(specs: &mut Vec<Spec>, spec: Spec) -> Result<(), NoMemory>
-    ensures { OnOk result (specs.new.items ≡ specs.old.items ++ spec ∷ []) }
-{
-    match specs.push(spec) {
-        Ok(()) => Ok(()),
-        Err(_) => Err(NoMemory),
-    }
-}
-
 /// What the specifiers count for.
 pub fn counted(alloc: Global, specifiers: &[Specifier]) -> Result<Vec<Spec>, NoMemory>
     ensures { IfOk result (λ v. v.items ≡ count_as (as_specifiers (map specifier_tree specifiers.now))) }
 {
     let mut specs = Vec::new(alloc);
     for specifier in specifiers {
-        push_spec(&mut specs, counts_as(specifier))?;
+        push(&mut specs, counts_as(specifier))?;
     }
     Ok(specs)
 }
 
 /// Whether these may be the specifiers of members, or of a declaration in a block: they name one type.
 pub fn names_type(alloc: Global, specifiers: &[Specifier]) -> Result<bool, NoMemory>
-    ensures { IfOk result (λ named. named ≡ is_type_name_list (count_as (as_specifiers (map specifier_tree specifiers.now)))) }
+    ensures { IfOk result (λ named. named
+        ≡ is_type_name_list (count_as (as_specifiers (map specifier_tree specifiers.now)))) }
 {
     let specs = counted(alloc, specifiers)?;
     Ok(is_type_name_list(&specs))
-}
-
-fn push_specifier(specifiers: &mut Vec<Specifier>, specifier: Specifier) -> Result<(), NoMemory>
-    ensures { OnOk result (map specifier_tree specifiers.new.items ≡ map specifier_tree specifiers.old.items ++ specifier_tree specifier ∷ []) }
-{
-    match specifiers.push(specifier) {
-        Ok(()) => Ok(()),
-        Err(_) => Err(NoMemory),
-    }
-}
-
-fn push_member(members: &mut Vec<Member>, member: Member) -> Result<(), NoMemory>
-    ensures { OnOk result (map member_tree members.new.items ≡ map member_tree members.old.items ++ member_tree member ∷ []) }
-{
-    match members.push(member) {
-        Ok(()) => Ok(()),
-        Err(_) => Err(NoMemory),
-    }
 }
 
 // ## Specifiers
@@ -157,7 +134,7 @@ fn sees_type(seen: bool, specifier: &Specifier) -> bool
 
 /// All specifiers that come first.
 #[cycle(specifiers)]
-#[tactic(auto, unfolding(crate::specs::DeclarationDescent::specifiers))]
+#[tactic(auto, unfolding(crate::specs::reading::DeclarationDescent::specifiers))]
 pub fn specifiers<'a>(
     alloc: Global,
     types: &Names,
@@ -165,7 +142,8 @@ pub fn specifiers<'a>(
     tokens: &'a [Token],
 ) -> Result<Read<'a, Vec<Specifier>>, NoMemory>
     requires { allowed ≤ 500 }
-    ensures { IfOk result (λ read. seen (λ v. map specifier_tree v.items) read ≡ specifiers types.now allowed tokens.now) }
+    ensures { IfOk result (λ read. seen (λ v. map specifier_tree v.items) read
+        ≡ specifiers types.now allowed tokens.now) }
 {
     if allowed == 0 {
         return Ok(Read::Stuck(tokens));
@@ -182,7 +160,8 @@ fn all_specifiers<'a>(
     tokens: &'a [Token],
 ) -> Result<Read<'a, Vec<Specifier>>, NoMemory>
     requires { allowed ≤ 499 }
-    ensures { IfOk result (λ read. seen (λ v. map specifier_tree v.items) read ≡ specifiers_from types.now allowed (body types.now allowed) (length tokens.now) false [] tokens.now) }
+    ensures { IfOk result (λ read. seen (λ v. map specifier_tree v.items) read
+        ≡ specifiers_from types.now allowed (body types.now allowed) (length tokens.now) false [] tokens.now) }
 {
     let mut found = Vec::new(alloc);
     let mut type_seen = false;
@@ -194,7 +173,7 @@ fn all_specifiers<'a>(
             Begun::Broken(at) => return Ok(Read::Stuck(at)),
             Begun::Whole(specifier, next) => {
                 let still_seen = sees_type(type_seen, &specifier);
-                push_specifier(&mut found, specifier)?;
+                push(&mut found, specifier)?;
                 type_seen = still_seen;
                 rest = next;
             }
@@ -205,7 +184,7 @@ fn all_specifiers<'a>(
 
 // The specifier that comes first.
 #[cycle(specifiers)]
-#[tactic(auto, unfolding(crate::specs::DeclarationDescent::specifier))]
+#[tactic(auto, unfolding(crate::specs::reading::DeclarationDescent::specifier))]
 fn specifier<'a>(
     alloc: Global,
     types: &Names,
@@ -214,7 +193,8 @@ fn specifier<'a>(
     tokens: &'a [Token],
 ) -> Result<Begun<'a>, NoMemory>
     requires { allowed ≤ 499 }
-    ensures { IfOk result (λ begun. seen_begun begun ≡ specifier types.now seen allowed (body types.now allowed) tokens.now) }
+    ensures { IfOk result (λ begun. seen_begun begun
+        ≡ specifier types.now seen allowed (body types.now allowed) tokens.now) }
 {
     match opened(tokens) {
         None => Ok(plain(types, seen, allowed, tokens)),
@@ -227,7 +207,7 @@ fn specifier<'a>(
 
 // The body of a structure or an enumeration after its `{`.
 #[cycle(specifiers)]
-#[tactic(auto, unfolding(crate::specs::DeclarationDescent::body))]
+#[tactic(auto, unfolding(crate::specs::reading::DeclarationDescent::body))]
 fn body<'a>(
     alloc: Global,
     types: &Names,
@@ -259,7 +239,8 @@ fn struct_body<'a>(
     tokens: &'a [Token],
 ) -> Result<Read<'a, Specifier>, NoMemory>
     requires { allowed ≤ 498 }
-    ensures { IfOk result (λ read. seen specifier_tree read ≡ body_by types.now allowed (member types.now allowed) TagKind.Struct tag place tokens.now) }
+    ensures { IfOk result (λ read. seen specifier_tree read
+        ≡ body_by types.now allowed (member types.now allowed) TagKind.Struct tag place tokens.now) }
 {
     match members(alloc, types, allowed, tokens)? {
         Read::Stuck(at) => Ok(Read::Stuck(at)),
@@ -276,7 +257,8 @@ fn enum_body<'a>(
     tokens: &'a [Token],
 ) -> Result<Read<'a, Specifier>, NoMemory>
     requires { allowed ≤ 500 }
-    ensures { IfOk result (λ read. seen specifier_tree read ≡ body_by types.now allowed (member types.now allowed) TagKind.Enum tag place tokens.now) }
+    ensures { IfOk result (λ read. seen specifier_tree read
+        ≡ body_by types.now allowed (member types.now allowed) TagKind.Enum tag place tokens.now) }
 {
     match enumerators(alloc, types, allowed, tokens)? {
         Read::Stuck(at) => Ok(Read::Stuck(at)),
@@ -302,7 +284,8 @@ fn members<'a>(
     tokens: &'a [Token],
 ) -> Result<Read<'a, Vec<Member>>, NoMemory>
     requires { allowed ≤ 498 }
-    ensures { IfOk result (λ read. seen (λ v. map member_tree v.items) read ≡ members_by (member types.now allowed) tokens.now) }
+    ensures { IfOk result (λ read. seen (λ v. map member_tree v.items) read
+        ≡ members_by (member types.now allowed) tokens.now) }
 {
     match member(alloc, types, allowed, tokens)? {
         Read::Stuck(at) => Ok(Read::Stuck(at)),
@@ -320,10 +303,11 @@ fn further_members<'a>(
     tokens: &'a [Token],
 ) -> Result<Read<'a, Vec<Member>>, NoMemory>
     requires { allowed ≤ 498 }
-    ensures { IfOk result (λ read. seen (λ v. map member_tree v.items) read ≡ until_brace (member types.now allowed) (length tokens.now) (member_tree first ∷ []) tokens.now) }
+    ensures { IfOk result (λ read. seen (λ v. map member_tree v.items) read
+        ≡ until_brace (member types.now allowed) (length tokens.now) (member_tree first ∷ []) tokens.now) }
 {
     let mut found = Vec::new(alloc);
-    push_member(&mut found, first)?;
+    push(&mut found, first)?;
     let mut rest = tokens;
     let limit = tokens.len();
     'members: for _i in 0..limit {
@@ -332,7 +316,7 @@ fn further_members<'a>(
             None => match member(alloc, types, allowed, rest)? {
                 Read::Stuck(at) => return Ok(Read::Stuck(at)),
                 Read::Found(member, next) => {
-                    push_member(&mut found, member)?;
+                    push(&mut found, member)?;
                     rest = next;
                 }
             },
@@ -343,7 +327,7 @@ fn further_members<'a>(
 
 // The members of one declaration.
 #[cycle(specifiers)]
-#[tactic(auto, unfolding(crate::specs::DeclarationDescent::member))]
+#[tactic(auto, unfolding(crate::specs::reading::DeclarationDescent::member))]
 fn member<'a>(
     alloc: Global,
     types: &Names,
@@ -371,8 +355,10 @@ fn declared_members<'a>(
     tokens: &'a [Token],
 ) -> Result<Read<'a, Member>, NoMemory>
     requires { allowed ≤ 500 }
-    ensures { IfOk result (λ read. seen member_tree read ≡ then_read (one_or_more (declarator true types.now allowed) tokens.now) (λ declarators a.
-        and_after (after Mark.Semicolon a) (λ rest. Some ((as_specifiers (map specifier_tree specifiers.items), declarators), rest)))) }
+    ensures { IfOk result (λ read. seen member_tree read
+        ≡ then_read (one_or_more (declarator true types.now allowed) tokens.now) (λ declarators a.
+        and_after (after Mark.Semicolon a)
+        (λ rest. Some ((as_specifiers (map specifier_tree specifiers.items), declarators), rest)))) }
 {
     match member_declarators(alloc, types, allowed, tokens)? {
         Read::Stuck(at) => Ok(Read::Stuck(at)),
@@ -398,7 +384,8 @@ fn member_after<'a>(
     tokens: &'a [Token],
 ) -> Result<Read<'a, Member>, NoMemory>
     requires { allowed ≤ 500 }
-    ensures { IfOk result (λ read. seen member_tree read ≡ member_after types.now allowed (map specifier_tree specifiers.items) tokens.now) }
+    ensures { IfOk result (λ read. seen member_tree read
+        ≡ member_after types.now allowed (map specifier_tree specifiers.items) tokens.now) }
 {
     let named = names_type(alloc, &specifiers)?;
     if named {

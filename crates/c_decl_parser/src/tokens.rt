@@ -1,8 +1,8 @@
 //! The first token of a text.
 ghost use Rattle.std.specs.Prelude.{◌≡◌, ◌||◌, not};
 ghost use Rattle.tm_terms.specs.Names.{is_typedef};
-ghost use Rattle.c_expr_parser.specs.Reading.{seen_rest, seen_pair, seen_name};
-ghost use Rattle.c_decl_parser.specs.Reading.{is_keyword, after_word, place_after, declared_at};
+ghost use Rattle.c_expr_parser.specs.reading.Parts.{seen_rest, seen_pair, seen_name};
+ghost use Rattle.c_decl_parser.specs.reading.Parts.{is_keyword, after_word, place_after, declared_at};
 
 use c_expr_parser::marks::{Mark, is_mark, name_at};
 use tm_terms::{Name, Names, Place, Shape, Token, Word};

@@ -1,13 +1,13 @@
 //! What an object is initialised with (C99 6.7.8).
-ghost use Rattle.std.specs.Prelude.{◌≡◌, ◌≤◌, [], ◌∷◌, ◌++◌, length, map, Some, IfOk, OnOk};
-ghost use Rattle.c_expr_parser.specs.Reading.{then_read};
+ghost use Rattle.std.specs.Prelude.{◌≡◌, ◌≤◌, [], ◌∷◌, length, map, Some, IfOk};
+ghost use Rattle.c_expr_parser.specs.reading.Parts.{then_read};
 ghost use Rattle.tm_trees.specs.DeclarationTrees.{an_expression, a_list, as_values, value_tree, initialiser_tree};
-ghost use Rattle.c_decl_parser.specs.Reading.{seen, expression};
-ghost use Rattle.c_decl_parser.specs.Repetitions.{braced, in_braces};
-ghost use Rattle.c_decl_parser.specs.DeclarationDescent.{value, initialiser};
+ghost use Rattle.c_decl_parser.specs.reading.Parts.{seen, expression};
+ghost use Rattle.c_decl_parser.specs.reading.Repetitions.{braced, in_braces};
+ghost use Rattle.c_decl_parser.specs.reading.DeclarationDescent.{value, initialiser};
 
 use crate::expressions::expression;
-use crate::reads::Read;
+use crate::reads::{Read, push};
 use crate::tokens::place_after;
 use c_expr_parser::marks::{Mark, after};
 use std::alloc::Global;
@@ -21,15 +21,6 @@ fn list(values: Vec<Value>, place: Place) -> Value
     Value::List { values, place }
 }
 
-fn push_value(values: &mut Vec<Value>, value: Value) -> Result<(), NoMemory>
-    ensures { OnOk result (map value_tree values.new.items ≡ map value_tree values.old.items ++ value_tree value ∷ []) }
-{
-    match values.push(value) {
-        Ok(()) => Ok(()),
-        Err(_) => Err(NoMemory),
-    }
-}
-
 // An expression that is a value.
 fn expression_value<'a>(
     alloc: Global,
@@ -38,7 +29,8 @@ fn expression_value<'a>(
     tokens: &'a [Token],
 ) -> Result<Read<'a, Value>, NoMemory>
     requires { allowed ≤ 500 }
-    ensures { IfOk result (λ read. seen value_tree read ≡ then_read (expression types.now allowed 1 tokens.now) (λ t rest. Some (an_expression t, rest))) }
+    ensures { IfOk result (λ read. seen value_tree read
+        ≡ then_read (expression types.now allowed 1 tokens.now) (λ t rest. Some (an_expression t, rest))) }
 {
     match expression(alloc, types, allowed, Level::Assignment, tokens)? {
         Read::Stuck(at) => Ok(Read::Stuck(at)),
@@ -48,7 +40,7 @@ fn expression_value<'a>(
 
 // An expression, or values in braces.
 #[cycle(value)]
-#[tactic(auto, unfolding(crate::specs::DeclarationDescent::value))]
+#[tactic(auto, unfolding(crate::specs::reading::DeclarationDescent::value))]
 fn value<'a>(
     alloc: Global,
     types: &Names,
@@ -77,7 +69,9 @@ fn list_value<'a>(
     tokens: &'a [Token],
 ) -> Result<Read<'a, Value>, NoMemory>
     requires { allowed ≤ 499 }
-    ensures { IfOk result (λ read. seen value_tree read ≡ then_read (in_braces (value types.now allowed) tokens.now) (λ values rest. Some (a_list (as_values values) place, rest))) }
+    ensures { IfOk result (λ read. seen value_tree read
+        ≡ then_read (in_braces (value types.now allowed) tokens.now)
+        (λ values rest. Some (a_list (as_values values) place, rest))) }
 {
     match values(alloc, types, allowed, tokens)? {
         Read::Stuck(at) => Ok(Read::Stuck(at)),
@@ -94,7 +88,8 @@ fn values<'a>(
     tokens: &'a [Token],
 ) -> Result<Read<'a, Vec<Value>>, NoMemory>
     requires { allowed ≤ 499 }
-    ensures { IfOk result (λ read. seen (λ v. map value_tree v.items) read ≡ in_braces (value types.now allowed) tokens.now) }
+    ensures { IfOk result (λ read. seen (λ v. map value_tree v.items) read
+        ≡ in_braces (value types.now allowed) tokens.now) }
 {
     match value(alloc, types, allowed, tokens)? {
         Read::Stuck(at) => Ok(Read::Stuck(at)),
@@ -112,10 +107,11 @@ fn further_values<'a>(
     tokens: &'a [Token],
 ) -> Result<Read<'a, Vec<Value>>, NoMemory>
     requires { allowed ≤ 499 }
-    ensures { IfOk result (λ read. seen (λ v. map value_tree v.items) read ≡ braced (value types.now allowed) (length tokens.now) (value_tree first ∷ []) tokens.now) }
+    ensures { IfOk result (λ read. seen (λ v. map value_tree v.items) read
+        ≡ braced (value types.now allowed) (length tokens.now) (value_tree first ∷ []) tokens.now) }
 {
     let mut found = Vec::new(alloc);
-    push_value(&mut found, first)?;
+    push(&mut found, first)?;
     let mut rest = tokens;
     let limit = tokens.len();
     'values: for _i in 0..limit {
@@ -128,7 +124,7 @@ fn further_values<'a>(
                     None => match value(alloc, types, allowed, parted)? {
                         Read::Stuck(at) => return Ok(Read::Stuck(at)),
                         Read::Found(value, next) => {
-                            push_value(&mut found, value)?;
+                            push(&mut found, value)?;
                             rest = next;
                         }
                     },
@@ -140,7 +136,7 @@ fn further_values<'a>(
 }
 
 /// A value, if a `=` comes first.
-#[tactic(auto, unfolding(crate::specs::DeclarationDescent::initialiser))]
+#[tactic(auto, unfolding(crate::specs::reading::DeclarationDescent::initialiser))]
 pub fn initialiser<'a>(
     alloc: Global,
     types: &Names,

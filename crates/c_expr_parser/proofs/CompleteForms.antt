@@ -12,8 +12,8 @@ use Rattle.tm_terms.specs.Names.{is_typedef}
 use Rattle.tm_terms.specs.ExprTrees.{TypeTree, Tree, a_name, in_parentheses, an_input, an_islocked, a_call, a_prefix, a_sizeof_type, a_cast, Arguments, no_arguments, and_argument, rank, operand_level, level, height, arguments_height}
 use Rattle.tm_terms.specs.ExprSpelling.{BySign, ByName, SpellsTypeName, Spells, SpellsArguments, GoesOn, IsFront}
 use Rattle.c_expr_parser.specs.declared.marks.Mark.TheVariants as Marks
-use Rattle.c_expr_parser.specs.Reading.{then_read, and_after, after, name_at}
-use Rattle.c_expr_parser.specs.Descent.{Part, push_argument, more_by, arguments_from, arguments_by, arguments, call_or_name, called, name_form, prefix_form, inside_form, closed_type, cast_form, sizeof_type_form, type_follows, sizeof_form, input_form, islocked_form}
+use Rattle.c_expr_parser.specs.reading.Parts.{then_read, and_after, after, name_at}
+use Rattle.c_expr_parser.specs.reading.Descent.{Part, push_argument, more_by, arguments_from, arguments_by, arguments, call_or_name, called, name_form, prefix_form, inside_form, closed_type, cast_form, sizeof_type_form, type_follows, sizeof_form, input_form, islocked_form}
 use Rattle.std.proofs.lemmas.Bool.Decides.{nat_tests}
 use Rattle.c_expr_parser.proofs.Tokens.{after_spelled, name_at_spelled}
 use Rattle.c_expr_parser.proofs.TypeReading.{type_name_spelled, type_name_begins}

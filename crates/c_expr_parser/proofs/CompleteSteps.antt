@@ -20,8 +20,8 @@ use Rattle.tm_terms.specs.ExprSpelling.{Begins, BySign, ByPrefix, prefix_of, acc
 use Rattle.c_expr_parser.specs.declared.marks.Mark.TheVariants as Marks
 use Rattle.c_expr_parser.specs.declared.marks.Opener.{Opener}
 use Rattle.c_expr_parser.specs.declared.marks.Opener.TheVariants as Openers
-use Rattle.c_expr_parser.specs.Reading.{then_read, and_after, after, opener_level, opener_left}
-use Rattle.c_expr_parser.specs.Descent.{Part, prefix_form, inside_form, cast_form, sign_form, form_by, form, continued_member, continued, may_continue, step_by, step, steps, from_form, reads}
+use Rattle.c_expr_parser.specs.reading.Parts.{then_read, and_after, after, opener_level, opener_left}
+use Rattle.c_expr_parser.specs.reading.Descent.{Part, prefix_form, inside_form, cast_form, sign_form, form_by, form, continued_member, continued, may_continue, step_by, step, steps, from_form, reads}
 use Rattle.std.proofs.Common.{◌-◌}
 use Rattle.std.proofs.lemmas.Bool.Decides.{nat_tests}
 use Rattle.c_expr_parser.proofs.Tokens.{none_some, from_some, after_spelled, name_at_spelled, and_both}

@@ -10,8 +10,8 @@ use Rattle.tm_terms.specs.declared.exprs.Level.TheVariants as Levels
 use Rattle.tm_terms.specs.ExprTrees.{Tree, a_postfix, Arguments, no_arguments, and_argument, rank, height, arguments_height, tree_of, as_arguments}
 use Rattle.c_expr_parser.specs.declared.marks.Mark.TheVariants as Marks
 use Rattle.c_expr_parser.specs.declared.marks.Opener.TheVariants as Openers
-use Rattle.c_expr_parser.specs.Reading.{then_read, after, name_at}
-use Rattle.c_expr_parser.specs.Descent.{Part, push_argument, more_by, arguments_from, form, continued_member, continued, step, steps_by, steps, from_form, reads}
+use Rattle.c_expr_parser.specs.reading.Parts.{then_read, after, name_at}
+use Rattle.c_expr_parser.specs.reading.Descent.{Part, push_argument, more_by, arguments_from, form, continued_member, continued, step, steps_by, steps, from_form, reads}
 
 -- an argument more in the vector
 pub pushed : (es es' : List Expr) (e : Expr) → es' ≡ es ++ e ∷ [] → as_arguments es' ≡ push_argument (as_arguments es) (tree_of e)

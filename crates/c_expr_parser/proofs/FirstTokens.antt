@@ -14,8 +14,8 @@ use Rattle.tm_terms.specs.Names.{is_typedef}
 use Rattle.tm_terms.specs.ExprTrees.{Tree, a_name, an_integer, a_character, in_parentheses, an_input, an_islocked, a_call, a_prefix, a_sizeof_type, a_cast, an_infix, a_conditional, a_subscript, a_member, a_postfix, level}
 use Rattle.tm_terms.specs.ExprSpelling.{Begins, ByPrefix, prefix_of, Spells}
 use Rattle.c_expr_parser.specs.declared.marks.Mark.TheVariants as Marks
-use Rattle.c_expr_parser.specs.Reading.{after, begins_type}
-use Rattle.c_expr_parser.specs.Descent.{type_follows}
+use Rattle.c_expr_parser.specs.reading.Parts.{after, begins_type}
+use Rattle.c_expr_parser.specs.reading.Descent.{type_follows}
 use Rattle.c_expr_parser.proofs.Tokens.{none_some}
 use Rattle.c_expr_parser.proofs.LevelFacts.{infix_small}
 

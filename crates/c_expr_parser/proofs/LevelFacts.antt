@@ -19,7 +19,7 @@ use Rattle.tm_terms.specs.ExprTrees.{Tree, a_name, an_integer, a_character, in_p
 use Rattle.tm_terms.specs.ExprSpelling.{infix_of, continued_by, continued_level, GoesOn}
 use Rattle.c_expr_parser.specs.declared.marks.Opener.{Opener}
 use Rattle.c_expr_parser.specs.declared.marks.Opener.TheVariants as Openers
-use Rattle.c_expr_parser.specs.Reading.{opener_by, opener_of, opener_level, opener_left}
+use Rattle.c_expr_parser.specs.reading.Parts.{opener_by, opener_of, opener_level, opener_left}
 use Rattle.c_expr_parser.proofs.Tokens.{none_some, from_some}
 use Rattle.c_expr_parser.proofs.SoundSteps.{IsOpener}
 

@@ -17,8 +17,8 @@ use Rattle.tm_terms.specs.Names.{is_typedef}
 use Rattle.tm_terms.specs.ExprTrees.{TypeTree, Tree, in_parentheses, an_input, an_islocked, a_prefix, a_sizeof_type, a_cast, Arguments, no_arguments, and_argument, rank, operand_level, height, arguments_height}
 use Rattle.tm_terms.specs.ExprSpelling.{Begins, BySign, ByPrefix, prefix_of, SpellsTypeName, Spells, SpellsArguments, IsFront}
 use Rattle.c_expr_parser.specs.declared.marks.Mark.TheVariants as Marks
-use Rattle.c_expr_parser.specs.Reading.{then_read, and_after, after, name_at, type_name, begins_type}
-use Rattle.c_expr_parser.specs.Descent.{Part, push_argument, more_by, arguments_from, arguments_by, arguments, call_or_name, called, name_form, prefix_form, inside_form, closed_type, cast_form, sizeof_type_form, type_follows, sizeof_form, input_form, islocked_form, sign_form, word_form, form_by, form}
+use Rattle.c_expr_parser.specs.reading.Parts.{then_read, and_after, after, name_at, type_name, begins_type}
+use Rattle.c_expr_parser.specs.reading.Descent.{Part, push_argument, more_by, arguments_from, arguments_by, arguments, call_or_name, called, name_form, prefix_form, inside_form, closed_type, cast_form, sizeof_type_form, type_follows, sizeof_form, input_form, islocked_form, sign_form, word_form, form_by, form}
 use Rattle.c_expr_parser.proofs.Tokens.{none_some, from_some, after_finds, name_at_finds, then_read_some, and_after_some, cond_none_some}
 use Rattle.c_expr_parser.proofs.TypeReading.{type_name_finds}
 use Rattle.c_expr_parser.proofs.Sound.{positive}

@@ -15,8 +15,8 @@ use Rattle.tm_terms.specs.ExprSpelling.{infix_of, access_sign, postfix_sign, Spe
 use Rattle.c_expr_parser.specs.declared.marks.Mark.TheVariants as Marks
 use Rattle.c_expr_parser.specs.declared.marks.Opener.{Opener}
 use Rattle.c_expr_parser.specs.declared.marks.Opener.TheVariants as Openers
-use Rattle.c_expr_parser.specs.Reading.{then_read, and_after, after, name_at, opener_by, opener_of, opener_level, opener_left}
-use Rattle.c_expr_parser.specs.Descent.{Part, form, continued, may_continue, step_by, step, steps_by, steps, from_form, reads}
+use Rattle.c_expr_parser.specs.reading.Parts.{then_read, and_after, after, name_at, opener_by, opener_of, opener_level, opener_left}
+use Rattle.c_expr_parser.specs.reading.Descent.{Part, form, continued, may_continue, step_by, step, steps_by, steps, from_form, reads}
 use Rattle.c_expr_parser.proofs.Tokens.{none_some, from_some, shaped, after_finds, name_at_finds, then_read_some, and_after_some, cond_some, and_true, begins_shorter}
 use Rattle.c_expr_parser.proofs.Sound.{le_true, shorter, by_shorter}
 use Rattle.c_expr_parser.proofs.SoundForms.{IsSound, form_finds}

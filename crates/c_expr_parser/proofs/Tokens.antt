@@ -11,7 +11,7 @@ use Rattle.tm_terms.specs.declared.tokens.Token.{Token}
 use Rattle.tm_terms.specs.ExprSpelling.{Begins, BySign}
 use Rattle.c_expr_parser.specs.declared.marks.Mark.{Mark}
 use Rattle.c_expr_parser.specs.declared.marks.Mark.TheVariants as Marks
-use Rattle.c_expr_parser.specs.Reading.{then_read, and_after, is_mark, after, name_by, name_at}
+use Rattle.c_expr_parser.specs.reading.Parts.{then_read, and_after, is_mark, after, name_by, name_at}
 
 -- the sign of a mark
 abbrev pub mark_sign : Mark → Sign

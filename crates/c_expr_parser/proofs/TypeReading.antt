@@ -21,7 +21,7 @@ use Rattle.tm_terms.specs.declared.types_named.PointerWord.TheVariants as Pointe
 use Rattle.tm_terms.specs.Names.{is_typedef}
 use Rattle.tm_terms.specs.ExprTrees.{TypeTree}
 use Rattle.tm_terms.specs.ExprSpelling.{Begins, BySign, spec_of, tag_word, is_type_spec, SpellsSpec, SpellsSpecs, pointer_shape, SpellsPointers, BeginsWithStar, SpellsTypeName, is_type_name_list}
-use Rattle.c_expr_parser.specs.Reading.{name_at, tagged_by, word_spec, spec_by, spec_at, specs_by, specs_from, pointer_by, pointer_at, pointers_by, pointers_from, without_first, type_name_of, type_name, begins_word, begins_type}
+use Rattle.c_expr_parser.specs.reading.Parts.{name_at, tagged_by, word_spec, spec_by, spec_at, specs_by, specs_from, pointer_by, pointer_at, pointers_by, pointers_from, without_first, type_name_of, type_name, begins_word, begins_type}
 use Rattle.c_expr_parser.proofs.Tokens.{none_some, from_some, shaped, name_at_finds, name_at_spelled, cond_some, and_true, and_both, not_true, begins_shorter}
 use Rattle.c_expr_parser.proofs.TypeSteps.{specs_stop, specs_next, pointers_stop, pointers_next}
 

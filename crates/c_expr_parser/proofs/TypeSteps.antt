@@ -5,7 +5,7 @@ use Rattle.tm_terms.specs.declared.tokens.Token.{Token}
 use Rattle.tm_terms.specs.declared.types_named.Spec.{Spec}
 use Rattle.tm_terms.specs.declared.types_named.PointerWord.{PointerWord}
 use Rattle.tm_terms.specs.ExprSpelling.{is_type_spec, is_type_name_list}
-use Rattle.c_expr_parser.specs.Reading.{spec_at, specs_by, specs_from, pointer_at, pointers_by, pointers_from, without_first, type_name_of, type_name}
+use Rattle.c_expr_parser.specs.reading.Parts.{spec_at, specs_by, specs_from, pointer_at, pointers_by, pointers_from, without_first, type_name_of, type_name}
 
 -- no specifier comes first
 pub specs_stop : (types : List Name) (n : ℕ) (seen : Bool) (read : List Spec) (ts : List Token) → spec_at types seen ts ≡ None → specs_from types n seen read ts ≡ (read, ts)

@@ -1,3 +1,1 @@
-pub mod Descent
-pub mod Founds
-pub mod Reading
+pub mod reading

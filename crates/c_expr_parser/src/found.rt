@@ -1,14 +1,24 @@
+//! What the readers of expressions answer.
 ghost use Rattle.std.specs.Prelude.{◌≡◌};
 ghost use Rattle.tm_terms.specs.ExprTrees.{tree_of, as_arguments, height as height_of, arguments_height};
 
 use tm_terms::{Expr, Token};
 
-// An expression that was read, what follows it, and its height.
+/// What was read, or the tokens from the one on at which nothing could be read.
 #[derive(Drop)]
-pub(crate) struct Found<'a> {
-    pub(crate) expr: Box<Expr>,
-    pub(crate) rest: &'a [Token],
-    pub(crate) height: u32,
+pub enum Tried<'a, T> {
+    Found(T),
+    Stuck(&'a [Token]),
+}
+
+/// An expression that was read, what follows it, and its height. A longer one was tried as far as `stuck`: that is
+/// what follows where none was tried.
+#[derive(Drop)]
+pub struct Found<'a> {
+    pub expr: Box<Expr>,
+    pub rest: &'a [Token],
+    pub stuck: &'a [Token],
+    pub height: u32,
     ghost counted: { height ≡ height_of (tree_of expr.value) },
 }
 

@@ -1,6 +1,7 @@
 //! The levels at which expressions stand (C99 6.5).
 ghost use Rattle.std.specs.Prelude.{◌≡◌, ◌<◌, suc};
-ghost use Rattle.tm_terms.specs.ExprTrees.{rank, binary_level, infix_level, left_level, right_level, operand_level, level, tree_of};
+ghost use Rattle.tm_terms.specs.ExprTrees.{rank, binary_level, infix_level, left_level, right_level, operand_level};
+ghost use Rattle.tm_terms.specs.ExprTrees.{level, tree_of};
 
 use tm_terms::{Binary, Expr, Infix, Level, Prefix};
 

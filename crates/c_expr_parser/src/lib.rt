@@ -1,8 +1,11 @@
-//! Expressions: from tokens to trees, exactly by the grammar.
+//! From tokens to the longest expression that they begin with, exactly by the grammar, of height at most 500. It knows
+//! the names of typedefs, and neither the types nor the objects of a source.
+//!
+//! The tokens of `a = b + 1; c` begin with the expression `a = b + 1` of height 3, and the `;` follows it.
 #![tactic(auto)]
 
 mod descents;
-mod found;
+pub mod found;
 pub mod laws;
 pub mod levels;
 pub mod marks;
@@ -10,8 +13,6 @@ mod nodes;
 mod operators;
 mod parses;
 pub mod spec_lists;
-#[cfg(test)]
-mod tests;
 pub mod type_names;
 
-pub use parses::{MAX_HEIGHT, Parsed, parse_at, parse_expr};
+pub use parses::{MAX_HEIGHT, Parsed, parse_at, parse_expr, read_at};

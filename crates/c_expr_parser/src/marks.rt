@@ -1,7 +1,8 @@
 //! The first token of a text: a sign that parts or closes, a name, or an operator after an expression.
 ghost use Rattle.std.specs.Prelude.{◌≡◌};
 ghost use Rattle.tm_terms.specs.ExprSpelling.{continued_by, continued_level};
-ghost use Rattle.c_expr_parser.specs.Reading.{is_mark, after, opener_of, opener_by, opener_level, opener_left, name_at, seen_rest, seen_name};
+ghost use Rattle.c_expr_parser.specs.reading.Parts.{is_mark, after, opener_of, opener_by, opener_level, opener_left};
+ghost use Rattle.c_expr_parser.specs.reading.Parts.{name_at, seen_rest, seen_name};
 
 use crate::levels::{infix_level, left_level, rank};
 use crate::operators::infix_of;

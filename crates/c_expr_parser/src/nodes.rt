@@ -1,28 +1,48 @@
-ghost use Rattle.std.specs.Prelude.{◌≡◌, ◌<◌, ◌≤◌, ◌+◌, ◌^◌, suc, max, [], ◌∷◌, ◌++◌, IfOk, OnOk, IfSome};
-ghost use Rattle.tm_terms.specs.ExprTrees.{type_tree, tree_of, as_arguments, arguments_height, height as height_of, a_name, an_integer, a_character, in_parentheses, an_input, an_islocked, a_call, a_prefix, a_sizeof_type, a_cast, an_infix, a_conditional, a_subscript, a_member, a_postfix};
-ghost use Rattle.c_expr_parser.specs.Founds.{pair_of, seen_arguments};
-ghost use Rattle.c_expr_parser.specs.Reading.{seen_rest};
-ghost use Rattle.c_expr_parser.specs.Descent.{more_by};
+ghost use Rattle.std.specs.Prelude.{◌≡◌, ◌<◌, ◌≤◌, ◌+◌, ◌^◌, suc, max, [], ◌∷◌, ◌++◌, IfOk, OnOk};
+ghost use Rattle.tm_terms.specs.ExprTrees.{type_tree, tree_of, as_arguments, arguments_height, height as height_of};
+ghost use Rattle.tm_terms.specs.ExprTrees.{a_name, an_integer, a_character, in_parentheses, an_input, an_islocked};
+ghost use Rattle.tm_terms.specs.ExprTrees.{a_call, a_prefix, a_sizeof_type, a_cast, an_infix, a_conditional};
+ghost use Rattle.tm_terms.specs.ExprTrees.{a_subscript, a_member, a_postfix};
+ghost use Rattle.c_expr_parser.specs.reading.Founds.{pair_of, seen_arguments, IfFound};
+ghost use Rattle.c_expr_parser.specs.reading.Parts.{seen_rest};
+ghost use Rattle.c_expr_parser.specs.reading.Descent.{more_by};
 
-use crate::found::{Found, FoundArguments};
+use crate::found::{Found, FoundArguments, Tried};
 use std::alloc::Global;
 use tm_lattice::NoMemory;
 use tm_terms::{Access, Expr, Infix, IntConstant, Name, Place, Postfix, Prefix, Token, TypeName};
 
-// An expression with what follows it and its height.
+// An expression with what follows it, how far a longer one was tried, and its height.
 fn node<'a>(
     alloc: Global,
     expr: Expr,
     rest: &'a [Token],
+    stuck: &'a [Token],
     height: u32,
 ) -> Result<Found<'a>, NoMemory>
     requires { height ≡ height_of (tree_of expr) }
     ensures pair { IfOk result (λ f. pair_of f ≡ (tree_of expr, rest.now)) }
     ensures height { IfOk result (λ f. f.height ≡ height) }
 {
-    match Box::new(alloc, expr) {
-        Ok(expr) => Ok(Found { expr, rest, height }),
-        Err(_) => Err(NoMemory),
+    let expr = Box::new(alloc, expr)?;
+    Ok(Found {
+        expr,
+        rest,
+        stuck,
+        height,
+    })
+}
+
+// The same expression, where a longer one was tried as far as these tokens.
+pub(crate) fn stuck_at<'a>(found: Found<'a>, stuck: &'a [Token]) -> Found<'a>
+    ensures pair { pair_of result ≡ pair_of found.entry }
+    ensures height { result.height ≡ found.entry.height }
+{
+    Found {
+        expr: found.expr,
+        rest: found.rest,
+        stuck,
+        height: found.height,
     }
 }
 
@@ -40,11 +60,12 @@ pub(crate) fn name<'a>(
     name: Name,
     place: Place,
     rest: &'a [Token],
+    stuck: &'a [Token],
 ) -> Result<Found<'a>, NoMemory>
     ensures pair { IfOk result (λ f. pair_of f ≡ (a_name name place, rest.now)) }
     ensures height { IfOk result (λ f. f.height ≡ 1) }
 {
-    node(alloc, Expr::Name { name, place }, rest, 1)
+    node(alloc, Expr::Name { name, place }, rest, stuck, 1)
 }
 
 pub(crate) fn integer<'a>(
@@ -56,7 +77,7 @@ pub(crate) fn integer<'a>(
     ensures pair { IfOk result (λ f. pair_of f ≡ (an_integer constant place, rest.now)) }
     ensures height { IfOk result (λ f. f.height ≡ 1) }
 {
-    node(alloc, Expr::Integer { constant, place }, rest, 1)
+    node(alloc, Expr::Integer { constant, place }, rest, rest, 1)
 }
 
 pub(crate) fn character<'a>(
@@ -68,7 +89,7 @@ pub(crate) fn character<'a>(
     ensures pair { IfOk result (λ f. pair_of f ≡ (a_character value place, rest.now)) }
     ensures height { IfOk result (λ f. f.height ≡ 1) }
 {
-    node(alloc, Expr::Character { value, place }, rest, 1)
+    node(alloc, Expr::Character { value, place }, rest, rest, 1)
 }
 
 pub(crate) fn islocked<'a>(
@@ -89,6 +110,7 @@ pub(crate) fn islocked<'a>(
             place,
         },
         rest,
+        rest,
         1,
     )
 }
@@ -102,7 +124,7 @@ pub(crate) fn sizeof_type<'a>(
     ensures pair { IfOk result (λ f. pair_of f ≡ (a_sizeof_type (type_tree type_name) place, rest.now)) }
     ensures height { IfOk result (λ f. f.height ≡ 2) }
 {
-    node(alloc, Expr::SizeofType { type_name, place }, rest, 2)
+    node(alloc, Expr::SizeofType { type_name, place }, rest, rest, 2)
 }
 
 pub(crate) fn parentheses<'a>(
@@ -116,7 +138,7 @@ pub(crate) fn parentheses<'a>(
 {
     let height = inside.height + 1;
     let inside = inside.expr;
-    node(alloc, Expr::Parentheses { inside }, rest, height)
+    node(alloc, Expr::Parentheses { inside }, rest, rest, height)
 }
 
 pub(crate) fn prefixed<'a>(
@@ -126,11 +148,13 @@ pub(crate) fn prefixed<'a>(
     operand: Found<'a>,
 ) -> Result<Found<'a>, NoMemory>
     requires { operand.height < 2 ^ 31 }
-    ensures pair { IfOk result (λ f. pair_of f ≡ (a_prefix operator (tree_of operand.entry.expr.value) place, operand.entry.rest.now)) }
+    ensures pair { IfOk result (λ f. pair_of f
+        ≡ (a_prefix operator (tree_of operand.entry.expr.value) place, operand.entry.rest.now)) }
     ensures height { IfOk result (λ f. f.height ≡ suc operand.entry.height) }
 {
     let height = operand.height + 1;
     let rest = operand.rest;
+    let stuck = operand.stuck;
     let operand = operand.expr;
     node(
         alloc,
@@ -140,6 +164,7 @@ pub(crate) fn prefixed<'a>(
             place,
         },
         rest,
+        stuck,
         height,
     )
 }
@@ -151,11 +176,13 @@ pub(crate) fn cast<'a>(
     operand: Found<'a>,
 ) -> Result<Found<'a>, NoMemory>
     requires { operand.height < 2 ^ 31 }
-    ensures pair { IfOk result (λ f. pair_of f ≡ (a_cast (type_tree type_name) (tree_of operand.entry.expr.value) place, operand.entry.rest.now)) }
+    ensures pair { IfOk result (λ f. pair_of f
+        ≡ (a_cast (type_tree type_name) (tree_of operand.entry.expr.value) place, operand.entry.rest.now)) }
     ensures height { IfOk result (λ f. f.height ≡ suc operand.entry.height) }
 {
     let height = operand.height + 1;
     let rest = operand.rest;
+    let stuck = operand.stuck;
     let operand = operand.expr;
     node(
         alloc,
@@ -165,6 +192,7 @@ pub(crate) fn cast<'a>(
             place,
         },
         rest,
+        stuck,
         height,
     )
 }
@@ -178,13 +206,14 @@ pub(crate) fn input<'a>(
 ) -> Result<Found<'a>, NoMemory>
     requires low_height { low.height < 2 ^ 31 }
     requires high_height { high.height < 2 ^ 31 }
-    ensures pair { IfOk result (λ f. pair_of f ≡ (an_input (tree_of low.entry.expr.value) (tree_of high.entry.expr.value) place, rest.now)) }
+    ensures pair { IfOk result (λ f. pair_of f
+        ≡ (an_input (tree_of low.entry.expr.value) (tree_of high.entry.expr.value) place, rest.now)) }
     ensures height { IfOk result (λ f. f.height ≡ suc (max low.entry.height high.entry.height)) }
 {
     let height = low.height.max(high.height) + 1;
     let low = low.expr;
     let high = high.expr;
-    node(alloc, Expr::Input { low, high, place }, rest, height)
+    node(alloc, Expr::Input { low, high, place }, rest, rest, height)
 }
 
 pub(crate) fn infix<'a>(
@@ -196,11 +225,17 @@ pub(crate) fn infix<'a>(
 ) -> Result<Found<'a>, NoMemory>
     requires left_height { left.height < 2 ^ 31 }
     requires right_height { right.height < 2 ^ 31 }
-    ensures pair { IfOk result (λ f. pair_of f ≡ (an_infix (tree_of left.entry.expr.value) operator place (tree_of right.entry.expr.value), right.entry.rest.now)) }
+    ensures pair { IfOk result (λ f. pair_of f
+        ≡ (
+          an_infix (tree_of left.entry.expr.value) operator place
+              (tree_of right.entry.expr.value),
+          right.entry.rest.now,
+        )) }
     ensures height { IfOk result (λ f. f.height ≡ suc (max left.entry.height right.entry.height)) }
 {
     let height = left.height.max(right.height) + 1;
     let rest = right.rest;
+    let stuck = right.stuck;
     let left = left.expr;
     let right = right.expr;
     node(
@@ -212,6 +247,7 @@ pub(crate) fn infix<'a>(
             place,
         },
         rest,
+        stuck,
         height,
     )
 }
@@ -226,11 +262,18 @@ pub(crate) fn conditional<'a>(
     requires condition_height { condition.height < 2 ^ 31 }
     requires first_height { first.height < 2 ^ 31 }
     requires second_height { second.height < 2 ^ 31 }
-    ensures pair { IfOk result (λ f. pair_of f ≡ (a_conditional (tree_of condition.entry.expr.value) place (tree_of first.entry.expr.value) (tree_of second.entry.expr.value), second.entry.rest.now)) }
-    ensures height { IfOk result (λ f. f.height ≡ suc (max condition.entry.height (max first.entry.height second.entry.height))) }
+    ensures pair { IfOk result (λ f. pair_of f
+        ≡ (
+          a_conditional (tree_of condition.entry.expr.value) place (tree_of first.entry.expr.value)
+              (tree_of second.entry.expr.value),
+          second.entry.rest.now,
+        )) }
+    ensures height { IfOk result (λ f. f.height
+        ≡ suc (max condition.entry.height (max first.entry.height second.entry.height))) }
 {
     let height = condition.height.max(first.height.max(second.height)) + 1;
     let rest = second.rest;
+    let stuck = second.stuck;
     let condition = condition.expr;
     let first = first.expr;
     let second = second.expr;
@@ -243,6 +286,7 @@ pub(crate) fn conditional<'a>(
             place,
         },
         rest,
+        stuck,
         height,
     )
 }
@@ -256,7 +300,8 @@ pub(crate) fn subscript<'a>(
 ) -> Result<Found<'a>, NoMemory>
     requires array_height { array.height < 2 ^ 31 }
     requires index_height { index.height < 2 ^ 31 }
-    ensures pair { IfOk result (λ f. pair_of f ≡ (a_subscript (tree_of array.entry.expr.value) place (tree_of index.entry.expr.value), rest.now)) }
+    ensures pair { IfOk result (λ f. pair_of f
+        ≡ (a_subscript (tree_of array.entry.expr.value) place (tree_of index.entry.expr.value), rest.now)) }
     ensures height { IfOk result (λ f. f.height ≡ suc (max array.entry.height index.entry.height)) }
 {
     let height = array.height.max(index.height) + 1;
@@ -269,6 +314,7 @@ pub(crate) fn subscript<'a>(
             index,
             place,
         },
+        rest,
         rest,
         height,
     )
@@ -284,7 +330,8 @@ pub(crate) fn member<'a>(
     rest: &'a [Token],
 ) -> Result<Found<'a>, NoMemory>
     requires { object.height < 2 ^ 31 }
-    ensures pair { IfOk result (λ f. pair_of f ≡ (a_member (tree_of object.entry.expr.value) access place member member_place, rest.now)) }
+    ensures pair { IfOk result (λ f. pair_of f
+        ≡ (a_member (tree_of object.entry.expr.value) access place member member_place, rest.now)) }
     ensures height { IfOk result (λ f. f.height ≡ suc object.entry.height) }
 {
     let height = object.height + 1;
@@ -299,6 +346,7 @@ pub(crate) fn member<'a>(
             place,
         },
         rest,
+        rest,
         height,
     )
 }
@@ -311,7 +359,8 @@ pub(crate) fn postfix<'a>(
     rest: &'a [Token],
 ) -> Result<Found<'a>, NoMemory>
     requires { operand.height < 2 ^ 31 }
-    ensures pair { IfOk result (λ f. pair_of f ≡ (a_postfix (tree_of operand.entry.expr.value) operator place, rest.now)) }
+    ensures pair { IfOk result (λ f. pair_of f
+        ≡ (a_postfix (tree_of operand.entry.expr.value) operator place, rest.now)) }
     ensures height { IfOk result (λ f. f.height ≡ suc operand.entry.height) }
 {
     let height = operand.height + 1;
@@ -324,6 +373,7 @@ pub(crate) fn postfix<'a>(
             place,
         },
         rest,
+        rest,
         height,
     )
 }
@@ -335,7 +385,8 @@ pub(crate) fn call<'a>(
     arguments: FoundArguments<'a>,
 ) -> Result<Found<'a>, NoMemory>
     requires { arguments.height < 2 ^ 31 }
-    ensures pair { IfOk result (λ f. pair_of f ≡ (a_call function (as_arguments arguments.entry.items.items) place, arguments.entry.rest.now)) }
+    ensures pair { IfOk result (λ f. pair_of f
+        ≡ (a_call function (as_arguments arguments.entry.items.items) place, arguments.entry.rest.now)) }
     ensures height { IfOk result (λ f. f.height ≡ suc arguments.entry.height) }
 {
     let height = arguments.height + 1;
@@ -348,6 +399,7 @@ pub(crate) fn call<'a>(
             place,
         },
         rest,
+        rest,
         height,
     )
 }
@@ -357,14 +409,16 @@ pub(crate) fn closed<'a>(
     items: Vec<Expr>,
     height: u32,
     rest: Option<&'a [Token]>,
-) -> Option<FoundArguments<'a>>
+    stuck: &'a [Token],
+) -> Tried<'a, FoundArguments<'a>>
     requires { height ≡ arguments_height (as_arguments items.items) }
-    ensures value { seen_arguments result ≡ more_by None (seen_rest rest.entry) (as_arguments items.items) (λ next. None) }
-    ensures height { IfSome result (λ f. f.height ≡ height) }
+    ensures value { seen_arguments result
+        ≡ more_by None (seen_rest rest.entry) (as_arguments items.items) (λ next. None) }
+    ensures height { IfFound result (λ f. f.height ≡ height) }
 {
     match rest {
-        None => None,
-        Some(rest) => Some(FoundArguments {
+        None => Tried::Stuck(stuck),
+        Some(rest) => Tried::Found(FoundArguments {
             items,
             rest,
             height,

@@ -1,8 +1,11 @@
 ghost use Rattle.std.specs.Prelude.{◌≡◌, ◌≤◌, ◌<◌, length, drop, IfOk, IfSome, IfNone};
 ghost use Rattle.tm_terms.specs.ExprTrees.{tree_of, height, rank};
 ghost use Rattle.tm_terms.specs.ExprSpelling.{IsLongest, BeginsNone};
+ghost use Rattle.c_expr_parser.specs.reading.Descent.{reads};
+ghost use Rattle.c_expr_parser.specs.reading.Founds.{seen_found, IfFound};
 
 use crate::descents::read;
+use crate::found::{Found, Tried};
 use crate::levels::rank;
 use std::alloc::Global;
 use tm_lattice::NoMemory;
@@ -12,7 +15,7 @@ use tm_terms::{Expr, Level, Names, Token};
 pub const MAX_HEIGHT: u32 = 500;
 
 /// An expression that was read, the index of the token after it, and its height.
-#[derive(Drop, Debug)]
+#[derive(Drop)]
 pub struct Parsed {
     pub expr: Expr,
     pub end: usize,
@@ -55,8 +58,8 @@ pub fn parse_at(
 {
     let rest = &tokens[from..];
     match read(alloc, types, MAX_HEIGHT, rank(level), rest)? {
-        None => Ok(None),
-        Some(found) => {
+        Tried::Stuck(_) => Ok(None),
+        Tried::Found(found) => {
             let end = tokens.len() - found.rest.len();
             Ok(Some(Parsed {
                 expr: Box::into_inner(found.expr),
@@ -65,4 +68,18 @@ pub fn parse_at(
             }))
         }
     }
+}
+
+/// The same from the first token on, for the readers of declarations and statements: where no expression is read, or
+/// where what follows one goes on, it tells where the reading got stuck.
+pub fn read_at<'a>(
+    alloc: Global,
+    types: &Names,
+    level: Level,
+    tokens: &'a [Token],
+) -> Result<Tried<'a, Found<'a>>, NoMemory>
+    ensures value { IfOk result (λ found. seen_found found ≡ reads types.now 500 (rank level) tokens.now) }
+    ensures low { IfOk result (λ found. IfFound found (λ f. f.height ≤ 500)) }
+{
+    read(alloc, types, MAX_HEIGHT, rank(level), tokens)
 }

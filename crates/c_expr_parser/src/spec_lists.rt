@@ -1,6 +1,7 @@
 //! Lists of specifiers (C99 6.7, 6.7.2).
 ghost use Rattle.std.specs.Prelude.{◌≡◌, ◌<◌, ◌≤◌, ◌^◌, length, count_by};
-ghost use Rattle.tm_terms.specs.ExprSpelling.{is_type_spec, is_basic, is_lone, is_storage, is_typedef_word, is_declared_type, many, is_integer_list, is_type_list, is_type_name_list};
+ghost use Rattle.tm_terms.specs.ExprSpelling.{is_type_spec, is_basic, is_lone, is_storage, is_typedef_word};
+ghost use Rattle.tm_terms.specs.ExprSpelling.{is_declared_type, many, is_integer_list, is_type_list, is_type_name_list};
 
 use tm_terms::{Basic, Spec, SpecWord, Storage};
 

@@ -2,8 +2,12 @@
 ghost use Rattle.std.specs.Prelude.{◌≡◌, ◌||◌, [], ◌∷◌, ◌++◌, length, false, IfOk, OnOk};
 ghost use Rattle.tm_terms.specs.ExprTrees.{type_tree};
 ghost use Rattle.tm_terms.specs.ExprSpelling.{is_type_spec};
-ghost use Rattle.c_expr_parser.specs.Reading.{seen_pair, seen_type, name_at, spec_at, word_spec, tagged_by, specs_from, pointer_by, pointer_at, pointers_from, without_first, type_name, begins_type, begins_word};
+ghost use Rattle.c_expr_parser.specs.reading.Founds.{seen_type};
+ghost use Rattle.c_expr_parser.specs.reading.Parts.{seen_pair, name_at, spec_at, word_spec, tagged_by};
+ghost use Rattle.c_expr_parser.specs.reading.Parts.{specs_from, pointer_by, pointer_at, pointers_from, without_first};
+ghost use Rattle.c_expr_parser.specs.reading.Parts.{type_name, begins_type, begins_word};
 
+use crate::found::Tried;
 use crate::marks::name_at;
 use crate::operators::spec_of;
 use crate::spec_lists::{is_type_name_list, is_type_spec};
@@ -163,7 +167,8 @@ fn read_specs<'a>(
     types: &Names,
     tokens: &'a [Token],
 ) -> Result<(Vec<Spec>, &'a [Token]), NoMemory>
-    ensures { IfOk result (λ found. (found.0.items, found.1.now) ≡ specs_from types.now (length tokens.now) false [] tokens.now) }
+    ensures { IfOk result (λ found. (found.0.items, found.1.now)
+        ≡ specs_from types.now (length tokens.now) false [] tokens.now) }
 {
     let mut specs = Vec::new(alloc);
     let mut seen = false;
@@ -188,7 +193,8 @@ pub fn read_pointers<'a>(
     alloc: Global,
     tokens: &'a [Token],
 ) -> Result<(Vec<PointerWord>, &'a [Token]), NoMemory>
-    ensures { IfOk result (λ found. (found.0.items, found.1.now) ≡ pointers_from (length tokens.now) false [] tokens.now) }
+    ensures { IfOk result (λ found. (found.0.items, found.1.now)
+        ≡ pointers_from (length tokens.now) false [] tokens.now) }
 {
     let mut words = Vec::new(alloc);
     let mut started = false;
@@ -212,13 +218,13 @@ pub(crate) fn read_type_name<'a>(
     alloc: Global,
     types: &Names,
     tokens: &'a [Token],
-) -> Result<Option<(TypeName, &'a [Token])>, NoMemory>
+) -> Result<Tried<'a, (TypeName, &'a [Token])>, NoMemory>
     ensures { IfOk result (λ found. seen_type found ≡ type_name types.now tokens.now) }
 {
     let (specs, after_specs) = read_specs(alloc, types, tokens)?;
     let (pointers, rest) = read_pointers(alloc, after_specs)?;
     if is_type_name_list(&specs) {
-        return Ok(Some((TypeName { specs, pointers }, rest)));
+        return Ok(Tried::Found((TypeName { specs, pointers }, rest)));
     }
-    Ok(None)
+    Ok(Tried::Stuck(after_specs))
 }

@@ -5,11 +5,12 @@ use Rattle.std.proofs.lemmas.Bool.{cases_lt, lt-ltb}
 use Rattle.std.proofs.lemmas.List.{drop_all, take_all, length-take}
 use Rattle.tm_terms.specs.Lexis.{begins}
 use Rattle.tm_terms.specs.Spelling.{Reading, read_past, next_reading, reading, noted, with_first_names, Spells, StopsAt, Lexes, stops, spells, lexical, too_many_tokens, checked}
-use Rattle.tm_terms.specs.declared.limits.TheConstants.{TOKENS}
+use Rattle.tm_terms.specs.Limits.{limit_number}
+use Rattle.tm_terms.specs.declared.refusals.Limit.TheVariants as Limits
 use Rattle.tm_terms.specs.declared.places.Place.{Place}
 use Rattle.tm_terms.specs.declared.refusals.Refusal.{Refusal}
 use Rattle.tm_terms.specs.declared.tokens.Token.{Token}
-use Rattle.c_lexer.specs.Kept.{Stands, most}
+use Rattle.c_lexer.specs.reading.Kept.{Stands, most}
 
 -- ## One reading that goes no further
 
@@ -108,15 +109,15 @@ module _ (source : List ℕ) where
       }))
 
   -- more are kept than the limit
-  pub Lexes-too_many : (place : Place) (bare : Bool) (kept : List Token) → Stands source (length source) place bare kept → TOKENS < length kept → Lexes source (Err too_many_tokens)
+  pub Lexes-too_many : (place : Place) (bare : Bool) (kept : List Token) → Stands source (length source) place bare kept → limit_number Limits.Tokens < length kept → Lexes source (Err too_many_tokens)
   unfolding checked
   Lexes-too_many place bare kept s many =
       let cut : length kept ≤ length s.tokens = omega (arith, ap length s.front, length-take most s.tokens) in
-      let over : ltb TOKENS (length (with_first_names source [] s.tokens)) ≡ true = lt-ltb _ _ (omega (arith, length-with_first_names [] s.tokens)) in
+      let over : ltb (limit_number Limits.Tokens) (length (with_first_names source [] s.tokens)) ≡ true = lt-ltb _ _ (omega (arith, length-with_first_names [] s.tokens)) in
       subst (Lexes source) (rw over refl) (spells (Spells-from_Stands place bare kept s))
 
   -- no more are kept
-  pub Lexes-kept : (place : Place) (bare : Bool) (kept : List Token) → Stands source (length source) place bare kept → length kept ≤ TOKENS → Lexes source (checked (with_first_names source [] kept))
+  pub Lexes-kept : (place : Place) (bare : Bool) (kept : List Token) → Stands source (length source) place bare kept → length kept ≤ limit_number Limits.Tokens → Lexes source (checked (with_first_names source [] kept))
   Lexes-kept place bare kept s few =
       let whole : s.tokens ≡ kept = sym (s.front ∙ take_all most s.tokens (omega (arith, ap length s.front, length-take most s.tokens))) in
       rw whole at (spells (Spells-from_Stands place bare kept s))

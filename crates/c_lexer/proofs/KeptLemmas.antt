@@ -8,7 +8,7 @@ use Rattle.tm_terms.specs.Spelling.{Reading, first_place, read_past, next_readin
 use Rattle.tm_terms.specs.declared.places.Place.{Place}
 use Rattle.tm_terms.specs.declared.tokens.Piece.{Piece}
 use Rattle.tm_terms.specs.declared.tokens.Token.{Token}
-use Rattle.c_lexer.specs.Kept.{Stands, most}
+use Rattle.c_lexer.specs.reading.Kept.{Stands, most}
 
 -- what was cut off does not come back
 pub take-take_append : {X : Type 0} (n : ℕ) (xs ys : List X) → take n (take n xs ++ ys) ≡ take n (xs ++ ys)

@@ -5,3 +5,4 @@ pub mod KeptLemmas
 pub mod NameLemmas
 pub mod AnswerLemmas
 pub mod TotalLemmas
+pub mod NameLaw

@@ -9,13 +9,13 @@ use Rattle.std.specs.Cmp.Lexicographic.{slice_cmp}
 use Rattle.std.specs.Ordering.{nat_cmp}
 use Rattle.tm_terms.specs.Spelling.{noted, noted_at, start_of, told, with_first_names}
 use Rattle.tm_terms.specs.declared.tokens.Token.{Token}
-use Rattle.c_lexer.specs.Starts.{IsTable}
+use Rattle.c_lexer.specs.reading.Starts.{HasStarts}
 
-pub IsTable-more : (m n : BTreeMap (Bor (List ℕ)) ℕ) (table : List (List ℕ × ℕ)) (text : List ℕ) (here : ℕ)
-    → IsTable m table → None ≡ get_by (λ k. slice_cmp nat_cmp text k.now) m
+pub HasStarts-more : (m n : BTreeMap (Bor (List ℕ)) ℕ) (table : List (List ℕ × ℕ)) (text : List ℕ) (here : ℕ)
+    → HasStarts m table → None ≡ get_by (λ k. slice_cmp nat_cmp text k.now) m
     → UpdatesBy (λ x y. slice_cmp nat_cmp x.now y.now) (λ k. slice_cmp nat_cmp text k.now) m n (Some here)
-    → IsTable n (noted_at table text here)
-IsTable-more m n table text here is absent updates =
+    → HasStarts n (noted_at table text here)
+HasStarts-more m n table text here is absent updates =
     let unknown : start_of table text ≡ None = sym (is.same text) ∙ sym absent in
     rw unknown (record { same = λ other. btree_map_updates_str text m n (Some here) updates other ∙ ap (cond (bytes_eq text other) (Some here)) (is.same other) })
 

@@ -1,4 +1,1 @@
-pub mod Runs
-pub mod Kept
-pub mod Starts
-pub mod Refused
+pub mod reading

@@ -1,5 +1,6 @@
 ghost use Rattle.std.specs.Prelude.{◌≡◌, ◌+◌, ◌*◌, ◌^◌, ◌<◌, ◌≤◌, SomeIff};
-ghost use Rattle.tm_terms.specs.Lexis.{constant_in, constant_of, digit_value as digit_value_of, longs_of, suffix_of, value_in};
+ghost use Rattle.tm_terms.specs.Lexis.{constant_in, constant_of, digit_value as digit_value_of, longs_of, suffix_of};
+ghost use Rattle.tm_terms.specs.Lexis.{value_in};
 
 use crate::runs::{Run, behind, byte_at, digit_value, run_length};
 use tm_terms::{IntConstant, Longs};

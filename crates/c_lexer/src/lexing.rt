@@ -2,11 +2,13 @@ ghost use Rattle.std.specs.Prelude.{◌≡◌, ◌≤◌, List, length, Result, 
 ghost use Rattle.tm_terms.specs.Spelling.{Lexes, answer_of, checked, is_unsupported};
 ghost use Rattle.tm_terms.specs.declared.refusals.Refusal.{Refusal as RefusalOf};
 ghost use Rattle.tm_terms.specs.declared.tokens.Token.{Token as TokenOf};
+ghost use Rattle.tm_terms.specs.Limits.{limit_number};
+ghost use Rattle.tm_terms.specs.declared.refusals.Limit.TheVariants as Limits;
 
 use crate::names::tell_names;
 use crate::readings::read;
 use std::alloc::Global;
-use tm_terms::limits::{SOURCE, TOKENS};
+use tm_terms::limits::TOKENS;
 use tm_terms::{Fail, Kind, Limit, Place, Refusal, Shape, Sign, Token, Word};
 
 fn is_unsupported(shape: Shape) -> bool
@@ -35,7 +37,7 @@ fn first_unsupported(tokens: &[Token]) -> Option<Token>
 // The tokens, unless one of them is unsupported.
 #[tactic(auto, unfolding(tm_terms::specs::Spelling::checked))]
 fn supported(tokens: Vec<Token>) -> Result<Vec<Token>, Fail>
-    requires { vec_len tokens ≤ TOKENS }
+    requires { vec_len tokens ≤ limit_number Limits.Tokens }
     ensures { answer_of result ≡ Some (checked tokens.items) }
 {
     match first_unsupported(&tokens) {
@@ -51,7 +53,7 @@ fn supported(tokens: Vec<Token>) -> Result<Vec<Token>, Fail>
 }
 
 fn answered(alloc: Global, bytes: &[u8]) -> Result<Vec<Token>, Fail>
-    requires { length bytes.now ≤ SOURCE }
+    requires { length bytes.now ≤ limit_number Limits.Source }
     ensures { IfSome (answer_of result) (λ answer. Lexes bytes.now answer) }
 {
     let mut tokens = match read(alloc, bytes) {
@@ -76,7 +78,7 @@ fn answered(alloc: Global, bytes: &[u8]) -> Result<Vec<Token>, Fail>
 /// token, blank, comment or skipped line begins; else by the limit `Tokens`; else as `Unsupported`
 /// at the first word or sign that no source may have.
 pub fn lex(alloc: Global, bytes: &[u8]) -> Result<Vec<Token>, Fail>
-    requires { length bytes.now ≤ SOURCE }
+    requires { length bytes.now ≤ limit_number Limits.Source }
 
     // Every answer but want of memory is the lexis's.
     ensures told { IfSome (answer_of result) (λ answer. Lexes bytes.now answer) }

@@ -1,4 +1,7 @@
-//! The tokens of a source: exactly those that the lexis spells, or the first reason to refuse it.
+//! From the bytes of a source to its tokens, exactly those that the lexis spells, or to the first reason to refuse it.
+//! It knows words, constants and signs, and of a name only where its text stands first.
+//!
+//! The tokens of `x = 1/x;` are the name at byte 0, `=`, the constant 1, `/`, the same name, and `;`.
 #![tactic(auto)]
 
 mod characters;
@@ -15,6 +18,3 @@ mod signs;
 mod words;
 
 pub use lexing::lex;
-
-#[cfg(test)]
-mod tests;

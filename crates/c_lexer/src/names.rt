@@ -1,6 +1,6 @@
 ghost use Rattle.std.specs.Prelude.{◌≡◌, ℕ, List, [], IfOk, OnOk, unwrap_or};
 ghost use Rattle.tm_terms.specs.Spelling.{noted, noted_at, start_of, text_of, told, with_first_names};
-ghost use Rattle.c_lexer.specs.Starts.{IsTable};
+ghost use Rattle.c_lexer.specs.reading.Starts.{HasStarts};
 
 use crate::runs::{behind, front};
 use std::alloc::Global;
@@ -14,10 +14,10 @@ fn first_start<'a>(
     text: &'a [u8],
     here: u32,
 ) -> Result<u32, NoMemory>
-    ensures start { (table : List (List ℕ × ℕ)) → IsTable starts.old table
+    ensures start { (table : List (List ℕ × ℕ)) → HasStarts starts.old table
         → IfOk result (λ start. start ≡ unwrap_or (start_of table text.now) here) }
-    ensures noted { (table : List (List ℕ × ℕ)) → IsTable starts.old table
-        → OnOk result (IsTable starts.new (noted_at table text.now here)) }
+    ensures noted { (table : List (List ℕ × ℕ)) → HasStarts starts.old table
+        → OnOk result (HasStarts starts.new (noted_at table text.now here)) }
 {
     if let Some(start) = starts.get(&text) {
         return Ok(*start);
@@ -34,10 +34,10 @@ fn told<'a>(
     bytes: &'a [u8],
     token: Token,
 ) -> Result<Token, NoMemory>
-    ensures shape { (table : List (List ℕ × ℕ)) → IsTable starts.old table
+    ensures shape { (table : List (List ℕ × ℕ)) → HasStarts starts.old table
         → IfOk result (λ t. t ≡ record { shape = told bytes.now table token.shape; place = token.place }) }
-    ensures noted { (table : List (List ℕ × ℕ)) → IsTable starts.old table
-        → OnOk result (IsTable starts.new (noted bytes.now table token.shape)) }
+    ensures noted { (table : List (List ℕ × ℕ)) → HasStarts starts.old table
+        → OnOk result (HasStarts starts.new (noted bytes.now table token.shape)) }
 {
     match token.shape {
         Shape::Name(name) => {

@@ -1,14 +1,16 @@
 ghost use Rattle.std.specs.Prelude.{◌≡◌, ◌+◌, ◌≤◌, ◌++◌, length, take, vec_len, Bool, IfOk, IfErr, OnOk, OnErr, Err};
 ghost use Rattle.tm_terms.specs.Spelling.{Lexes, lexical, token_of};
 ghost use Rattle.tm_terms.specs.declared.places.Place.{Place as PlaceOf};
-ghost use Rattle.c_lexer.specs.Refused.{ForRefusal};
-ghost use Rattle.c_lexer.specs.Kept.{Stands, most};
+ghost use Rattle.c_lexer.specs.reading.Refused.{ForRefusal};
+ghost use Rattle.c_lexer.specs.reading.Kept.{Stands, most};
+ghost use Rattle.tm_terms.specs.Limits.{limit_number};
+ghost use Rattle.tm_terms.specs.declared.refusals.Limit.TheVariants as Limits;
 
 use crate::pieces::begins;
 use crate::places::{bare_after, place_after};
 use crate::runs::{behind, front};
 use std::alloc::Global;
-use tm_terms::limits::{SOURCE, TOKENS};
+use tm_terms::limits::TOKENS;
 use tm_terms::{Fail, Kind, Place, Refusal, Shape, Token};
 
 // Keeps the token of this shape, if there is one and fewer are kept than one more than their limit.
@@ -43,8 +45,9 @@ fn lexical(place: Place) -> Refusal
 /// The tokens of a source, each name where it stands, up to one more than their limit; or a refusal
 /// where nothing begins.
 pub fn read(alloc: Global, bytes: &[u8]) -> Result<Vec<Token>, Fail>
-    requires { length bytes.now ≤ SOURCE }
-    ensures whole { IfOk result (λ v. (place : PlaceOf) × (bare : Bool) × Stands bytes.now (length bytes.now) place bare v.items) }
+    requires { length bytes.now ≤ limit_number Limits.Source }
+    ensures whole { IfOk result (λ v. (place : PlaceOf) × (bare : Bool)
+        × Stands bytes.now (length bytes.now) place bare v.items) }
     ensures stops { IfErr result (λ f. ForRefusal f (λ refusal. Lexes bytes.now (Err refusal))) }
 {
     let mut tokens = Vec::new(alloc);

@@ -9,7 +9,7 @@ use Rattle.tm_terms.specs.declared.tokens.Token.{Token}
 use Rattle.tm_terms.specs.declared.types_named.PointerWord.{PointerWord}
 use Rattle.tm_terms.specs.ExprSpelling.{BySign}
 use Rattle.c_expr_parser.specs.declared.marks.Mark.TheVariants as Marks
-use Rattle.c_expr_parser.specs.Reading.{after}
+use Rattle.c_expr_parser.specs.reading.Parts.{after}
 use Rattle.c_expr_parser.proofs.Tokens.{begins_shorter}
 use Rattle.c_expr_parser.proofs.Sound.{shorter, by_shorter}
 use Rattle.c_expr_parser.proofs.TypeReading.{pointers_shorter}
@@ -17,8 +17,8 @@ use Rattle.tm_trees.specs.DeclarationTrees.{LengthTree, DeclaratorTree, a_declar
 use Rattle.tm_trees.specs.DeclarationSpelling.{SpellsLengths, SpellsInitialiser, SpellsMoreInitDeclarators, SpellsInitDeclarators, is_typedef_list}
 use Rattle.tm_trees.specs.FileTrees.{PartTrees, ParameterTree, a_named_parameter, an_unnamed_parameter, ParametersTree, only_void, some_parameters, ItemTree, a_declaration, a_function, an_empty_item, a_mutex, a_task}
 use Rattle.tm_trees.specs.FileSpelling.{BeginsOnlyVoid, SpellsBlock, SpellsParameter, SpellsMoreParameters, SpellsParameters, SpellsBody, SpellsTaskHead, SpellsItem}
-use Rattle.c_decl_parser.specs.DeclarationDescent.{pointers}
-use Rattle.c_parser.specs.FileDescent.{declares, function_name}
+use Rattle.c_decl_parser.specs.reading.DeclarationDescent.{pointers}
+use Rattle.c_parser.specs.reading.FileDescent.{declares, function_name}
 use Rattle.c_decl_parser.proofs.MarkReading.{declared_spelled}
 use Rattle.c_decl_parser.proofs.DeclaratorReading.{SpellsDirect, declarator_parts, declarator_pointers, declarator_shorter}
 use Rattle.c_decl_parser.proofs.SpecifierReading.{file_list_names_type, type_name_list_names_type, specifiers_shorter}

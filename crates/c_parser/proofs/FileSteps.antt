@@ -7,13 +7,13 @@ use Rattle.tm_terms.specs.declared.tokens.Token.{Token}
 use Rattle.tm_terms.specs.declared.types_named.PointerWord.{PointerWord}
 use Rattle.tm_terms.specs.ExprSpelling.{is_type_name_list}
 use Rattle.c_expr_parser.specs.declared.marks.Mark.TheVariants as Marks
-use Rattle.c_expr_parser.specs.Reading.{then_read, after}
+use Rattle.c_expr_parser.specs.reading.Parts.{then_read, after}
 use Rattle.tm_trees.specs.DeclarationTrees.{SpecifierTree, count_as, as_specifiers}
 use Rattle.tm_trees.specs.DeclarationSpelling.{is_file_list}
 use Rattle.tm_trees.specs.FileTrees.{ParameterTree, ItemTree}
 use Rattle.tm_trees.specs.Parsing.{IsPlaceOf}
-use Rattle.c_decl_parser.specs.DeclarationDescent.{pointers, specifiers}
-use Rattle.c_parser.specs.FileDescent.{declares, parameter_by, parameter_after, parameter, undeclared_by, behind_pointers, behind_specifiers, item, is_end, items_from, file}
+use Rattle.c_decl_parser.specs.reading.DeclarationDescent.{pointers, specifiers}
+use Rattle.c_parser.specs.reading.FileDescent.{declares, parameter_by, parameter_after, parameter, undeclared_by, behind_pointers, behind_specifiers, item, is_end, items_from, file}
 
 -- ## Items
 

@@ -6,15 +6,15 @@ use Rattle.tm_terms.specs.declared.tokens.Sign.TheVariants as Signs
 use Rattle.tm_terms.specs.declared.tokens.Token.{Token}
 use Rattle.tm_terms.specs.ExprSpelling.{BySign, ByName}
 use Rattle.c_expr_parser.specs.declared.marks.Mark.TheVariants as Marks
-use Rattle.c_expr_parser.specs.Reading.{then_read, and_after}
+use Rattle.c_expr_parser.specs.reading.Parts.{then_read, and_after}
 use Rattle.c_expr_parser.proofs.Tokens.{none_some, from_some, after_finds, after_spelled, then_read_some, and_after_some}
 use Rattle.tm_trees.specs.DeclarationSpelling.{ByWord}
 use Rattle.tm_trees.specs.FileSpelling.{SpellsMutex, BeginsOnlyVoid, SpellsTaskHead}
 use Rattle.c_decl_parser.specs.declared.tokens.Keyword.{Keyword}
 use Rattle.c_decl_parser.specs.declared.tokens.Keyword.TheVariants as Keywords
-use Rattle.c_decl_parser.specs.Reading.{after_word}
+use Rattle.c_decl_parser.specs.reading.Parts.{after_word}
 use Rattle.c_decl_parser.proofs.MarkReading.{keyword_word, after_word_finds, after_word_spelled, declared_finds, declared_spelled}
-use Rattle.c_parser.specs.FileDescent.{mutex_in, only_void_at, function_name, task_head}
+use Rattle.c_parser.specs.reading.FileDescent.{mutex_in, only_void_at, function_name, task_head}
 
 -- ## Words
 

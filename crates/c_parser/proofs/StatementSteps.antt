@@ -1,16 +1,11 @@
--- One step down into a statement and into a block, and a vector with one more element.
-use Rattle.std.proofs.Common.{◌≡◌, ℕ, suc, List, [], ◌∷◌, ◌++◌, length, map, Option, Some, None, ap, ◌∙◌}
-use Rattle.std.proofs.lemmas.List.{map-append}
+-- One step down into a statement and into a block.
+use Rattle.std.proofs.Common.{◌≡◌, ℕ, suc, List, [], length, Option, Some, None, ap}
 use Rattle.tm_terms.specs.declared.tokens.Name.{Name}
 use Rattle.tm_terms.specs.declared.tokens.Token.{Token}
-use Rattle.c_expr_parser.specs.Reading.{then_read}
+use Rattle.c_expr_parser.specs.reading.Parts.{then_read}
 use Rattle.tm_trees.specs.FileTrees.{PartTree, as_parts}
-use Rattle.c_decl_parser.specs.Repetitions.{until_brace}
-use Rattle.c_parser.specs.FileDescent.{Step, part, parts, statement_by, statement, inside}
-
--- the trees of a vector with one more element
-pub pushed_tree : {A B : Type 0} (f : A → B) (xs ys : List A) (x : A) → ys ≡ xs ++ x ∷ [] → map f ys ≡ map f xs ++ f x ∷ []
-pushed_tree f xs ys x e = ap (map f) e ∙ map-append f xs (x ∷ [])
+use Rattle.c_decl_parser.specs.reading.Repetitions.{until_brace}
+use Rattle.c_parser.specs.reading.FileDescent.{Step, part, parts, statement_by, statement, inside}
 
 -- the parts of a block as one tree
 pub parts_within : (types : List Name) (h : ℕ) (read : Step) (ts : List Token) (o : Option (List PartTree × List Token)) → o ≡ until_brace (part types h read) (length ts) [] ts → then_read o (λ found rest. Some (as_parts found, rest)) ≡ parts types h read ts

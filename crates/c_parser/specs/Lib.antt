@@ -1,2 +1,1 @@
-pub mod FileDescent
-pub mod Founds
+pub mod reading

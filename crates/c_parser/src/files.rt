@@ -1,8 +1,8 @@
 //! Whole files (C99 6.9).
 ghost use Rattle.std.specs.Prelude.{◌≡◌, ◌<◌, length, IfOk, IfSome};
 ghost use Rattle.tm_trees.specs.Parsing.{IsPlaceOf, Parses, answer_of};
-ghost use Rattle.c_parser.specs.Founds.{whole};
-ghost use Rattle.c_parser.specs.FileDescent.{is_end, file};
+ghost use Rattle.c_parser.specs.reading.Founds.{whole};
+ghost use Rattle.c_parser.specs.reading.FileDescent.{is_end, file};
 
 use crate::brackets::first_deep;
 use crate::items::item;

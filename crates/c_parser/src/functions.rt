@@ -1,11 +1,11 @@
 //! Functions (C99 6.9.1), behind their specifiers and their pointer part.
 ghost use Rattle.std.specs.Prelude.{◌≡◌, ◌≤◌, map, IfOk, OnOk};
-ghost use Rattle.c_expr_parser.specs.Reading.{seen_name};
+ghost use Rattle.c_expr_parser.specs.reading.Parts.{seen_name};
 ghost use Rattle.tm_trees.specs.DeclarationTrees.{specifier_tree, count_as, as_specifiers};
 ghost use Rattle.tm_trees.specs.DeclarationSpelling.{is_typedef_list, with_declared};
 ghost use Rattle.tm_trees.specs.FileTrees.{body_tree, item_tree};
-ghost use Rattle.c_decl_parser.specs.Reading.{seen};
-ghost use Rattle.c_parser.specs.FileDescent.{function_body, function_name, function_after};
+ghost use Rattle.c_decl_parser.specs.reading.Parts.{seen};
+ghost use Rattle.c_parser.specs.reading.FileDescent.{function_body, function_name, function_after};
 
 use crate::parameters::parameters;
 use crate::statements::block;
@@ -18,7 +18,7 @@ use tm_terms::{Name, Names, Place, PointerWord, Token};
 use tm_trees::{Block, Function, Item, Specifier};
 
 // A body, or a `;`.
-#[tactic(auto, unfolding(crate::specs::FileDescent::function_body))]
+#[tactic(auto, unfolding(crate::specs::reading::FileDescent::function_body))]
 fn function_body<'a>(
     alloc: Global,
     types: &Names,
@@ -38,7 +38,7 @@ fn function_body<'a>(
 }
 
 // The name of a function, its place, and what follows its `(`.
-#[tactic(auto, unfolding(crate::specs::FileDescent::function_name))]
+#[tactic(auto, unfolding(crate::specs::reading::FileDescent::function_name))]
 pub(crate) fn function_name<'a>(
     types: &Names,
     tokens: &'a [Token],
@@ -63,7 +63,7 @@ fn declare(types: &mut Names, typedef: bool, name: Name) -> Result<(), NoMemory>
 
 // A function behind its `(`. The name of one that a typedef declares is that of a type behind its
 // parameters.
-#[tactic(auto, unfolding(crate::specs::FileDescent::function_after))]
+#[tactic(auto, unfolding(crate::specs::reading::FileDescent::function_after))]
 pub(crate) fn function_after<'a>(
     alloc: Global,
     types: &mut Names,
@@ -77,7 +77,8 @@ pub(crate) fn function_after<'a>(
 ) -> Result<Read<'a, Item>, NoMemory>
     requires low { allowed ≤ 500 }
     requires typedef { typedef ≡ is_typedef_list (count_as (as_specifiers (map specifier_tree specifiers.items))) }
-    ensures { IfOk result (λ read. seen (λ i. (item_tree i, types.new)) read ≡ function_after types.old allowed (map specifier_tree specifiers.items) pointers.items name place tokens.now) }
+    ensures { IfOk result (λ read. seen (λ i. (item_tree i, types.new)) read
+        ≡ function_after types.old allowed (map specifier_tree specifiers.items) pointers.items name place tokens.now) }
 {
     match parameters(alloc, types, allowed, tokens)? {
         Read::Stuck(at) => Ok(Read::Stuck(at)),

@@ -1,11 +1,13 @@
 //! Parts of a file: declarations, functions, mutexes and tasks.
 ghost use Rattle.std.specs.Prelude.{◌≡◌, ◌≤◌, map, IfOk};
-ghost use Rattle.c_expr_parser.specs.Reading.{after};
+ghost use Rattle.c_expr_parser.specs.reading.Parts.{after};
 ghost use Rattle.tm_trees.specs.DeclarationTrees.{specifier_tree, count_as, as_specifiers};
 ghost use Rattle.tm_trees.specs.DeclarationSpelling.{is_typedef_list};
 ghost use Rattle.tm_trees.specs.FileTrees.{item_tree};
-ghost use Rattle.c_decl_parser.specs.Reading.{seen};
-ghost use Rattle.c_parser.specs.FileDescent.{declared_by, undeclared_by, behind_pointers, behind_specifiers, declared_item, mutex_item, task_head, task_item, item_word, item_sign, item};
+ghost use Rattle.c_decl_parser.specs.reading.Parts.{seen};
+ghost use Rattle.c_parser.specs.reading.FileDescent.{declared_by, undeclared_by, behind_pointers, behind_specifiers};
+ghost use Rattle.c_parser.specs.reading.FileDescent.{declared_item, mutex_item, task_head, task_item, item_word};
+ghost use Rattle.c_parser.specs.reading.FileDescent.{item_sign, item};
 
 use crate::functions::{function_after, function_name};
 use crate::parameters::only_void_at;
@@ -34,7 +36,8 @@ fn declared<'a>(
 ) -> Result<Read<'a, Item>, NoMemory>
     requires low { allowed ≤ 500 }
     requires typedef { typedef ≡ is_typedef_list (count_as (as_specifiers (map specifier_tree specifiers.items))) }
-    ensures { IfOk result (λ read. seen (λ i. (item_tree i, types.new)) read ≡ declared_by types.old allowed (map specifier_tree specifiers.items) pointers.items tokens.now) }
+    ensures { IfOk result (λ read. seen (λ i. (item_tree i, types.new)) read
+        ≡ declared_by types.old allowed (map specifier_tree specifiers.items) pointers.items tokens.now) }
 {
     match file_declarators(alloc, types, allowed, typedef, pointers, tokens)? {
         Read::Stuck(at) => Ok(Read::Stuck(at)),
@@ -49,7 +52,7 @@ fn declared<'a>(
 }
 
 // A declaration or a function behind its specifiers and the first pointer part.
-#[tactic(auto, unfolding(crate::specs::FileDescent::behind_pointers))]
+#[tactic(auto, unfolding(crate::specs::reading::FileDescent::behind_pointers))]
 fn behind_pointers<'a>(
     alloc: Global,
     types: &mut Names,
@@ -61,7 +64,8 @@ fn behind_pointers<'a>(
 ) -> Result<Read<'a, Item>, NoMemory>
     requires low { allowed ≤ 500 }
     requires typedef { typedef ≡ is_typedef_list (count_as (as_specifiers (map specifier_tree specifiers.items))) }
-    ensures { IfOk result (λ read. seen (λ i. (item_tree i, types.new)) read ≡ behind_pointers types.old allowed (map specifier_tree specifiers.items) pointers.items tokens.now) }
+    ensures { IfOk result (λ read. seen (λ i. (item_tree i, types.new)) read
+        ≡ behind_pointers types.old allowed (map specifier_tree specifiers.items) pointers.items tokens.now) }
 {
     match function_name(types, tokens) {
         Some((name, place, rest)) => function_after(
@@ -80,7 +84,8 @@ fn behind_specifiers<'a>(
     tokens: &'a [Token],
 ) -> Result<Read<'a, Item>, NoMemory>
     requires { allowed ≤ 500 }
-    ensures { IfOk result (λ read. seen (λ i. (item_tree i, types.new)) read ≡ behind_specifiers types.old allowed (map specifier_tree specifiers.items) tokens.now) }
+    ensures { IfOk result (λ read. seen (λ i. (item_tree i, types.new)) read
+        ≡ behind_specifiers types.old allowed (map specifier_tree specifiers.items) tokens.now) }
 {
     let specs = counted(alloc, &specifiers)?;
     let typedef = is_typedef_list(&specs);
@@ -103,7 +108,9 @@ fn behind_list<'a>(
 ) -> Result<Read<'a, Item>, NoMemory>
     requires low { allowed ≤ 500 }
     requires typedef { typedef ≡ is_typedef_list (count_as (as_specifiers (map specifier_tree specifiers.items))) }
-    ensures { IfOk result (λ read. seen (λ i. (item_tree i, types.new)) read ≡ undeclared_by types.old allowed (map specifier_tree specifiers.items) (after Mark.Semicolon tokens.now) tokens.now) }
+    ensures { IfOk result (λ read. seen (λ i. (item_tree i, types.new)) read
+        ≡ undeclared_by types.old allowed (map specifier_tree specifiers.items)
+        (after Mark.Semicolon tokens.now) tokens.now) }
 {
     match after(Mark::Semicolon, tokens) {
         Some(rest) => Ok(Read::Found(
@@ -121,7 +128,7 @@ fn behind_list<'a>(
 }
 
 // A declaration or a function.
-#[tactic(auto, unfolding(crate::specs::FileDescent::declared_item))]
+#[tactic(auto, unfolding(crate::specs::reading::FileDescent::declared_item))]
 fn declared_item<'a>(
     alloc: Global,
     types: &mut Names,
@@ -129,7 +136,8 @@ fn declared_item<'a>(
     tokens: &'a [Token],
 ) -> Result<Read<'a, Item>, NoMemory>
     requires { allowed ≤ 500 }
-    ensures { IfOk result (λ read. seen (λ i. (item_tree i, types.new)) read ≡ declared_item types.old allowed tokens.now) }
+    ensures { IfOk result (λ read. seen (λ i. (item_tree i, types.new)) read
+        ≡ declared_item types.old allowed tokens.now) }
 {
     match specifiers(alloc, types, allowed, tokens)? {
         Read::Stuck(at) => Ok(Read::Stuck(at)),
@@ -140,7 +148,7 @@ fn declared_item<'a>(
 }
 
 // After `__mutex`: its name, and the `;`.
-#[tactic(auto, unfolding(crate::specs::FileDescent::mutex_item))]
+#[tactic(auto, unfolding(crate::specs::reading::FileDescent::mutex_item))]
 fn mutex_item<'a>(types: &Names, tokens: &'a [Token]) -> Read<'a, Item>
     ensures { seen (λ i. (item_tree i, types.now)) result ≡ mutex_item types.now tokens.now }
 {
@@ -154,7 +162,7 @@ fn mutex_item<'a>(types: &Names, tokens: &'a [Token]) -> Read<'a, Item>
 }
 
 // `void`, the name of a task, and `(void)`.
-#[tactic(auto, unfolding(crate::specs::FileDescent::task_head))]
+#[tactic(auto, unfolding(crate::specs::reading::FileDescent::task_head))]
 fn task_head<'a>(types: &Names, tokens: &'a [Token]) -> Read<'a, (Name, Place)>
     ensures { seen (λ n. n) result ≡ task_head types.now tokens.now }
 {
@@ -174,7 +182,7 @@ fn task_head<'a>(types: &Names, tokens: &'a [Token]) -> Read<'a, (Name, Place)>
 }
 
 // After `__task`: its priority, its head, and its body.
-#[tactic(auto, unfolding(crate::specs::FileDescent::task_item))]
+#[tactic(auto, unfolding(crate::specs::reading::FileDescent::task_item))]
 fn task_item<'a>(
     alloc: Global,
     types: &Names,
@@ -183,7 +191,8 @@ fn task_item<'a>(
     tokens: &'a [Token],
 ) -> Result<Read<'a, Item>, NoMemory>
     requires { allowed ≤ 500 }
-    ensures { IfOk result (λ read. seen (λ i. (item_tree i, types.now)) read ≡ task_item types.now allowed place tokens.now) }
+    ensures { IfOk result (λ read. seen (λ i. (item_tree i, types.now)) read
+        ≡ task_item types.now allowed place tokens.now) }
 {
     match after(Mark::OpenParenthesis, tokens) {
         None => Ok(Read::Stuck(tokens)),
@@ -225,7 +234,8 @@ fn item_word<'a>(
     whole: &'a [Token],
 ) -> Result<Read<'a, Item>, NoMemory>
     requires { allowed ≤ 500 }
-    ensures { IfOk result (λ read. seen (λ i. (item_tree i, types.new)) read ≡ item_word types.old allowed word place rest.now whole.now) }
+    ensures { IfOk result (λ read. seen (λ i. (item_tree i, types.new)) read
+        ≡ item_word types.old allowed word place rest.now whole.now) }
 {
     match word {
         Word::Mutex => Ok(mutex_item(types, rest)),
@@ -244,7 +254,8 @@ fn item_sign<'a>(
     whole: &'a [Token],
 ) -> Result<Read<'a, Item>, NoMemory>
     requires { allowed ≤ 500 }
-    ensures { IfOk result (λ read. seen (λ i. (item_tree i, types.new)) read ≡ item_sign types.old allowed sign rest.now whole.now) }
+    ensures { IfOk result (λ read. seen (λ i. (item_tree i, types.new)) read
+        ≡ item_sign types.old allowed sign rest.now whole.now) }
 {
     match sign {
         Sign::Semicolon => Ok(Read::Found(Item::Empty, rest)),
@@ -254,7 +265,7 @@ fn item_sign<'a>(
 
 // One part of a file, whose parts have at most the allowed height. The names that typedefs declare are
 // added.
-#[tactic(auto, unfolding(crate::specs::FileDescent::item))]
+#[tactic(auto, unfolding(crate::specs::reading::FileDescent::item))]
 pub(crate) fn item<'a>(
     alloc: Global,
     types: &mut Names,

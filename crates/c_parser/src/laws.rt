@@ -13,7 +13,8 @@ ghost use Rattle.tm_trees.specs.Parsing.{syntax_error, Parses};
 
 /// No text has two files.
 pub fn one_file()
-    ensures { (items others : List ItemTree) (ts : List Token) → SpellsFile items ts → SpellsFile others ts → items ≡ others }
+    ensures { (items others : List ItemTree) (ts : List Token) → SpellsFile items ts → SpellsFile others ts → items
+        ≡ others }
 {}
 
 /// Every text has an answer.

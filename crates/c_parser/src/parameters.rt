@@ -1,12 +1,13 @@
 //! Parameters of functions (C99 6.7.5.3).
 ghost use Rattle.std.specs.Prelude.{◌≡◌, ◌≤◌, [], ◌∷◌, length, map, IfOk};
-ghost use Rattle.c_expr_parser.specs.Reading.{then_read, seen_rest};
+ghost use Rattle.c_expr_parser.specs.reading.Parts.{then_read, seen_rest};
 ghost use Rattle.tm_trees.specs.DeclarationTrees.{specifier_tree};
 ghost use Rattle.tm_trees.specs.FileTrees.{parameter_tree, parameters_tree};
-ghost use Rattle.c_decl_parser.specs.Reading.{seen};
-ghost use Rattle.c_decl_parser.specs.Repetitions.{separated};
-ghost use Rattle.c_decl_parser.specs.DeclarationDescent.{specifiers};
-ghost use Rattle.c_parser.specs.FileDescent.{only_void_at, declares, declares_by, parameter_by, parameter_after, parameter, list_by, parameters};
+ghost use Rattle.c_decl_parser.specs.reading.Parts.{seen};
+ghost use Rattle.c_decl_parser.specs.reading.Repetitions.{separated};
+ghost use Rattle.c_decl_parser.specs.reading.DeclarationDescent.{specifiers};
+ghost use Rattle.c_parser.specs.reading.FileDescent.{only_void_at, declares, declares_by, parameter_by};
+ghost use Rattle.c_parser.specs.reading.FileDescent.{parameter_after, parameter, list_by, parameters};
 
 use c_decl_parser::declarators::declarator_after;
 use c_decl_parser::reads::{Read, push};
@@ -20,7 +21,7 @@ use tm_terms::{Names, PointerWord, Shape, Sign, Token};
 use tm_trees::{Parameter, Parameters, Specifier};
 
 // What follows `void` alone and the `)`.
-#[tactic(auto, unfolding(crate::specs::FileDescent::only_void_at))]
+#[tactic(auto, unfolding(crate::specs::reading::FileDescent::only_void_at))]
 pub(crate) fn only_void_at(tokens: &[Token]) -> Option<&[Token]>
     ensures { seen_rest result ≡ only_void_at tokens.now }
 {
@@ -60,7 +61,9 @@ fn parameter_behind<'a>(
     tokens: &'a [Token],
 ) -> Result<Read<'a, Parameter>, NoMemory>
     requires { allowed ≤ 500 }
-    ensures { IfOk result (λ read. seen parameter_tree read ≡ parameter_by types.now allowed (map specifier_tree specifiers.items) pointers.items (declares tokens.now) tokens.now) }
+    ensures { IfOk result (λ read. seen parameter_tree read
+        ≡ parameter_by types.now allowed (map specifier_tree specifiers.items) pointers.items
+        (declares tokens.now) tokens.now) }
 {
     if !declares(tokens) {
         return Ok(Read::Found(
@@ -92,7 +95,8 @@ fn parameter_after<'a>(
     tokens: &'a [Token],
 ) -> Result<Read<'a, Parameter>, NoMemory>
     requires { allowed ≤ 500 }
-    ensures { IfOk result (λ read. seen parameter_tree read ≡ parameter_after types.now allowed (map specifier_tree specifiers.items) tokens.now) }
+    ensures { IfOk result (λ read. seen parameter_tree read
+        ≡ parameter_after types.now allowed (map specifier_tree specifiers.items) tokens.now) }
 {
     let named = names_type(alloc, &specifiers)?;
     if named {
@@ -127,7 +131,9 @@ fn parameter_within<'a>(
     tokens: &'a [Token],
 ) -> Result<Read<'a, Parameter>, NoMemory>
     requires { allowed ≤ 500 }
-    ensures { IfOk result (λ read. seen parameter_tree read ≡ then_read (specifiers types.now allowed tokens.now) (λ found rest. parameter_after types.now allowed found rest)) }
+    ensures { IfOk result (λ read. seen parameter_tree read
+        ≡ then_read (specifiers types.now allowed tokens.now)
+        (λ found rest. parameter_after types.now allowed found rest)) }
 {
     match specifiers(alloc, types, allowed, tokens)? {
         Read::Stuck(at) => Ok(Read::Stuck(at)),
@@ -146,7 +152,8 @@ fn further_parameters<'a>(
     tokens: &'a [Token],
 ) -> Result<Read<'a, Vec<Parameter>>, NoMemory>
     requires { allowed ≤ 500 }
-    ensures { IfOk result (λ read. seen (λ v. map parameter_tree v.items) read ≡ separated (parameter types.now allowed) (length tokens.now) (parameter_tree first ∷ []) tokens.now) }
+    ensures { IfOk result (λ read. seen (λ v. map parameter_tree v.items) read
+        ≡ separated (parameter types.now allowed) (length tokens.now) (parameter_tree first ∷ []) tokens.now) }
 {
     let mut found = Vec::new(alloc);
     push(&mut found, first)?;
@@ -192,7 +199,7 @@ fn parameter_list<'a>(
 }
 
 // The parameters behind the `(`, and the `)`.
-#[tactic(auto, unfolding(crate::specs::FileDescent::parameters))]
+#[tactic(auto, unfolding(crate::specs::reading::FileDescent::parameters))]
 pub(crate) fn parameters<'a>(
     alloc: Global,
     types: &Names,

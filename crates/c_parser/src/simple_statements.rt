@@ -1,10 +1,11 @@
 //! Statements with no statement inside, and the head of a `for` (C99 6.8.3, 6.8.5.3, 6.8.6).
 ghost use Rattle.std.specs.Prelude.{◌≡◌, ◌≤◌, true, false, IfOk};
 ghost use Rattle.tm_trees.specs.DeclarationTrees.{optional_tree};
-ghost use Rattle.tm_trees.specs.FileTrees.{first_tree, statement_tree, a_break, a_continue};
-ghost use Rattle.c_decl_parser.specs.Reading.{seen};
-ghost use Rattle.c_parser.specs.Founds.{boxed_tree, head_tree};
-ghost use Rattle.c_parser.specs.FileDescent.{closed, mutex_in, first, first_by, for_head, word_and_semicolon, return_form, lock_form, unlock_form, yield_form, value_form};
+ghost use Rattle.tm_trees.specs.FileTrees.{first_tree, a_break, a_continue};
+ghost use Rattle.c_decl_parser.specs.reading.Parts.{seen};
+ghost use Rattle.c_parser.specs.reading.Founds.{boxed_tree, head_tree};
+ghost use Rattle.c_parser.specs.reading.FileDescent.{closed, mutex_in, first, first_by, for_head, word_and_semicolon};
+ghost use Rattle.c_parser.specs.reading.FileDescent.{return_form, lock_form, unlock_form, yield_form, value_form};
 
 use crate::statement_nodes::{ForHead, boxed};
 use c_decl_parser::declarations::local_declaration;
@@ -32,7 +33,7 @@ fn closed<'a>(
 }
 
 // A mutex in parentheses, and the `;`.
-#[tactic(auto, unfolding(crate::specs::FileDescent::mutex_in))]
+#[tactic(auto, unfolding(crate::specs::reading::FileDescent::mutex_in))]
 fn mutex_in<'a>(types: &Names, tokens: &'a [Token]) -> Read<'a, (Name, Place)>
     ensures { seen (λ n. n) result ≡ mutex_in types.now tokens.now }
 {
@@ -52,7 +53,7 @@ fn mutex_in<'a>(types: &Names, tokens: &'a [Token]) -> Read<'a, (Name, Place)>
 }
 
 // What a `for` does first, and the `;`.
-#[tactic(auto, unfolding(crate::specs::FileDescent::first))]
+#[tactic(auto, unfolding(crate::specs::reading::FileDescent::first))]
 fn first<'a>(
     alloc: Global,
     types: &Names,
@@ -105,7 +106,7 @@ fn first_expression<'a>(
 }
 
 // The three parts of a `for` between its parentheses.
-#[tactic(auto, unfolding(crate::specs::FileDescent::for_head))]
+#[tactic(auto, unfolding(crate::specs::reading::FileDescent::for_head))]
 pub(crate) fn for_head<'a>(
     alloc: Global,
     types: &Names,
@@ -152,7 +153,10 @@ pub(crate) fn break_form<'a>(
 ) -> Result<Read<'a, Box<Statement>>, NoMemory>
     ensures { IfOk result (λ read. seen boxed_tree read ≡ word_and_semicolon (a_break place) tokens.now) }
 {
-    closed_word(alloc, Statement::Break { place }, tokens)
+    match after(Mark::Semicolon, tokens) {
+        None => Ok(Read::Stuck(tokens)),
+        Some(rest) => Ok(Read::Found(boxed(alloc, Statement::Break { place })?, rest)),
+    }
 }
 
 // After `continue`.
@@ -163,26 +167,14 @@ pub(crate) fn continue_form<'a>(
 ) -> Result<Read<'a, Box<Statement>>, NoMemory>
     ensures { IfOk result (λ read. seen boxed_tree read ≡ word_and_semicolon (a_continue place) tokens.now) }
 {
-    closed_word(alloc, Statement::Continue { place }, tokens)
-}
-
-// After a word that a `;` follows.
-#[tactic(auto, unfolding(crate::specs::FileDescent::word_and_semicolon))]
-fn closed_word<'a>(
-    alloc: Global,
-    statement: Statement,
-    tokens: &'a [Token],
-) -> Result<Read<'a, Box<Statement>>, NoMemory>
-    ensures { IfOk result (λ read. seen boxed_tree read ≡ word_and_semicolon (statement_tree statement) tokens.now) }
-{
     match after(Mark::Semicolon, tokens) {
         None => Ok(Read::Stuck(tokens)),
-        Some(rest) => Ok(Read::Found(boxed(alloc, statement)?, rest)),
+        Some(rest) => Ok(Read::Found(boxed(alloc, Statement::Continue { place })?, rest)),
     }
 }
 
 // After `return`.
-#[tactic(auto, unfolding(crate::specs::FileDescent::return_form))]
+#[tactic(auto, unfolding(crate::specs::reading::FileDescent::return_form))]
 pub(crate) fn return_form<'a>(
     alloc: Global,
     types: &Names,
@@ -203,7 +195,7 @@ pub(crate) fn return_form<'a>(
 }
 
 // After `__lock`.
-#[tactic(auto, unfolding(crate::specs::FileDescent::lock_form))]
+#[tactic(auto, unfolding(crate::specs::reading::FileDescent::lock_form))]
 pub(crate) fn lock_form<'a>(
     alloc: Global,
     types: &Names,
@@ -226,7 +218,7 @@ pub(crate) fn lock_form<'a>(
 }
 
 // After `__unlock`.
-#[tactic(auto, unfolding(crate::specs::FileDescent::unlock_form))]
+#[tactic(auto, unfolding(crate::specs::reading::FileDescent::unlock_form))]
 pub(crate) fn unlock_form<'a>(
     alloc: Global,
     types: &Names,
@@ -249,7 +241,7 @@ pub(crate) fn unlock_form<'a>(
 }
 
 // After `__yield`.
-#[tactic(auto, unfolding(crate::specs::FileDescent::yield_form))]
+#[tactic(auto, unfolding(crate::specs::reading::FileDescent::yield_form))]
 pub(crate) fn yield_form<'a>(
     alloc: Global,
     place: Place,
@@ -261,13 +253,16 @@ pub(crate) fn yield_form<'a>(
         None => Ok(Read::Stuck(tokens)),
         Some(inside) => match after(Mark::CloseParenthesis, inside) {
             None => Ok(Read::Stuck(inside)),
-            Some(end) => closed_word(alloc, Statement::Yield { place }, end),
+            Some(end) => match after(Mark::Semicolon, end) {
+                None => Ok(Read::Stuck(end)),
+                Some(rest) => Ok(Read::Found(boxed(alloc, Statement::Yield { place })?, rest)),
+            },
         },
     }
 }
 
 // An expression or nothing, and the `;`, as a statement.
-#[tactic(auto, unfolding(crate::specs::FileDescent::value_form))]
+#[tactic(auto, unfolding(crate::specs::reading::FileDescent::value_form))]
 pub(crate) fn value_form<'a>(
     alloc: Global,
     types: &Names,

@@ -2,8 +2,9 @@
 ghost use Rattle.std.specs.Prelude.{◌≡◌, map, IfOk};
 ghost use Rattle.tm_terms.specs.ExprTrees.{tree_of};
 ghost use Rattle.tm_trees.specs.DeclarationTrees.{optional_tree};
-ghost use Rattle.tm_trees.specs.FileTrees.{statement_tree, a_block, an_if, an_if_else, a_while, a_do, a_for, a_switch, part_tree, a_step, block_tree, case_tree, a_case_step, as_cases};
-ghost use Rattle.c_parser.specs.Founds.{boxed_tree, head_tree};
+ghost use Rattle.tm_trees.specs.FileTrees.{statement_tree, a_block, an_if, an_if_else, a_while, a_do, a_for, a_switch};
+ghost use Rattle.tm_trees.specs.FileTrees.{part_tree, a_step, block_tree, case_tree, a_case_step, as_cases};
+ghost use Rattle.c_parser.specs.reading.Founds.{boxed_tree, head_tree};
 
 use std::alloc::Global;
 use tm_lattice::NoMemory;
@@ -21,10 +22,7 @@ pub(crate) struct ForHead {
 pub(crate) fn boxed(alloc: Global, statement: Statement) -> Result<Box<Statement>, NoMemory>
     ensures { IfOk result (λ s. boxed_tree s ≡ statement_tree statement) }
 {
-    match Box::new(alloc, statement) {
-        Ok(statement) => Ok(statement),
-        Err(_) => Err(NoMemory),
-    }
+    Ok(Box::new(alloc, statement)?)
 }
 
 pub(crate) fn block(alloc: Global, block: Block) -> Result<Box<Statement>, NoMemory>
@@ -93,7 +91,8 @@ pub(crate) fn for_loop(
     head: ForHead,
     body: Box<Statement>,
 ) -> Result<Box<Statement>, NoMemory>
-    ensures { IfOk result (λ s. boxed_tree s ≡ a_for (head_tree head).0 (head_tree head).1 (head_tree head).2 (boxed_tree body)) }
+    ensures { IfOk result (λ s. boxed_tree s
+        ≡ a_for (head_tree head).0 (head_tree head).1 (head_tree head).2 (boxed_tree body)) }
 {
     let ForHead {
         first,

@@ -2,10 +2,13 @@
 ghost use Rattle.std.specs.Prelude.{◌≡◌, ◌≤◌, [], length, map, IfOk};
 ghost use Rattle.tm_terms.specs.ExprTrees.{tree_of};
 ghost use Rattle.tm_trees.specs.FileTrees.{part_tree, block_tree, case_tree};
-ghost use Rattle.c_decl_parser.specs.Reading.{seen, after_word};
-ghost use Rattle.c_decl_parser.specs.Repetitions.{until_brace};
-ghost use Rattle.c_parser.specs.Founds.{boxed_tree};
-ghost use Rattle.c_parser.specs.FileDescent.{part, parts, labelled, default_label, case_word, case_step, case_part, else_by, if_form, while_form, do_form, for_form, switch_form, statement_word, block_form, statement_sign, statement_by, statement, inside, block};
+ghost use Rattle.c_decl_parser.specs.reading.Parts.{seen, after_word};
+ghost use Rattle.c_decl_parser.specs.reading.Repetitions.{until_brace};
+ghost use Rattle.c_parser.specs.reading.Founds.{boxed_tree};
+ghost use Rattle.c_parser.specs.reading.FileDescent.{part, parts, labelled, default_label, case_word, case_step};
+ghost use Rattle.c_parser.specs.reading.FileDescent.{case_part, else_by, if_form, while_form, do_form, for_form};
+ghost use Rattle.c_parser.specs.reading.FileDescent.{switch_form, statement_word, block_form, statement_sign};
+ghost use Rattle.c_parser.specs.reading.FileDescent.{statement_by, statement, inside, block};
 
 use crate::simple_statements::{
     break_form, continue_form, for_head, lock_form, return_form, unlock_form, value_form,
@@ -24,7 +27,7 @@ use tm_terms::{Expr, Level, Names, Place, Shape, Sign, Token, Word};
 use tm_trees::{Block, BlockPart, Statement, SwitchPart};
 
 // A block.
-#[tactic(auto, unfolding(crate::specs::FileDescent::block))]
+#[tactic(auto, unfolding(crate::specs::reading::FileDescent::block))]
 pub(crate) fn block<'a>(
     alloc: Global,
     types: &Names,
@@ -66,7 +69,8 @@ fn statement_within<'a>(
     tokens: &'a [Token],
 ) -> Result<Read<'a, Box<Statement>>, NoMemory>
     requires { allowed ≤ 499 }
-    ensures { IfOk result (λ read. seen boxed_tree read ≡ statement_by types.now allowed (statement types.now allowed) (inside types.now allowed) tokens.now) }
+    ensures { IfOk result (λ read. seen boxed_tree read
+        ≡ statement_by types.now allowed (statement types.now allowed) (inside types.now allowed) tokens.now) }
 {
     let [token, rest @ ..] = tokens else {
         return Ok(Read::Stuck(tokens));
@@ -90,7 +94,8 @@ fn word_form<'a>(
     whole: &'a [Token],
 ) -> Result<Read<'a, Box<Statement>>, NoMemory>
     requires { allowed ≤ 499 }
-    ensures { IfOk result (λ read. seen boxed_tree read ≡ statement_word types.now allowed (statement types.now allowed) word place rest.now whole.now) }
+    ensures { IfOk result (λ read. seen boxed_tree read
+        ≡ statement_word types.now allowed (statement types.now allowed) word place rest.now whole.now) }
 {
     match word {
         Word::If => if_form(alloc, types, allowed, rest),
@@ -119,7 +124,8 @@ fn sign_form<'a>(
     whole: &'a [Token],
 ) -> Result<Read<'a, Box<Statement>>, NoMemory>
     requires { allowed ≤ 499 }
-    ensures { IfOk result (λ read. seen boxed_tree read ≡ statement_sign types.now allowed (inside types.now allowed) sign rest.now whole.now) }
+    ensures { IfOk result (λ read. seen boxed_tree read
+        ≡ statement_sign types.now allowed (inside types.now allowed) sign rest.now whole.now) }
 {
     match sign {
         Sign::OpenBrace => block_form(alloc, types, allowed, rest),
@@ -170,7 +176,8 @@ fn parts<'a>(
     tokens: &'a [Token],
 ) -> Result<Read<'a, Block>, NoMemory>
     requires { allowed ≤ 499 }
-    ensures { IfOk result (λ read. seen block_tree read ≡ parts types.now allowed (statement types.now allowed) tokens.now) }
+    ensures { IfOk result (λ read. seen block_tree read
+        ≡ parts types.now allowed (statement types.now allowed) tokens.now) }
 {
     let mut found = Vec::new(alloc);
     let mut rest = tokens;
@@ -192,7 +199,7 @@ fn parts<'a>(
 
 // A part of a block.
 #[cycle(statement)]
-#[tactic(auto, unfolding(crate::specs::FileDescent::part))]
+#[tactic(auto, unfolding(crate::specs::reading::FileDescent::part))]
 fn part<'a>(
     alloc: Global,
     types: &Names,
@@ -200,7 +207,8 @@ fn part<'a>(
     tokens: &'a [Token],
 ) -> Result<Read<'a, BlockPart>, NoMemory>
     requires { allowed ≤ 499 }
-    ensures { IfOk result (λ read. seen part_tree read ≡ part types.now allowed (statement types.now allowed) tokens.now) }
+    ensures { IfOk result (λ read. seen part_tree read
+        ≡ part types.now allowed (statement types.now allowed) tokens.now) }
 {
     if begins_type(types, tokens) {
         match local_declaration(alloc, types, allowed, tokens)? {
@@ -219,7 +227,7 @@ fn part<'a>(
 
 // After `if`.
 #[cycle(statement)]
-#[tactic(auto, unfolding(crate::specs::FileDescent::if_form))]
+#[tactic(auto, unfolding(crate::specs::reading::FileDescent::if_form))]
 fn if_form<'a>(
     alloc: Global,
     types: &Names,
@@ -227,7 +235,8 @@ fn if_form<'a>(
     tokens: &'a [Token],
 ) -> Result<Read<'a, Box<Statement>>, NoMemory>
     requires { allowed ≤ 499 }
-    ensures { IfOk result (λ read. seen boxed_tree read ≡ if_form types.now allowed (statement types.now allowed) tokens.now) }
+    ensures { IfOk result (λ read. seen boxed_tree read
+        ≡ if_form types.now allowed (statement types.now allowed) tokens.now) }
 {
     match in_parentheses(alloc, types, allowed, tokens)? {
         Read::Stuck(at) => Ok(Read::Stuck(at)),
@@ -249,7 +258,9 @@ fn else_form<'a>(
     tokens: &'a [Token],
 ) -> Result<Read<'a, Box<Statement>>, NoMemory>
     requires { allowed ≤ 499 }
-    ensures { IfOk result (λ read. seen boxed_tree read ≡ else_by (tree_of condition) (boxed_tree first) (statement types.now allowed) (after_word Keyword.Else tokens.now) tokens.now) }
+    ensures { IfOk result (λ read. seen boxed_tree read
+        ≡ else_by (tree_of condition) (boxed_tree first) (statement types.now allowed)
+        (after_word Keyword.Else tokens.now) tokens.now) }
 {
     match after_word(Keyword::Else, tokens) {
         None => Ok(Read::Found(nodes::if_alone(alloc, condition, first)?, tokens)),
@@ -265,7 +276,7 @@ fn else_form<'a>(
 
 // After `while`.
 #[cycle(statement)]
-#[tactic(auto, unfolding(crate::specs::FileDescent::while_form))]
+#[tactic(auto, unfolding(crate::specs::reading::FileDescent::while_form))]
 fn while_form<'a>(
     alloc: Global,
     types: &Names,
@@ -273,7 +284,8 @@ fn while_form<'a>(
     tokens: &'a [Token],
 ) -> Result<Read<'a, Box<Statement>>, NoMemory>
     requires { allowed ≤ 499 }
-    ensures { IfOk result (λ read. seen boxed_tree read ≡ while_form types.now allowed (statement types.now allowed) tokens.now) }
+    ensures { IfOk result (λ read. seen boxed_tree read
+        ≡ while_form types.now allowed (statement types.now allowed) tokens.now) }
 {
     match in_parentheses(alloc, types, allowed, tokens)? {
         Read::Stuck(at) => Ok(Read::Stuck(at)),
@@ -289,7 +301,7 @@ fn while_form<'a>(
 
 // After `do`.
 #[cycle(statement)]
-#[tactic(auto, unfolding(crate::specs::FileDescent::do_form))]
+#[tactic(auto, unfolding(crate::specs::reading::FileDescent::do_form))]
 fn do_form<'a>(
     alloc: Global,
     types: &Names,
@@ -297,7 +309,8 @@ fn do_form<'a>(
     tokens: &'a [Token],
 ) -> Result<Read<'a, Box<Statement>>, NoMemory>
     requires { allowed ≤ 499 }
-    ensures { IfOk result (λ read. seen boxed_tree read ≡ do_form types.now allowed (statement types.now allowed) tokens.now) }
+    ensures { IfOk result (λ read. seen boxed_tree read
+        ≡ do_form types.now allowed (statement types.now allowed) tokens.now) }
 {
     match statement(alloc, types, allowed, tokens)? {
         Read::Stuck(at) => Ok(Read::Stuck(at)),
@@ -316,7 +329,7 @@ fn do_form<'a>(
 
 // After `for`.
 #[cycle(statement)]
-#[tactic(auto, unfolding(crate::specs::FileDescent::for_form))]
+#[tactic(auto, unfolding(crate::specs::reading::FileDescent::for_form))]
 fn for_form<'a>(
     alloc: Global,
     types: &Names,
@@ -324,7 +337,8 @@ fn for_form<'a>(
     tokens: &'a [Token],
 ) -> Result<Read<'a, Box<Statement>>, NoMemory>
     requires { allowed ≤ 499 }
-    ensures { IfOk result (λ read. seen boxed_tree read ≡ for_form types.now allowed (statement types.now allowed) tokens.now) }
+    ensures { IfOk result (λ read. seen boxed_tree read
+        ≡ for_form types.now allowed (statement types.now allowed) tokens.now) }
 {
     match for_head(alloc, types, allowed, tokens)? {
         Read::Stuck(at) => Ok(Read::Stuck(at)),
@@ -337,7 +351,7 @@ fn for_form<'a>(
 
 // After `switch`.
 #[cycle(statement)]
-#[tactic(auto, unfolding(crate::specs::FileDescent::switch_form))]
+#[tactic(auto, unfolding(crate::specs::reading::FileDescent::switch_form))]
 fn switch_form<'a>(
     alloc: Global,
     types: &Names,
@@ -345,7 +359,8 @@ fn switch_form<'a>(
     tokens: &'a [Token],
 ) -> Result<Read<'a, Box<Statement>>, NoMemory>
     requires { allowed ≤ 499 }
-    ensures { IfOk result (λ read. seen boxed_tree read ≡ switch_form types.now allowed (statement types.now allowed) tokens.now) }
+    ensures { IfOk result (λ read. seen boxed_tree read
+        ≡ switch_form types.now allowed (statement types.now allowed) tokens.now) }
 {
     match in_parentheses(alloc, types, allowed, tokens)? {
         Read::Stuck(at) => Ok(Read::Stuck(at)),
@@ -370,7 +385,8 @@ fn cases<'a>(
     tokens: &'a [Token],
 ) -> Result<Read<'a, Vec<SwitchPart>>, NoMemory>
     requires { allowed ≤ 499 }
-    ensures { IfOk result (λ read. seen (λ v. map case_tree v.items) read ≡ until_brace (case_part types.now allowed (statement types.now allowed)) (length tokens.now) [] tokens.now) }
+    ensures { IfOk result (λ read. seen (λ v. map case_tree v.items) read
+        ≡ until_brace (case_part types.now allowed (statement types.now allowed)) (length tokens.now) [] tokens.now) }
 {
     let mut found = Vec::new(alloc);
     let mut rest = tokens;
@@ -392,7 +408,7 @@ fn cases<'a>(
 
 // A part of the block of a `switch`: a label, or a statement.
 #[cycle(statement)]
-#[tactic(auto, unfolding(crate::specs::FileDescent::case_part))]
+#[tactic(auto, unfolding(crate::specs::reading::FileDescent::case_part))]
 fn case_part<'a>(
     alloc: Global,
     types: &Names,
@@ -400,7 +416,8 @@ fn case_part<'a>(
     tokens: &'a [Token],
 ) -> Result<Read<'a, SwitchPart>, NoMemory>
     requires { allowed ≤ 499 }
-    ensures { IfOk result (λ read. seen case_tree read ≡ case_part types.now allowed (statement types.now allowed) tokens.now) }
+    ensures { IfOk result (λ read. seen case_tree read
+        ≡ case_part types.now allowed (statement types.now allowed) tokens.now) }
 {
     let [token, rest @ ..] = tokens else {
         return Ok(Read::Stuck(tokens));
@@ -422,7 +439,8 @@ fn case_word<'a>(
     whole: &'a [Token],
 ) -> Result<Read<'a, SwitchPart>, NoMemory>
     requires { allowed ≤ 499 }
-    ensures { IfOk result (λ read. seen case_tree read ≡ case_word types.now allowed (statement types.now allowed) word place rest.now whole.now) }
+    ensures { IfOk result (λ read. seen case_tree read
+        ≡ case_word types.now allowed (statement types.now allowed) word place rest.now whole.now) }
 {
     match word {
         Word::Case => labelled(alloc, types, allowed, place, rest),

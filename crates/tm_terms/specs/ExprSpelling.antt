@@ -1,6 +1,7 @@
 -- The grammar of expressions: which tokens spell which tree (C99 6.5, cut to the profile).
 -- Each relation says that the tokens `ts` begin with something, and that `rest` follows it.
-use Rattle.std.specs.Prelude.{◌≡◌, ℕ, ◌+◌, ◌≤◌, ◌<◌, Bool, true, false, ◌||◌, ◌&&◌, ◌==◌, nat_le, List, [], ◌∷◌, length, Option, Some, None, IsTrue, MatchOption, count_by, ◌⊎◌}
+use Rattle.std.specs.Prelude.{◌≡◌, ℕ, ◌+◌, ◌≤◌, ◌<◌, Bool, true, false, ◌||◌, ◌&&◌, ◌==◌, nat_le, List, [], ◌∷◌, length}
+use Rattle.std.specs.Prelude.{Option, Some, None, IsTrue, MatchOption, count_by, ◌⊎◌}
 use Rattle.tm_terms.specs.declared.places.Place.{Place}
 use Rattle.tm_terms.specs.declared.tokens.Name.{Name}
 use Rattle.tm_terms.specs.declared.tokens.Word.{Word}
@@ -13,7 +14,6 @@ use Rattle.tm_terms.specs.declared.tokens.Token.{Token}
 use Rattle.tm_terms.specs.declared.types_named.Spec.{Spec}
 use Rattle.tm_terms.specs.declared.types_named.SpecWord.{SpecWord}
 use Rattle.tm_terms.specs.declared.types_named.SpecWord.TheVariants as Specs
-use Rattle.tm_terms.specs.declared.types_named.Storage.{Storage}
 use Rattle.tm_terms.specs.declared.types_named.Storage.TheVariants as Storages
 use Rattle.tm_terms.specs.declared.types_named.Qualifier.TheVariants as Qualifiers
 use Rattle.tm_terms.specs.declared.types_named.Basic.{Basic}
@@ -33,7 +33,10 @@ use Rattle.tm_terms.specs.declared.exprs.Access.{Access}
 use Rattle.tm_terms.specs.declared.exprs.Access.TheVariants as Accesses
 use Rattle.tm_terms.specs.declared.exprs.Level.TheVariants as Levels
 use Rattle.tm_terms.specs.Names.{is_typedef}
-use Rattle.tm_terms.specs.ExprTrees.{TypeTree, Tree, a_name, an_integer, a_character, in_parentheses, an_input, an_islocked, a_call, a_prefix, a_sizeof_type, a_cast, an_infix, a_conditional, a_subscript, a_member, a_postfix, Arguments, no_arguments, and_argument, rank, infix_level, left_level, right_level, operand_level, level, height}
+use Rattle.tm_terms.specs.ExprTrees.{TypeTree, Tree, a_name, an_integer, a_character, in_parentheses, an_input}
+use Rattle.tm_terms.specs.ExprTrees.{an_islocked, a_call, a_prefix, a_sizeof_type, a_cast, an_infix, a_conditional}
+use Rattle.tm_terms.specs.ExprTrees.{a_subscript, a_member, a_postfix, Arguments, no_arguments, and_argument, rank}
+use Rattle.tm_terms.specs.ExprTrees.{infix_level, left_level, right_level, operand_level, level, height}
 
 -- the first token has this shape and place
 abbrev pub Begins : Shape → Place → List Token → List Token → Type 0
@@ -156,7 +159,8 @@ SpellsSpec types seen word place ts rest =
 abbrev pub SpellsSpecs : List Name → Bool → List Spec → List Token → List Token → Type 0
 SpellsSpecs types seen [] ts rest = ts ≡ rest
 SpellsSpecs types seen (s ∷ specs) ts rest =
-    (mid : List Token) × SpellsSpec types seen s.word s.place ts mid × SpellsSpecs types (seen || is_type_spec s.word) specs mid rest
+    (mid : List Token) × SpellsSpec types seen s.word s.place ts mid
+    × SpellsSpecs types (seen || is_type_spec s.word) specs mid rest
 
 -- a specifier is this type word
 abbrev pub is_basic : Basic → SpecWord → Bool
@@ -205,10 +209,14 @@ is_integer_list chars shorts ints longs signs =
 -- exactly one type is named: `void`, `_Bool`, a list of type words, a structure, an enumeration, or a typedef's name
 abbrev pub is_type_list : List Spec → Bool
 is_type_list specs =
-    let basics = many (is_basic Basics.Char) specs + many (is_basic Basics.Short) specs + many (is_basic Basics.Int) specs + many (is_basic Basics.Long) specs + many (is_basic Basics.Signed) specs + many (is_basic Basics.Unsigned) specs in
+    let basics =
+    many (is_basic Basics.Char) specs + many (is_basic Basics.Short) specs + many (is_basic Basics.Int) specs
+    + many (is_basic Basics.Long) specs + many (is_basic Basics.Signed) specs + many (is_basic Basics.Unsigned) specs in
     ((many is_declared_type specs + many is_lone specs == 1) && (basics == 0))
     || ((many is_declared_type specs + many is_lone specs == 0)
-    && is_integer_list (many (is_basic Basics.Char) specs) (many (is_basic Basics.Short) specs) (many (is_basic Basics.Int) specs) (many (is_basic Basics.Long) specs) (many (is_basic Basics.Signed) specs + many (is_basic Basics.Unsigned) specs))
+    && is_integer_list (many (is_basic Basics.Char) specs) (many (is_basic Basics.Short) specs)
+    (many (is_basic Basics.Int) specs) (many (is_basic Basics.Long) specs)
+    (many (is_basic Basics.Signed) specs + many (is_basic Basics.Unsigned) specs))
 
 -- the specifiers of a type name: one type, at most one storage word, and no `typedef`
 abbrev pub is_type_name_list : List Spec → Bool
@@ -236,7 +244,8 @@ BeginsWithStar _ = ⊥
 -- a type name (C99 6.7.6): specifiers and stars
 abbrev pub SpellsTypeName : List Name → TypeTree → List Token → List Token → Type 0
 SpellsTypeName types n ts rest =
-    (mid : List Token) × SpellsSpecs types false n.specs ts mid × IsTrue (is_type_name_list n.specs) × BeginsWithStar n.pointers × SpellsPointers n.pointers mid rest
+    (mid : List Token) × SpellsSpecs types false n.specs ts mid × IsTrue (is_type_name_list n.specs)
+    × BeginsWithStar n.pointers × SpellsPointers n.pointers mid rest
 
 -- An expression, where `types` are the names of typedefs. Operands stand at least at the level that C99
 -- gives them.
@@ -246,7 +255,8 @@ abbrev mutual
   Spells types (an_integer c p) ts rest = Begins (Shapes.Integer c) p ts rest
   Spells types (a_character v p) ts rest = Begins (Shapes.Character v) p ts rest
   Spells types (in_parentheses t) ts rest =
-      (a : List Token) × (b : List Token) × BySign Signs.OpenParenthesis ts a × Spells types t a b × BySign Signs.CloseParenthesis b rest
+      (a : List Token) × (b : List Token) × BySign Signs.OpenParenthesis ts a × Spells types t a b
+      × BySign Signs.CloseParenthesis b rest
   Spells types (an_input low high p) ts rest =
       (a : List Token) × (b : List Token) × (c : List Token) × (d : List Token) × (e : List Token)
       × Begins (Shapes.Word Words.Input) p ts a × BySign Signs.OpenParenthesis a b
@@ -256,7 +266,8 @@ abbrev mutual
       (a : List Token) × (b : List Token) × (c : List Token) × Begins (Shapes.Word Words.Islocked) p ts a
       × BySign Signs.OpenParenthesis a b × ByName types n q b c × BySign Signs.CloseParenthesis c rest
   Spells types (a_call f args p) ts rest =
-      (a : List Token) × (b : List Token) × ByName types f p ts a × BySign Signs.OpenParenthesis a b × SpellsArguments types args b rest
+      (a : List Token) × (b : List Token) × ByName types f p ts a × BySign Signs.OpenParenthesis a b
+      × SpellsArguments types args b rest
   Spells types (a_prefix op t p) ts rest =
       (a : List Token) × ByPrefix op p ts a × Spells types t a rest × (operand_level op ≤ level t)
   Spells types (a_sizeof_type n p) ts rest =
@@ -264,7 +275,8 @@ abbrev mutual
       × BySign Signs.OpenParenthesis a b × SpellsTypeName types n b c × BySign Signs.CloseParenthesis c rest
   Spells types (a_cast n t p) ts rest =
       (a : List Token) × (b : List Token) × (c : List Token) × Begins (Shapes.Sign Signs.OpenParenthesis) p ts a
-      × SpellsTypeName types n a b × BySign Signs.CloseParenthesis b c × Spells types t c rest × (rank Levels.Cast ≤ level t)
+      × SpellsTypeName types n a b × BySign Signs.CloseParenthesis b c × Spells types t c rest
+      × (rank Levels.Cast ≤ level t)
   Spells types (an_infix l op p r) ts rest =
       (a : List Token) × (b : List Token) × Spells types l ts a × (left_level op ≤ level l)
       × ((sign : Sign) × (infix_of sign ≡ Some op) × Begins (Shapes.Sign sign) p a b)
@@ -280,7 +292,8 @@ abbrev mutual
       (a : List Token) × (b : List Token) × Spells types t ts a × (rank Levels.Postfix ≤ level t)
       × Begins (Shapes.Sign (access_sign access)) p a b × Begins (Shapes.Name m) q b rest
   Spells types (a_postfix t op p) ts rest =
-      (a : List Token) × Spells types t ts a × (rank Levels.Postfix ≤ level t) × Begins (Shapes.Sign (postfix_sign op)) p a rest
+      (a : List Token) × Spells types t ts a × (rank Levels.Postfix ≤ level t)
+      × Begins (Shapes.Sign (postfix_sign op)) p a rest
 
   -- the arguments of a call and the `)` after them
   pub SpellsArguments : List Name → Arguments → List Token → List Token → Type 0
@@ -292,7 +305,8 @@ abbrev mutual
   pub SpellsMore : List Name → Arguments → List Token → List Token → Type 0
   SpellsMore types no_arguments ts rest = BySign Signs.CloseParenthesis ts rest
   SpellsMore types (and_argument t args) ts rest =
-      (a : List Token) × (b : List Token) × BySign Signs.Comma ts a × Spells types t a b × (rank Levels.Assignment ≤ level t) × SpellsMore types args b rest
+      (a : List Token) × (b : List Token) × BySign Signs.Comma ts a × Spells types t a b
+      × (rank Levels.Assignment ≤ level t) × SpellsMore types args b rest
 
 -- the level of the expression that a sign continues, where it continues one
 abbrev pub continued_by : Option Infix → Sign → Option ℕ
@@ -325,7 +339,8 @@ pub record IsFront (types : List Name) (at limit : ℕ) (ts : List Token) (t : T
 -- It is the longest of them: every other one is shorter, and the token after it goes on at that level.
 pub record IsLongest (types : List Name) (at limit : ℕ) (ts : List Token) (t : Tree) (rest : List Token) : Type 0 where
   pub front : IsFront types at limit ts t rest
-  pub only : (other : Tree) (after : List Token) → IsFront types at limit ts other after → ((other ≡ t) × (after ≡ rest)) ⊎ ((length rest < length after) × GoesOn at after)
+  pub only : (other : Tree) (after : List Token) → IsFront types at limit ts other after
+      → ((other ≡ t) × (after ≡ rest)) ⊎ ((length rest < length after) × GoesOn at after)
 
 -- the tokens begin with no such expression
 abbrev pub BeginsNone : List Name → ℕ → ℕ → List Token → Type 0

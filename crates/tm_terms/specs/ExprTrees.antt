@@ -7,11 +7,14 @@ use Rattle.tm_terms.specs.declared.types_named.Spec.{Spec}
 use Rattle.tm_terms.specs.declared.types_named.PointerWord.{PointerWord}
 use Rattle.tm_terms.specs.declared.types_named.TypeName.{TypeName}
 use Rattle.tm_terms.specs.declared.exprs.Binary.{Binary}
-use Rattle.tm_terms.specs.declared.exprs.Binary.TheVariants.{Multiply, Divide, Remainder, Add, Subtract, ShiftLeft, ShiftRight, Less, Greater, LessEqual, GreaterEqual, Equal, NotEqual, BitAnd, BitXor, BitOr, And, Or}
+use Rattle.tm_terms.specs.declared.exprs.Binary.TheVariants.{Multiply, Divide, Remainder, Add, Subtract, ShiftLeft}
+use Rattle.tm_terms.specs.declared.exprs.Binary.TheVariants.{ShiftRight, Less, Greater, LessEqual, GreaterEqual, Equal}
+use Rattle.tm_terms.specs.declared.exprs.Binary.TheVariants.{NotEqual, BitAnd, BitXor, BitOr, And, Or}
 use Rattle.tm_terms.specs.declared.exprs.Infix.{Infix}
 use Rattle.tm_terms.specs.declared.exprs.Infix.TheVariants.{Comma, Assign, AssignBy, Binary as ByBinary}
 use Rattle.tm_terms.specs.declared.exprs.Prefix.{Prefix}
-use Rattle.tm_terms.specs.declared.exprs.Prefix.TheVariants.{Increment, Decrement, Address, Dereference, Plus, Minus, Complement, Not, Sizeof}
+use Rattle.tm_terms.specs.declared.exprs.Prefix.TheVariants.{Increment, Decrement, Address, Dereference, Plus, Minus}
+use Rattle.tm_terms.specs.declared.exprs.Prefix.TheVariants.{Complement, Not, Sizeof}
 use Rattle.tm_terms.specs.declared.exprs.Postfix.{Postfix}
 use Rattle.tm_terms.specs.declared.exprs.Access.{Access}
 use Rattle.tm_terms.specs.declared.exprs.Level.{Level}

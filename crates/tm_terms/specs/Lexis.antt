@@ -1,7 +1,12 @@
--- What begins at a byte of a source (C99 6.4, cut to the profile), always the longest that does. A text is a list of bytes, and byte 0 stands for none past its end.
-use Rattle.std.specs.Prelude.{ℕ, ◌+◌, ◌-◌, ◌*◌, ◌^◌, ℤ, pos, ◌-ℤ◌, Bool, true, false, not, ◌&&◌, ◌||◌, if◌then◌else◌, ◌==◌, nat_lt, nat_le, List, [], ◌∷◌, length, take, drop, slice_index, Option, Some, None, option_map, option_and_then, bytes_eq, codes, fold, find}
+-- What begins at a byte of a source (C99 6.4, cut to the profile), always the longest that does. A text is a list
+-- of bytes, and byte 0 stands for none past its end.
+use Rattle.std.specs.Prelude.{ℕ, ◌+◌, ◌-◌, ◌*◌, ◌^◌, ℤ, pos, Bool, true, false, not, ◌&&◌, ◌||◌, if◌then◌else◌}
+use Rattle.std.specs.Prelude.{◌==◌, nat_lt, nat_le, List, [], ◌∷◌, length, take, drop, slice_index, Option, Some, None}
+use Rattle.std.specs.Prelude.{option_map, option_and_then, bytes_eq, codes, fold, find}
 use Rattle.std.specs.List.{prefix_len, list_all}
 use Rattle.std.specs.Char.{is_ascii_digit, is_ascii_alphabetic, is_ascii_alphanumeric, is_ascii_hexdigit}
+use Rattle.tm_cint.specs.Conversions.{converted_value}
+use Rattle.tm_cint.specs.declared.int_types.IntType.TheVariants.{Char}
 use Rattle.tm_terms.specs.declared.tokens.IntConstant.{IntConstant}
 use Rattle.tm_terms.specs.declared.tokens.Longs.{Longs}
 use Rattle.tm_terms.specs.declared.tokens.Longs.TheVariants as longs
@@ -62,16 +67,23 @@ token s n = Some (record { shape = Some s; length = n })
 unfoldable pub words : List (List ℕ × Word)
 words =
     (codes "auto", word.Auto) ∷ (codes "break", word.Break) ∷ (codes "case", word.Case) ∷ (codes "char", word.Char)
-    ∷ (codes "const", word.Const) ∷ (codes "continue", word.Continue) ∷ (codes "default", word.Default) ∷ (codes "do", word.Do)
-    ∷ (codes "double", word.Double) ∷ (codes "else", word.Else) ∷ (codes "enum", word.Enum) ∷ (codes "extern", word.Extern)
+    ∷ (codes "const", word.Const) ∷ (codes "continue", word.Continue) ∷ (codes "default", word.Default)
+    ∷ (codes "do", word.Do)
+    ∷ (codes "double", word.Double) ∷ (codes "else", word.Else) ∷ (codes "enum", word.Enum)
+    ∷ (codes "extern", word.Extern)
     ∷ (codes "float", word.Float) ∷ (codes "for", word.For) ∷ (codes "goto", word.Goto) ∷ (codes "if", word.If)
-    ∷ (codes "inline", word.Inline) ∷ (codes "int", word.Int) ∷ (codes "long", word.Long) ∷ (codes "register", word.Register)
-    ∷ (codes "restrict", word.Restrict) ∷ (codes "return", word.Return) ∷ (codes "short", word.Short) ∷ (codes "signed", word.Signed)
-    ∷ (codes "sizeof", word.Sizeof) ∷ (codes "static", word.Static) ∷ (codes "struct", word.Struct) ∷ (codes "switch", word.Switch)
-    ∷ (codes "typedef", word.Typedef) ∷ (codes "union", word.Union) ∷ (codes "unsigned", word.Unsigned) ∷ (codes "void", word.Void)
+    ∷ (codes "inline", word.Inline) ∷ (codes "int", word.Int) ∷ (codes "long", word.Long)
+    ∷ (codes "register", word.Register)
+    ∷ (codes "restrict", word.Restrict) ∷ (codes "return", word.Return) ∷ (codes "short", word.Short)
+    ∷ (codes "signed", word.Signed)
+    ∷ (codes "sizeof", word.Sizeof) ∷ (codes "static", word.Static) ∷ (codes "struct", word.Struct)
+    ∷ (codes "switch", word.Switch)
+    ∷ (codes "typedef", word.Typedef) ∷ (codes "union", word.Union) ∷ (codes "unsigned", word.Unsigned)
+    ∷ (codes "void", word.Void)
     ∷ (codes "volatile", word.Volatile) ∷ (codes "while", word.While)
     ∷ (codes "_Bool", word.Bool) ∷ (codes "_Complex", word.Complex) ∷ (codes "_Imaginary", word.Imaginary)
-    ∷ (codes "__task", word.Task) ∷ (codes "__mutex", word.Mutex) ∷ (codes "__lock", word.Lock) ∷ (codes "__unlock", word.Unlock)
+    ∷ (codes "__task", word.Task) ∷ (codes "__mutex", word.Mutex) ∷ (codes "__lock", word.Lock)
+    ∷ (codes "__unlock", word.Unlock)
     ∷ (codes "__yield", word.Yield) ∷ (codes "__input", word.Input) ∷ (codes "__islocked", word.Islocked) ∷ []
 
 -- the word with this spelling
@@ -137,23 +149,27 @@ constant_in base text =
     let value = value_in base (front (is_digit_in base) text) in
     if prefix_len (is_digit_in base) text == 0 then None
     else (if nat_le (2 ^ 127) value then None
-    else option_map (λ s. record { value = value; decimal = base == 10; unsigned = s.0; longs = s.1 }) (suffix_of (behind (is_digit_in base) text)))
+    else option_map (λ s. record { value = value; decimal = base == 10; unsigned = s.0; longs = s.1 })
+    (suffix_of (behind (is_digit_in base) text)))
 
 -- a constant: hexadecimal behind `0x` or `0X`, octal from `0` on, and else decimal
 unfoldable pub constant_of : List ℕ → Option IntConstant
 constant_of text =
-    if slice_index text 0 == 48 && (slice_index text 1 == 120 || slice_index text 1 == 88) then constant_in 16 (drop 2 text)
+    if slice_index text 0 == 48 && (slice_index text 1 == 120 || slice_index text 1 == 88)
+    then constant_in 16 (drop 2 text)
     else constant_in (if slice_index text 0 == 48 then 8 else 10) text
 
 -- the piece that a digit begins
 unfoldable pub number_piece : List ℕ → Option Piece
-number_piece text = option_map (λ c. record { shape = Some (shape.Integer c); length = prefix_len is_number_byte text }) (constant_of (front is_number_byte text))
+number_piece text =
+    option_map (λ c. record { shape = Some (shape.Integer c); length = prefix_len is_number_byte text })
+    (constant_of (front is_number_byte text))
 
 -- ## Character constants (C99 6.4.4.4)
 
--- the value of a byte as a signed `char`
+-- the value of a byte as a `char`
 abbrev pub char_value : ℕ → ℤ
-char_value b = if nat_lt b 128 then pos b else pos b -ℤ pos 256
+char_value b = converted_value (pos b) Char
 
 -- the byte that a simple escape stands for, by the byte behind its `\`
 abbrev pub simple_escape : ℕ → Option ℕ
@@ -175,7 +191,8 @@ digits_escape base digits more =
     else (if nat_le 256 (value_in base digits) then None
     else Some (value_in base digits, length digits + more))
 
--- the escape that begins behind a `\`: its byte, and how many bytes it takes. An octal one has one to three digits, a hexadecimal one as many as follow.
+-- the escape that begins behind a `\`: its byte, and how many bytes it takes. An octal one has one to three digits,
+-- a hexadecimal one as many as follow.
 unfoldable pub escape : List ℕ → Option (ℕ × ℕ)
 escape text =
     if is_digit_in 8 (slice_index text 0) then digits_escape 8 (front (is_digit_in 8) (take 3 text)) 0
@@ -211,29 +228,37 @@ comment text = option_and_then gap (comment_end 2 (drop 2 text))
 
 -- behind `#` and blanks of the line stands a decimal number, `line` or `pragma`
 abbrev pub is_skipped_word : List ℕ → Bool
-is_skipped_word text = bytes_eq text (codes "line") || bytes_eq text (codes "pragma") || (nat_lt 0 (length text) && list_all is_ascii_digit text)
+is_skipped_word text =
+    bytes_eq text (codes "line") || bytes_eq text (codes "pragma")
+    || (nat_lt 0 (length text) && list_all is_ascii_digit text)
 
 -- a line that begins with `#`, up to its end
 unfoldable pub skipped_line : List ℕ → Option Piece
 skipped_line text =
-    if is_skipped_word (front is_name_byte (behind is_blank_in_line (drop 1 text))) then gap (prefix_len is_in_line text) else None
+    if is_skipped_word (front is_name_byte (behind is_blank_in_line (drop 1 text)))
+    then gap (prefix_len is_in_line text) else None
 
 -- ## Punctuators (C99 6.4.6)
 
 unfoldable pub long_signs : List (List ℕ × Sign)
-long_signs = (codes "<<=", sign.ShiftLeftEqual) ∷ (codes ">>=", sign.ShiftRightEqual) ∷ (codes "...", sign.Ellipsis) ∷ []
+long_signs =
+    (codes "<<=", sign.ShiftLeftEqual) ∷ (codes ">>=", sign.ShiftRightEqual) ∷ (codes "...", sign.Ellipsis) ∷ []
 
 unfoldable pub double_signs : List (List ℕ × Sign)
 double_signs =
-    (codes "->", sign.Arrow) ∷ (codes "++", sign.PlusPlus) ∷ (codes "--", sign.MinusMinus) ∷ (codes "<<", sign.ShiftLeft)
-    ∷ (codes ">>", sign.ShiftRight) ∷ (codes "<=", sign.LessEqual) ∷ (codes ">=", sign.GreaterEqual) ∷ (codes "==", sign.EqualEqual)
+    (codes "->", sign.Arrow) ∷ (codes "++", sign.PlusPlus) ∷ (codes "--", sign.MinusMinus)
+    ∷ (codes "<<", sign.ShiftLeft)
+    ∷ (codes ">>", sign.ShiftRight) ∷ (codes "<=", sign.LessEqual) ∷ (codes ">=", sign.GreaterEqual)
+    ∷ (codes "==", sign.EqualEqual)
     ∷ (codes "!=", sign.NotEqual) ∷ (codes "&&", sign.AndAnd) ∷ (codes "||", sign.OrOr) ∷ (codes "*=", sign.StarEqual)
-    ∷ (codes "/=", sign.SlashEqual) ∷ (codes "%=", sign.PercentEqual) ∷ (codes "+=", sign.PlusEqual) ∷ (codes "-=", sign.MinusEqual)
+    ∷ (codes "/=", sign.SlashEqual) ∷ (codes "%=", sign.PercentEqual) ∷ (codes "+=", sign.PlusEqual)
+    ∷ (codes "-=", sign.MinusEqual)
     ∷ (codes "&=", sign.AndEqual) ∷ (codes "^=", sign.CaretEqual) ∷ (codes "|=", sign.OrEqual) ∷ []
 
 unfoldable pub single_signs : List (List ℕ × Sign)
 single_signs =
-    (codes "[", sign.OpenBracket) ∷ (codes "]", sign.CloseBracket) ∷ (codes "(", sign.OpenParenthesis) ∷ (codes ")", sign.CloseParenthesis)
+    (codes "[", sign.OpenBracket) ∷ (codes "]", sign.CloseBracket) ∷ (codes "(", sign.OpenParenthesis)
+    ∷ (codes ")", sign.CloseParenthesis)
     ∷ (codes "{", sign.OpenBrace) ∷ (codes "}", sign.CloseBrace) ∷ (codes ".", sign.Dot) ∷ (codes "&", sign.And)
     ∷ (codes "*", sign.Star) ∷ (codes "+", sign.Plus) ∷ (codes "-", sign.Minus) ∷ (codes "~", sign.Tilde)
     ∷ (codes "!", sign.Not) ∷ (codes "/", sign.Slash) ∷ (codes "%", sign.Percent) ∷ (codes "<", sign.Less)
@@ -255,11 +280,14 @@ longest_sign None None None = None
 unfoldable pub sign_of : List ℕ → Option Piece
 sign_of text =
     let a = slice_index text 0 in let b = slice_index text 1 in let c = slice_index text 2 in
-    longest_sign (sign_in long_signs (a ∷ b ∷ c ∷ [])) (sign_in double_signs (a ∷ b ∷ [])) (sign_in single_signs (a ∷ []))
+    longest_sign (sign_in long_signs (a ∷ b ∷ c ∷ [])) (sign_in double_signs (a ∷ b ∷ []))
+    (sign_in single_signs (a ∷ []))
 
 -- ## What begins
 
--- What begins a text that stands from byte `at` on, where `bare` says that only blanks stand before it on its line. Nothing does at the end, at `/*` without a later `*/`, at a bad constant, at `#` on another line than a skipped one, and at a byte of no other use.
+-- What begins a text that stands from byte `at` on, where `bare` says that only blanks stand before it on its line.
+-- Nothing does at the end, at `/*` without a later `*/`, at a bad constant, at `#` on another line than a skipped
+-- one, and at a byte of no other use.
 unfoldable pub begins : ℕ → Bool → List ℕ → Option Piece
 begins at bare text =
     let a = slice_index text 0 in let b = slice_index text 1 in

@@ -1,6 +1,7 @@
 use Rattle.std.specs.Prelude.{ℕ}
 use Rattle.tm_terms.specs.declared.refusals.Limit.{Limit}
-use Rattle.tm_terms.specs.declared.refusals.Limit.TheVariants.{Source, Tokens, Tasks, Mutexes, Paths, Cells, Abstract, Nodes, Work}
+use Rattle.tm_terms.specs.declared.refusals.Limit.TheVariants.{Source, Tokens, Tasks, Mutexes, Paths, Cells, Abstract}
+use Rattle.tm_terms.specs.declared.refusals.Limit.TheVariants.{Nodes, Work}
 
 -- the greatest count that a limit allows: a source is refused where a count is above it
 abbrev pub limit_number : Limit → ℕ

@@ -1,7 +1,9 @@
 -- Which tokens a source spells: a source is read piece by piece, each the longest that begins at its byte (C99 6.4).
-use Rattle.std.specs.Prelude.{◌≡◌, ℕ, ◌+◌, ◌<◌, zero, suc, Bool, true, false, ◌&&◌, if◌then◌else◌, ◌==◌, nat_lt, List, [], ◌∷◌, ◌++◌, length, take, drop, Option, Some, None, Result, Ok, Err, option_map, option_and_then, unwrap_or, is_some, bytes_eq, fold, find, Vec}
+use Rattle.std.specs.Prelude.{◌≡◌, ℕ, ◌+◌, ◌<◌, zero, suc, Bool, true, false, ◌&&◌, if◌then◌else◌, ◌==◌, nat_lt, List}
+use Rattle.std.specs.Prelude.{[], ◌∷◌, ◌++◌, length, take, drop, Option, Some, None, Result, Ok, Err, option_map}
+use Rattle.std.specs.Prelude.{Contains, option_and_then, unwrap_or, is_some, bytes_eq, fold, find, Vec}
 use Rattle.tm_terms.specs.Lexis.{begins, is_blank}
-use Rattle.tm_terms.specs.declared.limits.TheConstants.{TOKENS}
+use Rattle.tm_terms.specs.Limits.{limit_number}
 use Rattle.tm_terms.specs.declared.places.Place.{Place}
 use Rattle.tm_terms.specs.declared.refusals.Fail.{Fail}
 use Rattle.tm_terms.specs.declared.refusals.Fail.TheVariants as fail
@@ -20,7 +22,8 @@ use Rattle.tm_terms.specs.declared.tokens.Word.TheVariants as word
 
 -- The place behind a byte: byte 10 ends a line, and lines and columns are counted from 1.
 abbrev pub next_place : Place → ℕ → Place
-next_place place b = if b == 10 then record { line = place.line + 1; col = 1 } else record { line = place.line; col = place.col + 1 }
+next_place place b =
+    if b == 10 then record { line = place.line + 1; col = 1 } else record { line = place.line; col = place.col + 1 }
 
 -- the place behind a text
 abbrev pub place_after : Place → List ℕ → Place
@@ -32,7 +35,8 @@ bare_after bare text = fold (λ so_far b. if b == 10 then true else (so_far && i
 
 -- ## A reading, piece by piece
 
--- Where a reading of a source stands: how many bytes it has read, the place of the next, whether only blanks stand before that on its line, and the tokens so far, each name where it stands.
+-- Where a reading of a source stands: how many bytes it has read, the place of the next, whether only blanks stand
+-- before that on its line, and the tokens so far, each name where it stands.
 pub record Reading : Type 0 where
   pub at : ℕ
   pub place : Place
@@ -58,7 +62,12 @@ module _ (source : List ℕ) where
   abbrev pub read_past : Reading → Piece → Reading
   read_past r piece =
       let text = take piece.length (drop r.at source) in
-      record { at = r.at + piece.length; place = place_after r.place text; bare = bare_after r.bare text; tokens = r.tokens ++ token_of r.place piece.shape }
+      record {
+        at = r.at + piece.length;
+        place = place_after r.place text;
+        bare = bare_after r.bare text;
+        tokens = r.tokens ++ token_of r.place piece.shape;
+      }
 
   -- the reading behind the piece that begins where it stands, if one does
   unfoldable pub next_reading : Reading → Option Reading
@@ -81,6 +90,7 @@ abbrev pub noted_at : List (List ℕ × ℕ) → List ℕ → ℕ → List (List
 noted_at table text start = if is_some (start_of table text) then table else (text, start) ∷ table
 
 module _ (source : List ℕ) where
+  -- the text of a name
   abbrev pub text_of : Name → List ℕ
   text_of name = take name.length (drop name.start source)
 
@@ -91,13 +101,20 @@ module _ (source : List ℕ) where
 
   -- a name is told by where its text stood first, and anything else stays
   abbrev pub told : List (List ℕ × ℕ) → Shape → Shape
-  told table (shape.Name name) = shape.Name (record { start = unwrap_or (start_of table (text_of name)) name.start; length = name.length })
+  told table (shape.Name name) =
+      shape.Name (record { start = unwrap_or (start_of table (text_of name)) name.start; length = name.length })
   told table s = s
 
   -- the tokens, with each name told by where its text stands first, among these or in the table of those before
   unfoldable pub with_first_names : List (List ℕ × ℕ) → List Token → List Token
   with_first_names table [] = []
-  with_first_names table (t ∷ tokens) = record { shape = told table t.shape; place = t.place } ∷ with_first_names (noted table t.shape) tokens
+  with_first_names table (t ∷ tokens) =
+      record { shape = told table t.shape; place = t.place } ∷ with_first_names (noted table t.shape) tokens
+
+-- this name stands among the tokens
+pub record IsNameAmong (tokens : List Token) (name : Name) : Type 0 where
+  pub place : Place
+  pub among : Contains tokens (record { shape = shape.Name name; place = place })
 
 -- ## What a source spells
 
@@ -142,7 +159,9 @@ unsupported t = record { kind = kind.Unsupported; place = t.place; limit = None 
 
 -- What the tokens of a source are answered with: the limit, else the first unsupported one, else they themselves.
 unfoldable pub checked : List Token → Result (List Token) Refusal
-checked tokens = if nat_lt TOKENS (length tokens) then Err too_many_tokens else refused (find (λ t. is_unsupported t.shape) tokens)
+checked tokens =
+    if nat_lt (limit_number counted.Tokens) (length tokens) then Err too_many_tokens
+    else refused (find (λ t. is_unsupported t.shape) tokens)
   where
     refused : Option Token → Result (List Token) Refusal
     refused None = Ok tokens

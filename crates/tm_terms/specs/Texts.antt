@@ -5,9 +5,12 @@ use Rattle.tm_cint.specs.declared.Class.TheVariants.{Overflow, Div, Shift, Index
 use Rattle.tm_terms.specs.declared.alarms.Alarm.{Alarm}
 use Rattle.tm_terms.specs.declared.places.Place.{Place}
 use Rattle.tm_terms.specs.declared.refusals.Kind.{Kind}
-use Rattle.tm_terms.specs.declared.refusals.Kind.TheVariants.{Lexical, Unsupported, Deep, Syntax, Undeclared, Redeclared, Mismatch, NotConstant, NotLvalue, NoBody, Recursive, BadTask, Limit as KindLimit, Unbuilt}
+use Rattle.tm_terms.specs.declared.refusals.Kind.TheVariants.{Lexical, Unsupported, Deep, Syntax, Undeclared}
+use Rattle.tm_terms.specs.declared.refusals.Kind.TheVariants.{Redeclared, Mismatch, NotConstant, NotLvalue, NoBody}
+use Rattle.tm_terms.specs.declared.refusals.Kind.TheVariants.{Recursive, BadTask, Limit as KindLimit, Unbuilt}
 use Rattle.tm_terms.specs.declared.refusals.Limit.{Limit}
-use Rattle.tm_terms.specs.declared.refusals.Limit.TheVariants.{Source, Tokens, Tasks, Mutexes, Paths, Cells, Abstract, Nodes, Work}
+use Rattle.tm_terms.specs.declared.refusals.Limit.TheVariants.{Source, Tokens, Tasks, Mutexes, Paths, Cells, Abstract}
+use Rattle.tm_terms.specs.declared.refusals.Limit.TheVariants.{Nodes, Work}
 use Rattle.tm_terms.specs.declared.refusals.Refusal.{Refusal}
 use Rattle.tm_terms.specs.Limits.{limit_number}
 

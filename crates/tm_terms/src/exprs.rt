@@ -6,7 +6,7 @@ use crate::tokens::{IntConstant, Name};
 use crate::types_named::TypeName;
 
 /// The levels of expressions (C99 6.5.1 to 6.5.17), loosest first.
-#[derive(Clone, Copy, PartialEq, Eq, Debug)]
+#[derive(Clone, Copy, PartialEq, Eq)]
 pub enum Level {
     Comma,
     Assignment,
@@ -28,7 +28,7 @@ pub enum Level {
 }
 
 /// An operator between two operands that groups to the left (C99 6.5.5 to 6.5.14).
-#[derive(Clone, Copy, PartialEq, Eq, Debug)]
+#[derive(Clone, Copy, PartialEq, Eq)]
 pub enum Binary {
     Multiply,
     Divide,
@@ -51,7 +51,7 @@ pub enum Binary {
 }
 
 /// An operator between two expressions.
-#[derive(Clone, Copy, PartialEq, Eq, Debug)]
+#[derive(Clone, Copy, PartialEq, Eq)]
 pub enum Infix {
     /// `,` (C99 6.5.17)
     Comma,
@@ -63,7 +63,7 @@ pub enum Infix {
 }
 
 /// An operator before its operand (C99 6.5.3).
-#[derive(Clone, Copy, PartialEq, Eq, Debug)]
+#[derive(Clone, Copy, PartialEq, Eq)]
 pub enum Prefix {
     /// `++`
     Increment,
@@ -86,7 +86,7 @@ pub enum Prefix {
 }
 
 /// An operator after its operand (C99 6.5.2.4).
-#[derive(Clone, Copy, PartialEq, Eq, Debug)]
+#[derive(Clone, Copy, PartialEq, Eq)]
 pub enum Postfix {
     /// `++`
     Increment,
@@ -95,7 +95,7 @@ pub enum Postfix {
 }
 
 /// How a member is named (C99 6.5.2.3).
-#[derive(Clone, Copy, PartialEq, Eq, Debug)]
+#[derive(Clone, Copy, PartialEq, Eq)]
 pub enum Access {
     /// `.`, of a structure
     Dot,
@@ -106,7 +106,6 @@ pub enum Access {
 /// An expression as it is written, with the place of the token that names its form: of the operator,
 /// of the name of a called function, of a name or a constant. In parentheses it has the place of the
 /// inside.
-#[derive(Drop, Debug)]
 pub enum Expr {
     /// `x`
     Name {
@@ -196,6 +195,86 @@ pub enum Expr {
         operator: Postfix,
         place: Place,
     },
+}
+
+// Written by hand, so that a function which lets an expression go calls this, and its check does not go through the
+// forms.
+impl Drop for Expr {
+    fn drop(self) {
+        match self {
+            Expr::Name {
+                name: _name,
+                place: _place,
+            } => {}
+            Expr::Integer {
+                constant: _constant,
+                place: _place,
+            } => {}
+            Expr::Character {
+                value: _value,
+                place: _place,
+            } => {}
+            Expr::Parentheses { inside: _inside } => {}
+            Expr::Input {
+                low: _low,
+                high: _high,
+                place: _place,
+            } => {}
+            Expr::Islocked {
+                mutex: _mutex,
+                mutex_place: _mutex_place,
+                place: _place,
+            } => {}
+            Expr::Call {
+                function: _function,
+                arguments: _arguments,
+                place: _place,
+            } => {}
+            Expr::Prefix {
+                operator: _operator,
+                operand: _operand,
+                place: _place,
+            } => {}
+            Expr::SizeofType {
+                type_name: _type_name,
+                place: _place,
+            } => {}
+            Expr::Cast {
+                type_name: _type_name,
+                operand: _operand,
+                place: _place,
+            } => {}
+            Expr::Infix {
+                left: _left,
+                operator: _operator,
+                right: _right,
+                place: _place,
+            } => {}
+            Expr::Conditional {
+                condition: _condition,
+                first: _first,
+                second: _second,
+                place: _place,
+            } => {}
+            Expr::Subscript {
+                array: _array,
+                index: _index,
+                place: _place,
+            } => {}
+            Expr::Member {
+                object: _object,
+                access: _access,
+                member: _member,
+                member_place: _member_place,
+                place: _place,
+            } => {}
+            Expr::Postfix {
+                operand: _operand,
+                operator: _operator,
+                place: _place,
+            } => {}
+        }
+    }
 }
 
 impl Expr {

@@ -1,4 +1,9 @@
-//! The plain data of the front end: places, alarms, refusals, tokens and the trees of expressions.
+//! The plain data of the front end (places, alarms, refusals, tokens, names, limits, trees of expressions), with the
+//! definitions of which bytes spell which tokens and which tokens spell which expression, and the lines that the
+//! program writes. It reads no source, and it does not know what a name means or which type an expression has.
+//!
+//! In `a - b - c` the tree is that of the second `-`, with `a - b` as its left operand: its place is the second `-`.
+//! Written as a line, the refusal `Syntax` at line 3, column 7 is `3:7 refused Syntax`.
 #![tactic(auto)]
 
 mod alarms;

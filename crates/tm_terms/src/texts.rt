@@ -1,7 +1,8 @@
 //! The lines that the program writes: a report, a refusal, and how it is used.
 
 ghost use Rattle.std.specs.Prelude.{◌≡◌, ◌++◌, IfOk, OnOk, string_bytes};
-ghost use Rattle.tm_terms.specs.Texts.{alarm_line, class_text, count_line, kind_line, kind_text, limit_line, limit_text, refusal_text, report_text, usage_text};
+ghost use Rattle.tm_terms.specs.Texts.{alarm_line, class_text, count_line, kind_line, kind_text, limit_line};
+ghost use Rattle.tm_terms.specs.Texts.{limit_text, refusal_text, report_text, usage_text};
 
 use crate::alarms::{Alarm, Report};
 use crate::places::Place;
@@ -141,6 +142,3 @@ pub fn usage_line() -> &'static str
 {
     "usage: COMMAND [OPTIONS] < source\n"
 }
-
-#[cfg(test)]
-mod tests;

@@ -2,14 +2,14 @@ use crate::places::Place;
 
 /// A name of the source: the byte at which its text first stands as a name, counted from 0, and
 /// its length in bytes. Two names of one source are equal exactly where their texts are.
-#[derive(Clone, Copy, PartialEq, Eq, PartialOrd, Ord, Hash, Debug)]
+#[derive(Clone, Copy, PartialEq, Eq, PartialOrd, Ord, Hash)]
 pub struct Name {
     pub start: u32,
     pub length: u32,
 }
 
 /// The suffix l of an integer constant: none, `l` or `ll`.
-#[derive(Clone, Copy, PartialEq, Eq, Debug)]
+#[derive(Clone, Copy, PartialEq, Eq)]
 pub enum Longs {
     None,
     One,
@@ -17,7 +17,7 @@ pub enum Longs {
 }
 
 /// An integer constant (C99 6.4.4.1): its value, whether it is written in decimal, and its suffixes.
-#[derive(Clone, Copy, PartialEq, Eq, Debug)]
+#[derive(Clone, Copy, PartialEq, Eq)]
 pub struct IntConstant {
     pub value: u128,
     pub decimal: bool,
@@ -26,7 +26,7 @@ pub struct IntConstant {
 }
 
 /// A word of the language: the keywords of C99 6.4.1, and the analyser's own.
-#[derive(Clone, Copy, PartialEq, Eq, Debug)]
+#[derive(Clone, Copy, PartialEq, Eq)]
 pub enum Word {
     Auto,
     Break,
@@ -85,7 +85,7 @@ pub enum Word {
 }
 
 /// A punctuator (C99 6.4.6, without digraphs).
-#[derive(Clone, Copy, PartialEq, Eq, Debug)]
+#[derive(Clone, Copy, PartialEq, Eq)]
 pub enum Sign {
     /// `[`
     OpenBracket,
@@ -182,7 +182,7 @@ pub enum Sign {
 }
 
 /// What a token is, without its place.
-#[derive(Clone, Copy, PartialEq, Eq, Debug)]
+#[derive(Clone, Copy, PartialEq, Eq)]
 pub enum Shape {
     Name(Name),
     Word(Word),
@@ -193,7 +193,7 @@ pub enum Shape {
 }
 
 /// A token, and the place of its first byte.
-#[derive(Clone, Copy, PartialEq, Eq, Debug)]
+#[derive(Clone, Copy, PartialEq, Eq)]
 pub struct Token {
     pub shape: Shape,
     pub place: Place,
@@ -202,7 +202,7 @@ pub struct Token {
 /// What begins at a byte of the source, the longest that does: a token's shape, or no shape for what
 /// stands between tokens (a blank, a comment or a skipped line), and how many bytes it takes. A name
 /// is given as it stands here, with the byte at which it begins.
-#[derive(Clone, Copy, PartialEq, Eq, Debug)]
+#[derive(Clone, Copy, PartialEq, Eq)]
 pub struct Piece {
     pub shape: Option<Shape>,
     pub length: usize,

@@ -9,7 +9,7 @@ use std::marker::Model;
 use tm_lattice::NoMemory;
 
 /// A storage word (C99 6.7.1).
-#[derive(Clone, Copy, PartialEq, Eq, Debug)]
+#[derive(Clone, Copy, PartialEq, Eq)]
 pub enum Storage {
     Static,
     Extern,
@@ -19,7 +19,7 @@ pub enum Storage {
 }
 
 /// A qualifier (C99 6.7.3), or `inline` (C99 6.7.4).
-#[derive(Clone, Copy, PartialEq, Eq, Debug)]
+#[derive(Clone, Copy, PartialEq, Eq)]
 pub enum Qualifier {
     Inline,
     Const,
@@ -28,7 +28,7 @@ pub enum Qualifier {
 }
 
 /// A type word (C99 6.7.2) that stands alone.
-#[derive(Clone, Copy, PartialEq, Eq, Debug)]
+#[derive(Clone, Copy, PartialEq, Eq)]
 pub enum Basic {
     Void,
     Bool,
@@ -41,14 +41,14 @@ pub enum Basic {
 }
 
 /// What a tag names.
-#[derive(Clone, Copy, PartialEq, Eq, Debug)]
+#[derive(Clone, Copy, PartialEq, Eq)]
 pub enum TagKind {
     Struct,
     Enum,
 }
 
 /// One specifier of a list, as in `static const unsigned long`, `struct point` or `counter_t`.
-#[derive(Clone, Copy, PartialEq, Eq, Debug)]
+#[derive(Clone, Copy, PartialEq, Eq)]
 pub enum SpecWord {
     Storage(Storage),
     Qualifier(Qualifier),
@@ -64,14 +64,14 @@ pub enum SpecWord {
 }
 
 /// A specifier and the place of its first token.
-#[derive(Clone, Copy, PartialEq, Eq, Debug)]
+#[derive(Clone, Copy, PartialEq, Eq)]
 pub struct Spec {
     pub word: SpecWord,
     pub place: Place,
 }
 
 /// A token of the pointer part of a declarator, as in `* const *`.
-#[derive(Clone, Copy, PartialEq, Eq, Debug)]
+#[derive(Clone, Copy, PartialEq, Eq)]
 pub enum PointerWord {
     Star,
     Const,
@@ -80,16 +80,22 @@ pub enum PointerWord {
 }
 
 /// A type name (C99 6.7.6) of a cast or of `sizeof`: specifiers and stars, as in `const char *`.
-#[derive(Drop, Debug)]
+#[derive(Drop)]
 pub struct TypeName {
     pub specs: Vec<Spec>,
     pub pointers: Vec<PointerWord>,
 }
 
 /// The names that the typedefs so far have declared, in the order of their declarations.
-#[derive(Drop)]
 pub struct Names {
     set: IndexSet<Name>,
+}
+
+// By hand, as for expressions.
+impl Drop for Names {
+    fn drop(self) {
+        let Names { set: _set } = self;
+    }
 }
 
 impl Model for Names {

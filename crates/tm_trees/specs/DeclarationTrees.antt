@@ -14,7 +14,9 @@ use Rattle.tm_trees.specs.declared.declarations.Length.{Length}
 use Rattle.tm_trees.specs.declared.declarations.Enumerator.{Enumerator}
 use Rattle.tm_trees.specs.declared.declarations.Declarator.{Declarator}
 use Rattle.tm_trees.specs.declared.declarations.Declarator.TheVariants as Declarators
-use Rattle.tm_trees.specs.declared.declarations.Specifier.{Specifier, Row_of-Specifier, end_of-Specifier, more_of-Specifier, Row_of-Member, end_of-Member, more_of-Member}
+use Rattle.tm_trees.specs.declared.declarations.Specifier.{Specifier, Row_of-Specifier, end_of-Specifier}
+use Rattle.tm_trees.specs.declared.declarations.Specifier.{more_of-Specifier, Row_of-Member, end_of-Member}
+use Rattle.tm_trees.specs.declared.declarations.Specifier.{more_of-Member}
 use Rattle.tm_trees.specs.declared.declarations.Specifier.TheVariants as Specifiers
 use Rattle.tm_trees.specs.declared.declarations.Member.{Member}
 use Rattle.tm_trees.specs.declared.declarations.Value.{Value, Row_of-Value, end_of-Value, more_of-Value}
@@ -134,7 +136,8 @@ abbrev pub word_height : SpecWord → ℕ
 word_height (Specs.Tagged kind tag p) = 1
 word_height _ = 0
 
--- A list of specifiers is a node; in it each structure and each enumeration, and in a structure the members of one declaration.
+-- A list of specifiers is a node; in it each structure and each enumeration, and in a structure the members of one
+-- declaration.
 abbrev mutual
   pub specifier_height : SpecifierTree → ℕ
   specifier_height (a_plain s) = word_height s.word
@@ -148,7 +151,8 @@ abbrev mutual
 
   pub members_height : MemberTrees → ℕ
   members_height no_members = 0
-  members_height (and_members specifiers declarators members) = max (suc (max (suc (tallest_specifier specifiers)) (declarators_height declarators))) (members_height members)
+  members_height (and_members specifiers declarators members) =
+      max (suc (max (suc (tallest_specifier specifiers)) (declarators_height declarators))) (members_height members)
 
 abbrev pub specifiers_height : SpecifierTrees → ℕ
 specifiers_height specifiers = suc (tallest_specifier specifiers)
@@ -202,8 +206,10 @@ abbrev pub length_tree : Length → LengthTree
 length_tree l = record { value = optional_tree l.value; place = l.place }
 
 abbrev pub declarator_tree : Declarator → DeclaratorTree
-declarator_tree (Declarators.Name pointers n lengths p) = a_declared_name pointers.items n p (map length_tree lengths.items)
-declarator_tree (Declarators.Nested' pointers b d lengths) = a_nested pointers.items (declarator_tree d) (map length_tree lengths.items)
+declarator_tree (Declarators.Name pointers n lengths p) =
+    a_declared_name pointers.items n p (map length_tree lengths.items)
+declarator_tree (Declarators.Nested' pointers b d lengths) =
+    a_nested pointers.items (declarator_tree d) (map length_tree lengths.items)
 
 abbrev pub enumerator_tree : Enumerator → EnumeratorTree
 enumerator_tree e = record { name = e.name; value = optional_tree e.value; place = e.place }
@@ -221,7 +227,8 @@ abbrev mutual
 
   pub members_of : {m : _} → Row_of-Member m → MemberTrees
   members_of end_of-Member = no_members
-  members_of (more_of-Member shape specifiers declarators row) = and_members (specifiers_of specifiers) (map declarator_tree declarators.items) (members_of row)
+  members_of (more_of-Member shape specifiers declarators row) =
+      and_members (specifiers_of specifiers) (map declarator_tree declarators.items) (members_of row)
 
 abbrev pub specifier_trees : List Specifier → SpecifierTrees
 specifier_trees specifiers = as_specifiers (map specifier_tree specifiers)
@@ -243,7 +250,12 @@ initialiser_tree None = None
 initialiser_tree (Some i) = Some (record { value = value_tree i.value; place = i.place })
 
 abbrev pub init_declarator_tree : InitDeclarator → InitDeclaratorTree
-init_declarator_tree d = record { declarator = declarator_tree d.declarator; initialiser = initialiser_tree d.initialiser }
+init_declarator_tree d =
+    record { declarator = declarator_tree d.declarator; initialiser = initialiser_tree d.initialiser }
 
 abbrev pub declaration_tree : Declaration → DeclarationTree
-declaration_tree d = record { specifiers = specifier_trees d.specifiers.items; declarators = map init_declarator_tree d.declarators.items }
+declaration_tree d =
+    record {
+      specifiers = specifier_trees d.specifiers.items;
+      declarators = map init_declarator_tree d.declarators.items;
+    }

@@ -11,7 +11,9 @@ use Rattle.tm_trees.specs.declared.statements.SwitchPart.{SwitchPart}
 use Rattle.tm_trees.specs.declared.statements.SwitchPart.TheVariants as SwitchParts
 use Rattle.tm_trees.specs.declared.statements.ForFirst.{ForFirst}
 use Rattle.tm_trees.specs.declared.statements.ForFirst.TheVariants as Firsts
-use Rattle.tm_trees.specs.declared.statements.Statement.{Statement, Held-Statement-If-2, None', Some', Row_of-BlockPart, end_of-BlockPart, more_of-BlockPart, Row_of-SwitchPart, end_of-SwitchPart, more_of-SwitchPart}
+use Rattle.tm_trees.specs.declared.statements.Statement.{Statement, Held-Statement-If-2, None', Some', Row_of-BlockPart}
+use Rattle.tm_trees.specs.declared.statements.Statement.{end_of-BlockPart, more_of-BlockPart, Row_of-SwitchPart}
+use Rattle.tm_trees.specs.declared.statements.Statement.{end_of-SwitchPart, more_of-SwitchPart}
 use Rattle.tm_trees.specs.declared.statements.Statement.TheVariants as Statements
 use Rattle.tm_trees.specs.declared.files.Parameter.{Parameter}
 use Rattle.tm_trees.specs.declared.files.Parameter.TheVariants as ParameterForms
@@ -21,7 +23,9 @@ use Rattle.tm_trees.specs.declared.files.Function.{Function}
 use Rattle.tm_trees.specs.declared.files.Item.{Item}
 use Rattle.tm_trees.specs.declared.files.Item.TheVariants as Items
 use Rattle.tm_trees.specs.declared.files.File.{File}
-use Rattle.tm_trees.specs.DeclarationTrees.{DeclaratorTree, declarator_tree, declarator_height, SpecifierTrees, specifier_trees, specifiers_height, DeclarationTree, declaration_tree, declaration_height, optional_height, optional_tree}
+use Rattle.tm_trees.specs.DeclarationTrees.{DeclaratorTree, declarator_tree, declarator_height, SpecifierTrees}
+use Rattle.tm_trees.specs.DeclarationTrees.{specifier_trees, specifiers_height, DeclarationTree, declaration_tree}
+use Rattle.tm_trees.specs.DeclarationTrees.{declaration_height, optional_height, optional_tree}
 
 -- ## Statements (C99 6.8)
 
@@ -107,7 +111,8 @@ abbrev mutual
   statement_height (an_if_else c s r) = suc (max (height c) (max (statement_height s) (statement_height r)))
   statement_height (a_while c s) = suc (max (height c) (statement_height s))
   statement_height (a_do s c) = suc (max (statement_height s) (height c))
-  statement_height (a_for first c step s) = suc (max (first_height first) (max (optional_height c) (max (optional_height step) (statement_height s))))
+  statement_height (a_for first c step s) =
+      suc (max (first_height first) (max (optional_height c) (max (optional_height step) (statement_height s))))
   statement_height (a_switch t cases) = suc (max (height t) (cases_height cases))
   statement_height (a_break p) = 1
   statement_height (a_continue p) = 1
@@ -156,7 +161,8 @@ body_height (Some parts) = block_height parts
 -- an item is a node, with its function
 abbrev pub item_height : ItemTree → ℕ
 item_height (a_declaration d) = suc (declaration_height d)
-item_height (a_function f) = suc (max (specifiers_height f.specifiers) (max (parameters_height f.parameters) (body_height f.body)))
+item_height (a_function f) =
+    suc (max (specifiers_height f.specifiers) (max (parameters_height f.parameters) (body_height f.body)))
 item_height an_empty_item = 1
 item_height (a_mutex n p) = 1
 item_height (a_task t n q parts p) = suc (max (height t) (block_height parts))
@@ -182,7 +188,8 @@ abbrev mutual
   statement_tree (Statements.If' c b s r) = with_second (tree_of c) (statement_tree s) r
   statement_tree (Statements.While' c b s) = a_while (tree_of c) (statement_tree s)
   statement_tree (Statements.Do' b s c) = a_do (statement_tree s) (tree_of c)
-  statement_tree (Statements.For' first c step b s) = a_for (first_tree first) (optional_tree c) (optional_tree step) (statement_tree s)
+  statement_tree (Statements.For' first c step b s) =
+      a_for (first_tree first) (optional_tree c) (optional_tree step) (statement_tree s)
   statement_tree (Statements.Switch' e shape row) = a_switch (tree_of e) (cases_of row)
   statement_tree (Statements.Break p) = a_break p
   statement_tree (Statements.Continue p) = a_continue p
@@ -225,8 +232,10 @@ abbrev pub block_tree : Block → PartTrees
 block_tree b = as_parts (map part_tree b.parts.items)
 
 abbrev pub parameter_tree : Parameter → ParameterTree
-parameter_tree (ParameterForms.Named specifiers d) = a_named_parameter (specifier_trees specifiers.items) (declarator_tree d)
-parameter_tree (ParameterForms.Unnamed specifiers pointers) = an_unnamed_parameter (specifier_trees specifiers.items) pointers.items
+parameter_tree (ParameterForms.Named specifiers d) =
+    a_named_parameter (specifier_trees specifiers.items) (declarator_tree d)
+parameter_tree (ParameterForms.Unnamed specifiers pointers) =
+    an_unnamed_parameter (specifier_trees specifiers.items) pointers.items
 
 abbrev pub parameters_tree : Parameters → ParametersTree
 parameters_tree ParametersForms.Void = only_void
@@ -237,7 +246,15 @@ body_tree None = None
 body_tree (Some b) = Some (block_tree b)
 
 abbrev pub function_tree : Function → FunctionTree
-function_tree f = record { specifiers = specifier_trees f.specifiers.items; pointers = f.pointers.items; name = f.name; parameters = parameters_tree f.parameters; body = body_tree f.body; place = f.place }
+function_tree f =
+    record {
+      specifiers = specifier_trees f.specifiers.items;
+      pointers = f.pointers.items;
+      name = f.name;
+      parameters = parameters_tree f.parameters;
+      body = body_tree f.body;
+      place = f.place;
+    }
 
 abbrev pub item_tree : Item → ItemTree
 item_tree (Items.Declaration d) = a_declaration (declaration_tree d)

@@ -1,5 +1,6 @@
 -- What tokens are answered with: a bracket that is too deep, else the file that they spell, else that they spell none.
-use Rattle.std.specs.Prelude.{◌≡◌, ℕ, ◌-◌, ◌≤◌, suc, if◌then◌else◌, nat_lt, List, [], ◌∷◌, ◌++◌, Option, Some, None, Result, Ok, Err}
+use Rattle.std.specs.Prelude.{◌≡◌, ℕ, ◌-◌, ◌≤◌, suc, if◌then◌else◌, nat_lt, List, [], ◌∷◌, ◌++◌, Option, Some, None}
+use Rattle.std.specs.Prelude.{Result, Ok, Err}
 use Rattle.tm_terms.specs.declared.places.Place.{Place}
 use Rattle.tm_terms.specs.declared.refusals.Fail.{Fail}
 use Rattle.tm_terms.specs.declared.refusals.Fail.TheVariants as fail
@@ -16,7 +17,8 @@ use Rattle.tm_trees.specs.FileSpelling.{SpellsFile}
 
 -- ## Brackets
 
--- How many brackets are open behind a sign: each that opens adds one, each that closes takes one away where one is open, of whatever kind.
+-- How many brackets are open behind a sign: each that opens adds one, each that closes takes one away where one is
+-- open, of whatever kind.
 abbrev pub open_behind_sign : ℕ → Sign → ℕ
 open_behind_sign n Signs.OpenParenthesis = suc n
 open_behind_sign n Signs.OpenBracket = suc n
@@ -33,7 +35,8 @@ open_behind n _ = n
 -- the first token behind which more than 200 brackets are open, where n are open before
 unfoldable pub first_deep : ℕ → List Token → Option Place
 first_deep n [] = None
-first_deep n (t ∷ ts) = if nat_lt 200 (open_behind n t.shape) then Some t.place else first_deep (open_behind n t.shape) ts
+first_deep n (t ∷ ts) =
+    if nat_lt 200 (open_behind n t.shape) then Some t.place else first_deep (open_behind n t.shape) ts
 
 -- ## The answer
 
@@ -60,7 +63,8 @@ pub record IsFileOf (tokens : List Token) (items : List ItemTree) : Type 0 where
 pub data Parses (tokens : List Token) : Result (List ItemTree) Refusal → Type 0 where
   too_deep : {place : Place} → first_deep 0 tokens ≡ Some place → Parses tokens (Err (deep place))
   spells : {items : List ItemTree} → first_deep 0 tokens ≡ None → IsFileOf tokens items → Parses tokens (Ok items)
-  spells_none : {place : Place} → first_deep 0 tokens ≡ None → ((items : List ItemTree) → IsFileOf tokens items → ⊥) → IsPlaceOf tokens place
+  spells_none : {place : Place} → first_deep 0 tokens ≡ None → ((items : List ItemTree) → IsFileOf tokens items → ⊥)
+      → IsPlaceOf tokens place
       → Parses tokens (Err (syntax_error place))
 
 -- ## Clauses of a call that answers with the file

@@ -10,7 +10,6 @@ pub struct Length {
 
 /// A declarator (C99 6.7.5): stars with their qualifiers; a name, or a declarator in parentheses; and the
 /// lengths of arrays.
-#[derive(Drop)]
 pub enum Declarator {
     /// `*x[4]`
     Name {
@@ -27,8 +26,26 @@ pub enum Declarator {
     },
 }
 
+impl Drop for Declarator {
+    fn drop(self) {
+        match self {
+            Declarator::Name {
+                pointers: _pointers,
+                name: _name,
+                lengths: _lengths,
+                place: _place,
+            } => {}
+            Declarator::Nested {
+                pointers: _pointers,
+                inside: _inside,
+                lengths: _lengths,
+            } => {}
+        }
+    }
+}
+
 /// The tag of a structure or an enumeration, and its place.
-#[derive(Clone, Copy, PartialEq, Eq, Debug)]
+#[derive(Clone, Copy, PartialEq, Eq)]
 pub struct Tag {
     pub name: Name,
     pub place: Place,
@@ -43,7 +60,6 @@ pub struct Enumerator {
 }
 
 /// A specifier of a declaration (C99 6.7). The place is that of its first token.
-#[derive(Drop)]
 #[cycle(specifiers)]
 pub enum Specifier {
     /// A word, a typedef name, or `struct` or `enum` with a tag alone.
@@ -62,6 +78,25 @@ pub enum Specifier {
     },
 }
 
+impl Drop for Specifier {
+    #[cycle(specifiers)]
+    fn drop(self) {
+        match self {
+            Specifier::Plain(_part) => {}
+            Specifier::Struct {
+                tag: _tag,
+                members: _members,
+                place: _place,
+            } => {}
+            Specifier::Enum {
+                tag: _tag,
+                enumerators: _enumerators,
+                place: _place,
+            } => {}
+        }
+    }
+}
+
 /// The members of a structure that one declaration gives, as in `int x, *y;`.
 #[derive(Drop)]
 #[cycle(specifiers)]
@@ -71,11 +106,22 @@ pub struct Member {
 }
 
 /// What an object is initialised with (C99 6.7.8).
-#[derive(Drop)]
 pub enum Value {
     Expression(Expr),
     /// `{e, ..}`, with the place of the `{`.
     List { values: Vec<Value>, place: Place },
+}
+
+impl Drop for Value {
+    fn drop(self) {
+        match self {
+            Value::Expression(_part) => {}
+            Value::List {
+                values: _values,
+                place: _place,
+            } => {}
+        }
+    }
 }
 
 /// A value and the place of the `=` before it.

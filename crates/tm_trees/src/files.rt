@@ -39,7 +39,6 @@ pub struct Function {
 }
 
 /// One part of a file.
-#[derive(Drop)]
 pub enum Item {
     Declaration(Declaration),
     Function(Function),
@@ -58,6 +57,27 @@ pub enum Item {
         body: Block,
         place: Place,
     },
+}
+
+impl Drop for Item {
+    fn drop(self) {
+        match self {
+            Item::Declaration(_part) => {}
+            Item::Function(_part) => {}
+            Item::Empty => {}
+            Item::Mutex {
+                name: _name,
+                place: _place,
+            } => {}
+            Item::Task {
+                priority: _priority,
+                name: _name,
+                name_place: _name_place,
+                body: _body,
+                place: _place,
+            } => {}
+        }
+    }
 }
 
 /// A whole file.

@@ -10,15 +10,23 @@ pub struct Block {
 }
 
 /// A part of a block.
-#[derive(Drop)]
 #[cycle(statements)]
 pub enum BlockPart {
     Declaration(Declaration),
     Statement(Statement),
 }
 
+impl Drop for BlockPart {
+    #[cycle(statements)]
+    fn drop(self) {
+        match self {
+            BlockPart::Declaration(_part) => {}
+            BlockPart::Statement(_part) => {}
+        }
+    }
+}
+
 /// A part of the block of a `switch`: labels stand there alone (C99 6.8.1, cut to the profile).
-#[derive(Drop)]
 #[cycle(statements)]
 pub enum SwitchPart {
     /// `case e:`
@@ -28,15 +36,36 @@ pub enum SwitchPart {
     Statement(Statement),
 }
 
+impl Drop for SwitchPart {
+    #[cycle(statements)]
+    fn drop(self) {
+        match self {
+            SwitchPart::Case {
+                value: _value,
+                place: _place,
+            } => {}
+            SwitchPart::Default { place: _place } => {}
+            SwitchPart::Statement(_part) => {}
+        }
+    }
+}
+
 /// What a `for` does first (C99 6.8.5.3).
-#[derive(Drop)]
 pub enum ForFirst {
     Expression(Option<Expr>),
     Declaration(Declaration),
 }
 
+impl Drop for ForFirst {
+    fn drop(self) {
+        match self {
+            ForFirst::Expression(_part) => {}
+            ForFirst::Declaration(_part) => {}
+        }
+    }
+}
+
 /// A statement, with the place of its first word where an error or an access may stand there.
-#[derive(Drop)]
 #[cycle(statements)]
 pub enum Statement {
     Block(Block),
@@ -99,4 +128,54 @@ pub enum Statement {
     Yield {
         place: Place,
     },
+}
+
+impl Drop for Statement {
+    #[cycle(statements)]
+    fn drop(self) {
+        match self {
+            Statement::Block(_part) => {}
+            Statement::Expression(_part) => {}
+            Statement::If {
+                condition: _condition,
+                first: _first,
+                second: _second,
+            } => {}
+            Statement::While {
+                condition: _condition,
+                body: _body,
+            } => {}
+            Statement::Do {
+                body: _body,
+                condition: _condition,
+            } => {}
+            Statement::For {
+                first: _first,
+                condition: _condition,
+                step: _step,
+                body: _body,
+            } => {}
+            Statement::Switch {
+                value: _value,
+                parts: _parts,
+            } => {}
+            Statement::Break { place: _place } => {}
+            Statement::Continue { place: _place } => {}
+            Statement::Return {
+                value: _value,
+                place: _place,
+            } => {}
+            Statement::Lock {
+                mutex: _mutex,
+                mutex_place: _mutex_place,
+                place: _place,
+            } => {}
+            Statement::Unlock {
+                mutex: _mutex,
+                mutex_place: _mutex_place,
+                place: _place,
+            } => {}
+            Statement::Yield { place: _place } => {}
+        }
+    }
 }

@@ -1,7 +1,7 @@
 use Rattle.std.proofs.Common.{◌≡◌, ◌-◌, [], ◌∷◌, map}
 use Rattle.tm_trees.specs.DeclarationTrees.{init_declarator_tree}
-use Rattle.c_decl_parser.specs.Repetitions.{separated}
-use Rattle.c_decl_parser.specs.DeclarationDescent.{init_declarator}
+use Rattle.c_decl_parser.specs.reading.Repetitions.{separated}
+use Rattle.c_decl_parser.specs.reading.DeclarationDescent.{init_declarator}
 use Rattle.c_decl_parser.proofs.declarations.further_declarators.Given as goal
 
 -- the rest of the reading gives what the whole gives

@@ -1,7 +1,8 @@
-use Rattle.std.proofs.Common.{◌+◌, ◌-◌, length, map, sym, ap, ◌∙◌, arith}
-use Rattle.tm_trees.specs.DeclarationTrees.{init_declarator_tree}
-use Rattle.c_decl_parser.specs.Reading.{seen}
-use Rattle.c_decl_parser.specs.DeclarationDescent.{typedefs_from}
+use Rattle.std.proofs.Common.{◌+◌, ◌-◌, List, length, map, sym, ap, ◌∙◌, arith}
+use Rattle.tm_trees.specs.DeclarationTrees.{InitDeclaratorTree, init_declarator_tree}
+use Rattle.c_decl_parser.specs.reading.Parts.{seen}
+use Rattle.c_decl_parser.specs.reading.DeclarationDescent.{typedefs_from}
+use Rattle.c_decl_parser.proofs.RepetitionSteps.{pushed_tree}
 use Rattle.c_decl_parser.proofs.DeclarationSteps.{typedefs_stop, typedefs_done, typedefs_stuck, typedefs_next}
 use Rattle.c_decl_parser.proofs.declarations.further_typedefs.Goals as goal
 
@@ -17,7 +18,7 @@ returns-in-Stuck c =
 pub typedefs-preserved : goal.typedefs-preserved
 typedefs-preserved c =
     let one = sym c.in_ok-at-in-Some.ensures ∙ ap (seen (λ d. (init_declarator_tree d, c.typedef_declarator.new.types))) c.in-Found.is in
-    ap (λ found. typedefs_from c.args.allowed (length c.args.tokens.now - (c.typedefs._i + 1)) c.typedef_declarator.new.types found c.in-Found.next.now) c.in_ok-push_init_declarator-in-Found.ensures
+    ap (λ (found : List InitDeclaratorTree). typedefs_from c.args.allowed (length c.args.tokens.now - (c.typedefs._i + 1)) c.typedef_declarator.new.types found c.in-Found.next.now) (pushed_tree init_declarator_tree _ _ _ c.in_ok-push-in-Found.ensures)
     ∙ sym (typedefs_next c.args.allowed (length c.args.tokens.now - c.typedefs._i) (length c.args.tokens.now - (c.typedefs._i + 1)) c.typedefs.types (map init_declarator_tree c.typedefs.found.items) c.typedefs.rest.now c.in-Some.parted.now (init_declarator_tree c.in-Found.declarator) c.typedef_declarator.new.types c.in-Found.next.now (omega arith) (sym c.in-Some.ensures) one) ∙ c.typedefs.invariant
 
 pub returns : goal.returns

@@ -1,6 +1,6 @@
 use Rattle.std.proofs.Common.{◌≡◌, ◌-◌, [], ◌∷◌, map}
 use Rattle.tm_trees.specs.DeclarationTrees.{init_declarator_tree}
-use Rattle.c_decl_parser.specs.DeclarationDescent.{typedefs_from}
+use Rattle.c_decl_parser.specs.reading.DeclarationDescent.{typedefs_from}
 use Rattle.c_decl_parser.proofs.declarations.further_typedefs.Given as goal
 
 -- the rest of the reading gives what the whole gives

@@ -1,7 +1,7 @@
 use Rattle.std.proofs.Common.{◌≡◌, ◌-◌, List, Option, None, Some, IfOk, sym, ap, ◌∙◌, subst, arith}
 use Rattle.tm_terms.specs.declared.tokens.Token.{Token}
 use Rattle.tm_trees.specs.DeclarationTrees.{InitDeclaratorTree, declarator_tree, init_declarator_tree}
-use Rattle.c_decl_parser.specs.Reading.{seen}
+use Rattle.c_decl_parser.specs.reading.Parts.{seen}
 use Rattle.c_decl_parser.proofs.DeclarationSteps.{init_declarator_is}
 use Rattle.c_decl_parser.proofs.declarations.init_declarator_after.Goals as goal
 

@@ -2,7 +2,7 @@ use Rattle.std.proofs.Common.{◌≡◌, List, Option, map, IfOk, sym, ap, ◌�
 use Rattle.tm_terms.specs.declared.tokens.Token.{Token}
 use Rattle.tm_terms.specs.ExprSpelling.{is_type_name_list}
 use Rattle.tm_trees.specs.DeclarationTrees.{DeclarationTree, specifier_tree, declaration_tree, count_as, as_specifiers}
-use Rattle.c_decl_parser.specs.Reading.{seen}
+use Rattle.c_decl_parser.specs.reading.Parts.{seen}
 use Rattle.c_decl_parser.proofs.DeclarationSteps.{local_named, local_unnamed}
 use Rattle.c_decl_parser.proofs.declarations.local_after.Goals as goal
 

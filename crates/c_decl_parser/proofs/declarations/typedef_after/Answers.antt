@@ -2,10 +2,10 @@ use Rattle.std.proofs.Common.{◌≡◌, ◌-◌, List, Option, None, Some, IfOk
 use Rattle.tm_terms.specs.declared.tokens.Name.{Name}
 use Rattle.tm_terms.specs.declared.tokens.Token.{Token}
 use Rattle.tm_terms.specs.Names.{with_typedef}
-use Rattle.c_expr_parser.specs.Reading.{then_read}
+use Rattle.c_expr_parser.specs.reading.Parts.{then_read}
 use Rattle.tm_trees.specs.DeclarationTrees.{InitialiserTree, InitDeclaratorTree, declared_name, declarator_tree, init_declarator_tree}
-use Rattle.c_decl_parser.specs.Reading.{seen}
-use Rattle.c_decl_parser.specs.DeclarationDescent.{initialiser, typedef_after}
+use Rattle.c_decl_parser.specs.reading.Parts.{seen}
+use Rattle.c_decl_parser.specs.reading.DeclarationDescent.{initialiser, typedef_after}
 use Rattle.c_decl_parser.proofs.DeclarationSteps.{typedef_is, answered_with}
 use Rattle.c_decl_parser.proofs.declarations.typedef_after.Goals as goal
 

@@ -1,7 +1,7 @@
 use Rattle.std.proofs.Common.{◌≡◌, ◌-◌, List, Option, IfOk, sym, ap, ◌∙◌, subst, arith}
 use Rattle.tm_terms.specs.declared.tokens.Token.{Token}
 use Rattle.tm_trees.specs.DeclarationTrees.{DeclaratorTree, declarator_tree}
-use Rattle.c_decl_parser.specs.Reading.{seen}
+use Rattle.c_decl_parser.specs.reading.Parts.{seen}
 use Rattle.c_decl_parser.proofs.DeclarationSteps.{named_is, nested_is}
 use Rattle.c_decl_parser.proofs.declarators.+declarator.Goals as goal
 

@@ -1,9 +1,9 @@
-use Rattle.std.proofs.Common.{◌+◌, ◌-◌, true, length, map, sym, ap, ◌∙◌, arith}
-use Rattle.tm_trees.specs.DeclarationTrees.{declarator_tree}
-use Rattle.c_decl_parser.specs.Reading.{seen}
-use Rattle.c_decl_parser.specs.Repetitions.{separated}
-use Rattle.c_decl_parser.specs.DeclarationDescent.{declarator}
-use Rattle.c_decl_parser.proofs.RepetitionSteps.{separated_stop, separated_done, separated_stuck, separated_next}
+use Rattle.std.proofs.Common.{◌+◌, ◌-◌, List, true, length, map, sym, ap, ◌∙◌, arith}
+use Rattle.tm_trees.specs.DeclarationTrees.{DeclaratorTree, declarator_tree}
+use Rattle.c_decl_parser.specs.reading.Parts.{seen}
+use Rattle.c_decl_parser.specs.reading.Repetitions.{separated}
+use Rattle.c_decl_parser.specs.reading.DeclarationDescent.{declarator}
+use Rattle.c_decl_parser.proofs.RepetitionSteps.{pushed_tree, separated_stop, separated_done, separated_stuck, separated_next}
 use Rattle.c_decl_parser.proofs.declarators.further_members.Goals as goal
 
 pub returns-in-None : goal.returns-in-None
@@ -20,7 +20,7 @@ pub declarators-preserved : goal.declarators-preserved
 declarators-preserved c =
     let one = sym c.in_ok-at-in-Some.ensures ∙ ap (seen declarator_tree) c.in-Found.is in
     let rest = length c.args.tokens.now - (c.declarators._i + 1) in
-    ap (λ found. separated (declarator true c.args.types.now c.args.allowed) rest found c.in-Found.next.now) c.in_ok-push_declarator-in-Found.ensures
+    ap (λ (found : List DeclaratorTree). separated (declarator true c.args.types.now c.args.allowed) rest found c.in-Found.next.now) (pushed_tree declarator_tree _ _ _ c.in_ok-push-in-Found.ensures)
     ∙ sym (separated_next (declarator true c.args.types.now c.args.allowed) (length c.args.tokens.now - c.declarators._i) rest (map declarator_tree c.declarators.found.items) c.declarators.rest.now c.in-Some.parted.now (declarator_tree c.in-Found.declarator) c.in-Found.next.now (omega arith) (sym c.in-Some.ensures) one)
     ∙ c.declarators.invariant
 

@@ -1,7 +1,7 @@
 use Rattle.std.proofs.Common.{◌≡◌, ◌-◌, true, [], ◌∷◌, map}
 use Rattle.tm_trees.specs.DeclarationTrees.{declarator_tree}
-use Rattle.c_decl_parser.specs.Repetitions.{separated}
-use Rattle.c_decl_parser.specs.DeclarationDescent.{declarator}
+use Rattle.c_decl_parser.specs.reading.Repetitions.{separated}
+use Rattle.c_decl_parser.specs.reading.DeclarationDescent.{declarator}
 use Rattle.c_decl_parser.proofs.declarators.further_members.Given as goal
 
 -- the rest of the reading gives what the whole gives

@@ -1,7 +1,8 @@
-use Rattle.std.proofs.Common.{◌+◌, ◌-◌, length, map, None, Some, sym, ap, ◌∙◌, arith}
-use Rattle.tm_trees.specs.DeclarationTrees.{optional_tree, length_tree}
-use Rattle.c_decl_parser.specs.Reading.{seen}
-use Rattle.c_decl_parser.specs.DeclarationDescent.{lengths_from}
+use Rattle.std.proofs.Common.{◌+◌, ◌-◌, List, length, map, None, Some, sym, ap, ◌∙◌, arith}
+use Rattle.tm_trees.specs.DeclarationTrees.{LengthTree, optional_tree, length_tree}
+use Rattle.c_decl_parser.specs.reading.Parts.{seen}
+use Rattle.c_decl_parser.specs.reading.DeclarationDescent.{lengths_from}
+use Rattle.c_decl_parser.proofs.RepetitionSteps.{pushed_tree}
 use Rattle.c_decl_parser.proofs.DeclarationSteps.{lengths_stop, lengths_done, lengths_go}
 use Rattle.c_decl_parser.proofs.declarators.lengths.Goals as goal
 
@@ -19,7 +20,7 @@ pub lengths-preserved : goal.lengths-preserved
 lengths-preserved c =
     let one = sym c.in_ok-at-in-Some.ensures ∙ ap (seen optional_tree) c.in-Found.is in
     let rest = length c.args.tokens.now - (c.lengths._i + 1) in
-    ap (λ found. lengths_from c.args.types.now c.args.allowed rest found c.in-Found.next.now) c.in_ok-push_length-in-Found.ensures
+    ap (λ (found : List LengthTree). lengths_from c.args.types.now c.args.allowed rest found c.in-Found.next.now) (pushed_tree length_tree _ _ _ c.in_ok-push-in-Found.ensures)
     ∙ sym (lengths_go c.args.types.now c.args.allowed (length c.args.tokens.now - c.lengths._i) rest (map length_tree c.lengths.found.items) c.lengths.rest.now c.in-Some.place c.in-Some.inside.now (Some (optional_tree c.in-Found.value, c.in-Found.next.now)) (omega arith) (sym c.in-Some.ensures) one)
     ∙ c.lengths.invariant
 

@@ -1,6 +1,6 @@
 use Rattle.std.proofs.Common.{◌≡◌, ◌-◌, [], map}
 use Rattle.tm_trees.specs.DeclarationTrees.{length_tree}
-use Rattle.c_decl_parser.specs.DeclarationDescent.{lengths_from}
+use Rattle.c_decl_parser.specs.reading.DeclarationDescent.{lengths_from}
 use Rattle.c_decl_parser.proofs.declarators.lengths.Given as goal
 
 -- the rest of the reading gives what the whole gives

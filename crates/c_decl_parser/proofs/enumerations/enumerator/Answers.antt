@@ -1,6 +1,6 @@
 use Rattle.std.proofs.Common.{◌-◌, None, Some, sym, ap, ◌∙◌, arith}
 use Rattle.tm_trees.specs.DeclarationTrees.{optional_tree}
-use Rattle.c_decl_parser.specs.Reading.{seen}
+use Rattle.c_decl_parser.specs.reading.Parts.{seen}
 use Rattle.c_decl_parser.proofs.SpecifierSteps.{enumerator_is}
 use Rattle.c_decl_parser.proofs.enumerations.enumerator.Goals as goal
 

@@ -1,9 +1,9 @@
-use Rattle.std.proofs.Common.{◌+◌, ◌-◌, length, map, sym, ap, ◌∙◌, arith}
-use Rattle.tm_trees.specs.DeclarationTrees.{enumerator_tree}
-use Rattle.c_decl_parser.specs.Reading.{seen}
-use Rattle.c_decl_parser.specs.Repetitions.{braced}
-use Rattle.c_decl_parser.specs.DeclarationDescent.{enumerator}
-use Rattle.c_decl_parser.proofs.RepetitionSteps.{braced_done, braced_end, braced_unparted, braced_last, braced_stuck, braced_next}
+use Rattle.std.proofs.Common.{◌+◌, ◌-◌, List, length, map, sym, ap, ◌∙◌, arith}
+use Rattle.tm_trees.specs.DeclarationTrees.{EnumeratorTree, enumerator_tree}
+use Rattle.c_decl_parser.specs.reading.Parts.{seen}
+use Rattle.c_decl_parser.specs.reading.Repetitions.{braced}
+use Rattle.c_decl_parser.specs.reading.DeclarationDescent.{enumerator}
+use Rattle.c_decl_parser.proofs.RepetitionSteps.{pushed_tree, braced_done, braced_end, braced_unparted, braced_last, braced_stuck, braced_next}
 use Rattle.c_decl_parser.proofs.enumerations.further_enumerators.Goals as goal
 
 pub returns-in-Some : goal.returns-in-Some
@@ -26,7 +26,7 @@ returns-in-Stuck c =
 pub constants-preserved : goal.constants-preserved
 constants-preserved c =
     let one = sym c.in_ok-at-in-None-after-2.ensures ∙ ap (seen enumerator_tree) c.in-Found.is in
-    ap (λ found. braced (enumerator c.args.types.now c.args.allowed) (length c.args.tokens.now - (c.constants._i + 1)) found c.in-Found.next.now) c.in_ok-push_enumerator-in-Found.ensures
+    ap (λ (found : List EnumeratorTree). braced (enumerator c.args.types.now c.args.allowed) (length c.args.tokens.now - (c.constants._i + 1)) found c.in-Found.next.now) (pushed_tree enumerator_tree _ _ _ c.in_ok-push-in-Found.ensures)
     ∙ sym (braced_next (enumerator c.args.types.now c.args.allowed) (length c.args.tokens.now - c.constants._i) (length c.args.tokens.now - (c.constants._i + 1)) (map enumerator_tree c.constants.found.items) c.constants.rest.now c.in-Some-after.parted.now (enumerator_tree c.in-Found.constant) c.in-Found.next.now (omega arith) (sym c.in-None.ensures) (sym c.in-Some-after.ensures) (sym c.in-None-after-2.ensures) one) ∙ c.constants.invariant
 
 pub returns : goal.returns

@@ -1,7 +1,7 @@
 use Rattle.std.proofs.Common.{◌≡◌, ◌-◌, [], ◌∷◌, map}
 use Rattle.tm_trees.specs.DeclarationTrees.{enumerator_tree}
-use Rattle.c_decl_parser.specs.Repetitions.{braced}
-use Rattle.c_decl_parser.specs.DeclarationDescent.{enumerator}
+use Rattle.c_decl_parser.specs.reading.Repetitions.{braced}
+use Rattle.c_decl_parser.specs.reading.DeclarationDescent.{enumerator}
 use Rattle.c_decl_parser.proofs.enumerations.further_enumerators.Given as goal
 
 -- the rest of the reading gives what the whole gives

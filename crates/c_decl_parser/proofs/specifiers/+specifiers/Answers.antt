@@ -1,11 +1,11 @@
 use Rattle.std.proofs.Common.{◌≡◌, ◌+◌, ◌-◌, [], ◌∷◌, ◌++◌, length, map, List, Option, None, Some, IfOk, sym, ap, ◌∙◌, subst, arith}
 use Rattle.tm_terms.specs.declared.tokens.Token.{Token}
 use Rattle.tm_trees.specs.DeclarationTrees.{SpecifierTree, SpecifierTrees, DeclaratorTree, specifier_tree, member_tree}
-use Rattle.c_decl_parser.specs.Reading.{seen}
-use Rattle.c_decl_parser.specs.Openings.{seen_begun}
-use Rattle.c_decl_parser.specs.Repetitions.{until_brace}
-use Rattle.c_decl_parser.specs.DeclarationDescent.{specifiers_from, body, body_by, member}
-use Rattle.c_decl_parser.proofs.RepetitionSteps.{until_brace_done, until_brace_end, until_brace_stuck, until_brace_next}
+use Rattle.c_decl_parser.specs.reading.Parts.{seen}
+use Rattle.c_decl_parser.specs.reading.Openings.{seen_begun}
+use Rattle.c_decl_parser.specs.reading.Repetitions.{until_brace}
+use Rattle.c_decl_parser.specs.reading.DeclarationDescent.{specifiers_from, body, body_by, member}
+use Rattle.c_decl_parser.proofs.RepetitionSteps.{pushed_tree, until_brace_done, until_brace_end, until_brace_stuck, until_brace_next}
 use Rattle.c_decl_parser.proofs.SpecifierSteps.{specifiers_stop, specifiers_done, specifiers_broken, specifiers_next, specifiers_is, body_is, member_is}
 use Rattle.c_decl_parser.proofs.specifiers.+specifiers.Goals as goal
 
@@ -23,7 +23,7 @@ pub all_specifiers-specifiers-preserved : goal.all_specifiers-specifiers-preserv
 all_specifiers-specifiers-preserved t c =
     let one = sym c.in_ok-specifier.ensures ∙ ap seen_begun c.in-Whole.is in
     let left = length c.args.tokens.now - (c.specifiers._i + 1) in
-    ap (λ found. specifiers_from c.args.types.now c.args.allowed (body c.args.types.now c.args.allowed) left c.sees_type-still_seen.result found c.in-Whole.next.now) c.in_ok-push_specifier-in-Whole.ensures
+    ap (λ (found : List SpecifierTree). specifiers_from c.args.types.now c.args.allowed (body c.args.types.now c.args.allowed) left c.sees_type-still_seen.result found c.in-Whole.next.now) (pushed_tree specifier_tree _ _ _ c.in_ok-push-in-Whole.ensures)
     ∙ ap (λ seen. specifiers_from c.args.types.now c.args.allowed (body c.args.types.now c.args.allowed) left seen (map specifier_tree c.specifiers.found.items ++ specifier_tree c.in-Whole.specifier ∷ []) c.in-Whole.next.now) c.sees_type-still_seen.ensures
     ∙ sym (specifiers_next c.args.types.now c.args.allowed (body c.args.types.now c.args.allowed) (length c.args.tokens.now - c.specifiers._i) (length c.args.tokens.now - (c.specifiers._i + 1)) c.specifiers.type_seen (map specifier_tree c.specifiers.found.items) c.specifiers.rest.now (specifier_tree c.in-Whole.specifier) c.in-Whole.next.now (omega arith) one) ∙ c.specifiers.invariant
 
@@ -61,7 +61,7 @@ further_members-returns-in-Stuck t c =
 pub further_members-members-preserved : goal.further_members-members-preserved
 further_members-members-preserved t c =
     let one = sym c.in_ok-at-in-None.ensures ∙ ap (seen member_tree) c.in-Found.is in
-    ap (λ found. until_brace (member c.args.types.now c.args.allowed) (length c.args.tokens.now - (c.members._i + 1)) found c.in-Found.next.now) c.in_ok-push_member-in-Found.ensures
+    ap (λ (found : List (SpecifierTrees × List DeclaratorTree)). until_brace (member c.args.types.now c.args.allowed) (length c.args.tokens.now - (c.members._i + 1)) found c.in-Found.next.now) (pushed_tree member_tree _ _ _ c.in_ok-push-in-Found.ensures)
     ∙ sym (until_brace_next (member c.args.types.now c.args.allowed) (length c.args.tokens.now - c.members._i) (length c.args.tokens.now - (c.members._i + 1)) (map member_tree c.members.found.items) c.members.rest.now (member_tree c.in-Found.member) c.in-Found.next.now (omega arith) (sym c.in-None.ensures) one) ∙ c.members.invariant
 
 pub further_members-returns : goal.further_members-returns

@@ -1,7 +1,7 @@
 use Rattle.std.proofs.Common.{◌≡◌, ◌+◌, ◌-◌, ◌*◌, false, [], ◌∷◌, map}
 use Rattle.tm_trees.specs.DeclarationTrees.{specifier_tree, member_tree}
-use Rattle.c_decl_parser.specs.Repetitions.{until_brace}
-use Rattle.c_decl_parser.specs.DeclarationDescent.{specifiers_from, body, member}
+use Rattle.c_decl_parser.specs.reading.Repetitions.{until_brace}
+use Rattle.c_decl_parser.specs.reading.DeclarationDescent.{specifiers_from, body, member}
 use Rattle.c_decl_parser.proofs.specifiers.+specifiers.Given as goal
 
 abbrev pub decreases-specifiers : goal.decreases-specifiers

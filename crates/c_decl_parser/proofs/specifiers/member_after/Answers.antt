@@ -2,7 +2,7 @@ use Rattle.std.proofs.Common.{◌≡◌, List, Option, map, IfOk, sym, ap, ◌�
 use Rattle.tm_terms.specs.declared.tokens.Token.{Token}
 use Rattle.tm_terms.specs.ExprSpelling.{is_type_name_list}
 use Rattle.tm_trees.specs.DeclarationTrees.{SpecifierTrees, DeclaratorTree, specifier_tree, member_tree, count_as, as_specifiers}
-use Rattle.c_decl_parser.specs.Reading.{seen}
+use Rattle.c_decl_parser.specs.reading.Parts.{seen}
 use Rattle.c_decl_parser.proofs.SpecifierSteps.{member_named, member_unnamed}
 use Rattle.c_decl_parser.proofs.specifiers.member_after.Goals as goal
 

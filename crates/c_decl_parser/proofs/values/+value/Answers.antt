@@ -1,10 +1,10 @@
 use Rattle.tm_terms.specs.declared.tokens.Token.{Token}
 use Rattle.std.proofs.Common.{◌≡◌, ◌+◌, ◌-◌, List, Option, length, map, IfOk, subst, sym, ap, ◌∙◌, arith}
 use Rattle.tm_trees.specs.DeclarationTrees.{ValueTree, value_tree}
-use Rattle.c_decl_parser.specs.Reading.{seen}
-use Rattle.c_decl_parser.specs.Repetitions.{braced}
-use Rattle.c_decl_parser.specs.DeclarationDescent.{value}
-use Rattle.c_decl_parser.proofs.RepetitionSteps.{braced_done, braced_end, braced_unparted, braced_last, braced_stuck, braced_next}
+use Rattle.c_decl_parser.specs.reading.Parts.{seen}
+use Rattle.c_decl_parser.specs.reading.Repetitions.{braced}
+use Rattle.c_decl_parser.specs.reading.DeclarationDescent.{value}
+use Rattle.c_decl_parser.proofs.RepetitionSteps.{pushed_tree, braced_done, braced_end, braced_unparted, braced_last, braced_stuck, braced_next}
 use Rattle.c_decl_parser.proofs.DeclarationSteps.{value_expression, value_list}
 use Rattle.c_decl_parser.proofs.values.+value.Goals as goal
 
@@ -28,7 +28,7 @@ further_values-returns-in-Stuck t c =
 pub further_values-values-preserved : goal.further_values-values-preserved
 further_values-values-preserved t c =
     let one = sym c.in_ok-at-in-None-after-2.ensures ∙ ap (seen value_tree) c.in-Found.is in
-    ap (λ found. braced (value c.args.types.now c.args.allowed) (length c.args.tokens.now - (c.values._i + 1)) found c.in-Found.next.now) c.in_ok-push_value-in-Found.ensures
+    ap (λ (found : List ValueTree). braced (value c.args.types.now c.args.allowed) (length c.args.tokens.now - (c.values._i + 1)) found c.in-Found.next.now) (pushed_tree value_tree _ _ _ c.in_ok-push-in-Found.ensures)
     ∙ sym (braced_next (value c.args.types.now c.args.allowed) (length c.args.tokens.now - c.values._i) (length c.args.tokens.now - (c.values._i + 1)) (map value_tree c.values.found.items) c.values.rest.now c.in-Some-after.parted.now (value_tree c.in-Found.value) c.in-Found.next.now (omega arith) (sym c.in-None.ensures) (sym c.in-Some-after.ensures) (sym c.in-None-after-2.ensures) one) ∙ c.values.invariant
 
 pub further_values-returns : goal.further_values-returns

@@ -1,7 +1,7 @@
 use Rattle.std.proofs.Common.{◌≡◌, ◌+◌, ◌-◌, ◌*◌, [], ◌∷◌, map}
 use Rattle.tm_trees.specs.DeclarationTrees.{value_tree}
-use Rattle.c_decl_parser.specs.Repetitions.{braced}
-use Rattle.c_decl_parser.specs.DeclarationDescent.{value}
+use Rattle.c_decl_parser.specs.reading.Repetitions.{braced}
+use Rattle.c_decl_parser.specs.reading.DeclarationDescent.{value}
 use Rattle.c_decl_parser.proofs.values.+value.Given as goal
 
 abbrev pub decreases-value : goal.decreases-value

@@ -1,49 +1,50 @@
-use Rattle.std.proofs.Common.{◌≡◌, ◌+◌, ◌-◌, List, length, Option, Some, None, IfOk, IfSome, ◌≤◌, sym, ap, ◌∙◌, subst, arith}
+use Rattle.std.proofs.Common.{◌≡◌, ◌+◌, ◌-◌, List, length, Option, Some, None, IfOk, ◌≤◌, sym, ap, ◌∙◌, subst, arith}
 use Rattle.tm_terms.specs.declared.tokens.Token.{Token}
 use Rattle.tm_terms.specs.ExprTrees.{Tree, tree_of, as_arguments}
 use Rattle.c_expr_parser.specs.declared.marks.Mark.TheVariants as Marks
 use Rattle.c_expr_parser.specs.declared.found.Found.{Found}
 use Rattle.c_expr_parser.specs.declared.found.Stepped.{Stepped}
-use Rattle.c_expr_parser.specs.Reading.{after}
-use Rattle.c_expr_parser.specs.Founds.{pair_of, seen_found, IsStep, IsLow}
-use Rattle.c_expr_parser.specs.Descent.{more_by, reads, continued, step}
+use Rattle.c_expr_parser.specs.declared.found.Tried.{Tried}
+use Rattle.c_expr_parser.specs.reading.Parts.{after}
+use Rattle.c_expr_parser.specs.reading.Founds.{pair_of, seen_found, IfFound, IsStep, IsLow}
+use Rattle.c_expr_parser.specs.reading.Descent.{more_by, reads, continued, step}
 use Rattle.c_expr_parser.proofs.DescentSteps.{pushed, pushed_height, arguments_none, arguments_done, arguments_comma, arguments_closed, member_is, postfix_is, steps_stop, steps_done, steps_next, reads_some}
 use Rattle.c_expr_parser.proofs.descents.+parse.Goals as goal
 
-pub arguments_from-returns-in-None-clause-value : goal.arguments_from-returns-in-None-clause-value
-arguments_from-returns-in-None-clause-value t c =
+pub arguments_from-returns-in-Stuck-clause-value : goal.arguments_from-returns-in-Stuck-clause-value
+arguments_from-returns-in-Stuck-clause-value t c =
     let read = reads c.args.types.now c.args.allowed in
-    let nothing = ap (λ k. read k c.items.rest.now) (sym c.rank.ensures) ∙ sym c.in_ok-read.ensures.value ∙ ap seen_found c.in-None.is in
+    let nothing = ap (λ k. read k c.items.rest.now) (sym c.rank.ensures) ∙ sym c.in_ok-at.ensures.value ∙ ap seen_found c.in-Stuck.is in
     sym (arguments_none read (length c.args.tokens.now - c.items._i) (as_arguments c.items.items.items) c.items.rest.now nothing) ∙ c.items.invariant.same
 
 pub arguments_from-closed-requires : goal.arguments_from-closed-requires
 arguments_from-closed-requires t c =
-    omega (arith, pushed_height c.items.items.items c.push_expr.new.items.items c.in-Some.argument.expr.value c.in_ok-push_expr-in-Some.ensures, c.in-Some.argument.counted, c.items.invariant.counted)
+    omega (arith, pushed_height c.items.items.items c.push_expr.new.items.items c.in-Found.argument.expr.value c.in_ok-push_expr-in-Found.ensures, c.in-Found.argument.counted, c.items.invariant.counted)
 
-pub arguments_from-returns-in-None-after-clause-value : goal.arguments_from-returns-in-None-after-clause-value
-arguments_from-returns-in-None-after-clause-value t c =
+pub arguments_from-returns-in-None-clause-value : goal.arguments_from-returns-in-None-clause-value
+arguments_from-returns-in-None-clause-value t c =
     let read = reads c.args.types.now c.args.allowed in
-    let rest = c.in-Some.argument.rest.now in
-    let one = ap (λ k. read k c.items.rest.now) (sym c.rank.ensures) ∙ sym c.in_ok-read.ensures.value ∙ ap seen_found c.in-Some.is in
+    let rest = c.in-Found.argument.rest.now in
+    let one = ap (λ k. read k c.items.rest.now) (sym c.rank.ensures) ∙ sym c.in_ok-at.ensures.value ∙ ap seen_found c.in-Found.is in
     c.closed.ensures.value
-    ∙ ap (λ o. more_by None o (as_arguments c.push_expr.new.items.items) (λ next. None)) c.after-in-None-after.ensures
-    ∙ ap (λ a. more_by None (after Marks.CloseParenthesis rest) a (λ next. None)) (pushed c.items.items.items c.push_expr.new.items.items c.in-Some.argument.expr.value c.in_ok-push_expr-in-Some.ensures)
-    ∙ sym (arguments_closed read (length c.args.tokens.now - c.items._i) (length c.args.tokens.now - (c.items._i + 1)) (as_arguments c.items.items.items) c.items.rest.now (tree_of c.in-Some.argument.expr.value) rest (omega arith) one (sym c.in-None-after.ensures))
+    ∙ ap (λ o. more_by None o (as_arguments c.push_expr.new.items.items) (λ next. None)) c.after-in-None.ensures
+    ∙ ap (λ a. more_by None (after Marks.CloseParenthesis rest) a (λ next. None)) (pushed c.items.items.items c.push_expr.new.items.items c.in-Found.argument.expr.value c.in_ok-push_expr-in-Found.ensures)
+    ∙ sym (arguments_closed read (length c.args.tokens.now - c.items._i) (length c.args.tokens.now - (c.items._i + 1)) (as_arguments c.items.items.items) c.items.rest.now (tree_of c.in-Found.argument.expr.value) rest (omega arith) one (sym c.in-None.ensures))
     ∙ c.items.invariant.same
 
 pub arguments_from-items-preserved : goal.arguments_from-items-preserved
 arguments_from-items-preserved t c =
     let read = reads c.args.types.now c.args.allowed in
-    let rest = c.in-Some.argument.rest.now in
-    let one = ap (λ k. read k c.items.rest.now) (sym c.rank.ensures) ∙ sym c.in_ok-read.ensures.value ∙ ap seen_found c.in-Some.is in
-    let push = pushed c.items.items.items c.push_expr.new.items.items c.in-Some.argument.expr.value c.in_ok-push_expr-in-Some.ensures in
-    let next = arguments_comma read (length c.args.tokens.now - c.items._i) (length c.args.tokens.now - (c.items._i + 1)) (as_arguments c.items.items.items) c.items.rest.now (tree_of c.in-Some.argument.expr.value) rest c.in-Some-after.following.now (omega arith) one (sym c.in-Some-after.ensures) in
+    let rest = c.in-Found.argument.rest.now in
+    let one = ap (λ k. read k c.items.rest.now) (sym c.rank.ensures) ∙ sym c.in_ok-at.ensures.value ∙ ap seen_found c.in-Found.is in
+    let push = pushed c.items.items.items c.push_expr.new.items.items c.in-Found.argument.expr.value c.in_ok-push_expr-in-Found.ensures in
+    let next = arguments_comma read (length c.args.tokens.now - c.items._i) (length c.args.tokens.now - (c.items._i + 1)) (as_arguments c.items.items.items) c.items.rest.now (tree_of c.in-Found.argument.expr.value) rest c.in-Some.following.now (omega arith) one (sym c.in-Some.ensures) in
     let before = c.items.invariant.same in
     record {
       same = cc;
-      counted = omega (arith, pushed_height c.items.items.items c.push_expr.new.items.items c.in-Some.argument.expr.value c.in_ok-push_expr-in-Some.ensures, c.in-Some.argument.counted, c.items.invariant.counted);
+      counted = omega (arith, pushed_height c.items.items.items c.push_expr.new.items.items c.in-Found.argument.expr.value c.in_ok-push_expr-in-Found.ensures, c.in-Found.argument.counted, c.items.invariant.counted);
       low =
-          let low = subst (λ (o : Option Found). IfSome o (λ f. f.height ≤ c.args.allowed)) c.in-Some.is c.in_ok-read.ensures.low in
+          let low = subst (λ (o : Tried Found). IfFound o (λ f. f.height ≤ c.args.allowed)) c.in-Found.is c.in_ok-at.ensures.low in
           omega (arith, low, c.items.invariant.low);
     }
 
@@ -66,10 +67,10 @@ continued-returns-in_ok-postfix-in-Postfix-clause-value t c =
     ∙ sym (postfix_is read c.in-Postfix.operator left c.args.place c.args.tokens.now)
     ∙ ap (λ o. continued read o left c.args.place c.args.tokens.now) (sym c.in-Postfix.is)
 
-pub read-returns-in-Some-clause-value : goal.read-returns-in-Some-clause-value
-read-returns-in-Some-clause-value t c =
-    let one = sym c.in_ok-form.ensures.value ∙ ap seen_found c.in-Some.is in
-    let e = reads_some c.args.types.now c.args.allowed (c.args.allowed - 1) c.args.at c.args.tokens.now (tree_of c.in-Some.first.expr.value) c.in-Some.first.rest.now (omega arith) one in
+pub read-returns-in-Found-clause-value : goal.read-returns-in-Found-clause-value
+read-returns-in-Found-clause-value t c =
+    let one = sym c.in_ok-at.ensures.value ∙ ap seen_found c.in-Found.is in
+    let e = reads_some c.args.types.now c.args.allowed (c.args.allowed - 1) c.args.at c.args.tokens.now (tree_of c.in-Found.first.expr.value) c.in-Found.first.rest.now (omega arith) one in
     subst (λ (w : Option (Tree × List Token)). IfOk c.from_form.result (λ found. seen_found found ≡ w)) (sym e) c.from_form.ensures.value
 
 pub steps-returns-in-Stop-clause-value : goal.steps-returns-in-Stop-clause-value

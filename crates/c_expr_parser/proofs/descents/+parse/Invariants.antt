@@ -1,6 +1,6 @@
 use Rattle.std.proofs.Common.{◌≡◌, ◌≤◌, ◌+◌, ◌-◌, ◌*◌, suc}
 use Rattle.tm_terms.specs.ExprTrees.{tree_of, no_arguments, as_arguments, arguments_height}
-use Rattle.c_expr_parser.specs.Descent.{arguments_from, steps, reads}
+use Rattle.c_expr_parser.specs.reading.Descent.{arguments_from, steps, reads}
 use Rattle.c_expr_parser.proofs.descents.+parse.Given as goal
 
 abbrev pub decreases-arguments : goal.decreases-arguments

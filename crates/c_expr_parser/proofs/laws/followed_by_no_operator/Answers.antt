@@ -1,5 +1,5 @@
 use Rattle.c_expr_parser.proofs.CompleteForms.{exactly}
-use Rattle.c_expr_parser.specs.Descent.{reads}
+use Rattle.c_expr_parser.specs.reading.Descent.{reads}
 use Rattle.c_expr_parser.proofs.SoundSteps.{reads_sound}
 use Rattle.c_expr_parser.proofs.CompleteSteps.{reads_complete, reads_longest}
 use Rattle.c_expr_parser.proofs.laws.followed_by_no_operator.Goals as goal

@@ -3,7 +3,7 @@ use Rattle.tm_terms.specs.declared.tokens.Name.{Name}
 use Rattle.tm_terms.specs.declared.tokens.Token.{Token}
 use Rattle.tm_terms.specs.ExprTrees.{Tree, height}
 use Rattle.tm_terms.specs.ExprSpelling.{IsFront}
-use Rattle.c_expr_parser.specs.Descent.{reads}
+use Rattle.c_expr_parser.specs.reading.Descent.{reads}
 use Rattle.c_expr_parser.proofs.Tokens.{from_some}
 use Rattle.c_expr_parser.proofs.CompleteForms.{Outcome}
 use Rattle.c_expr_parser.proofs.CompleteSteps.{reads_complete}

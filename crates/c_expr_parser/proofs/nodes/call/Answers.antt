@@ -1,7 +1,7 @@
 use Rattle.std.proofs.Common.{◌≡◌, ◌+◌, suc, IfOk, sym, ap, ◌∙◌, subst, arith}
 use Rattle.tm_terms.specs.ExprTrees.{Tree, height}
 use Rattle.tm_terms.proofs.ExprCalls.{tree_of-call}
-use Rattle.c_expr_parser.specs.Founds.{pair_of}
+use Rattle.c_expr_parser.specs.reading.Founds.{pair_of}
 use Rattle.c_expr_parser.proofs.nodes.call.Goals as goal
 
 pub node-requires : goal.node-requires

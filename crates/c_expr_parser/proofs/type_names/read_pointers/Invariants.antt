@@ -1,5 +1,5 @@
 use Rattle.std.proofs.Common.{◌≡◌, ◌-◌, false, []}
-use Rattle.c_expr_parser.specs.Reading.{pointers_from}
+use Rattle.c_expr_parser.specs.reading.Parts.{pointers_from}
 use Rattle.c_expr_parser.proofs.type_names.read_pointers.Given as goal
 
 -- the rest of the reading gives what the whole gives

@@ -1,7 +1,7 @@
 use Rattle.std.proofs.Common.{[], ◌∷◌, arith}
 use Rattle.std.proofs.lemmas.Grind.{common_steps}
 use Rattle.tm_terms.specs.Spelling.{token_of}
-use Rattle.c_lexer.specs.Kept.{most}
+use Rattle.c_lexer.specs.reading.Kept.{most}
 use Rattle.c_lexer.proofs.KeptLemmas.{kept_with, kept_full}
 use Rattle.c_lexer.proofs.readings.keep.Goals as goal
 

@@ -1,5 +1,5 @@
 use Rattle.std.proofs.Common.{◌+◌, ◌-◌, ◌≤◌, length, vec_len}
-use Rattle.c_lexer.specs.Kept.{Stands, most}
+use Rattle.c_lexer.specs.reading.Kept.{Stands, most}
 use Rattle.c_lexer.proofs.readings.read.Given as goal
 
 abbrev pub invariant-loop-at : goal.invariant-loop-at

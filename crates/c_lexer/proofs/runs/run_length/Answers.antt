@@ -1,6 +1,6 @@
 use Rattle.std.proofs.Common.{length, sym, arith}
 use Rattle.std.proofs.lemmas.List.Sums.{prefix_len_is}
-use Rattle.c_lexer.specs.Runs.{belongs}
+use Rattle.c_lexer.specs.reading.Runs.{belongs}
 use Rattle.c_lexer.proofs.runs.run_length.Goals as goal
 
 pub returns-then-not-belongs-clause-value : goal.returns-then-not-belongs-clause-value

@@ -1,5 +1,5 @@
 use Rattle.std.proofs.Common.{◌≡◌, ℕ, ◌<◌, get_or, true}
-use Rattle.c_lexer.specs.Runs.{belongs}
+use Rattle.c_lexer.specs.reading.Runs.{belongs}
 use Rattle.c_lexer.proofs.runs.run_length.Given as goal
 
 abbrev pub invariant-loop-i : goal.invariant-loop-i

@@ -1,10 +1,10 @@
 use Rattle.std.proofs.Common.{◌≡◌, ◌+◌, ◌-◌, List, length, map, sym, ap, ◌∙◌, arith}
 use Rattle.tm_trees.specs.declared.files.Item.{Item}
 use Rattle.tm_trees.specs.FileTrees.{ItemTree, item_tree}
-use Rattle.c_decl_parser.specs.Reading.{seen}
-use Rattle.c_parser.specs.FileDescent.{items_from}
+use Rattle.c_decl_parser.specs.reading.Parts.{seen}
+use Rattle.c_parser.specs.reading.FileDescent.{items_from}
+use Rattle.c_decl_parser.proofs.RepetitionSteps.{pushed_tree}
 use Rattle.c_parser.proofs.FileSteps.{items_end, items_done, items_stuck, items_next}
-use Rattle.c_parser.proofs.StatementSteps.{pushed_tree}
 use Rattle.c_parser.proofs.files.file.Goals as goal
 
 pub returns-then-is_end : goal.returns-then-is_end

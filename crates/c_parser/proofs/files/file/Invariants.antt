@@ -1,6 +1,6 @@
 use Rattle.std.proofs.Common.{◌≡◌, ◌-◌, [], map}
 use Rattle.tm_trees.specs.FileTrees.{item_tree}
-use Rattle.c_parser.specs.FileDescent.{items_from}
+use Rattle.c_parser.specs.reading.FileDescent.{items_from}
 use Rattle.c_parser.proofs.files.file.Given as goal
 
 -- the rest of the reading gives what the whole gives

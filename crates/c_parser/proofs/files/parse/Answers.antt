@@ -2,7 +2,7 @@ use Rattle.std.proofs.Common.{◌≡◌, Err, None, Some, IfSome, sym, ap, ◌�
 use Rattle.tm_terms.specs.declared.refusals.Fail.{Fail}
 use Rattle.tm_trees.specs.FileTrees.{file_tree}
 use Rattle.tm_trees.specs.Parsing.{Parses, too_deep, spells, spells_none, answer_of}
-use Rattle.c_parser.specs.Founds.{whole}
+use Rattle.c_parser.specs.reading.Founds.{whole}
 use Rattle.c_parser.proofs.FileSound.{file_sound}
 use Rattle.c_parser.proofs.FileComplete.{file_complete}
 use Rattle.c_parser.proofs.FileSteps.{file_nonempty}

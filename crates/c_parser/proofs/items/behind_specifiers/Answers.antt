@@ -1,6 +1,6 @@
 use Rattle.std.proofs.Common.{◌≡◌, map, refl, sym, ap, ◌∙◌}
 use Rattle.c_expr_parser.specs.declared.marks.Mark.TheVariants as Marks
-use Rattle.c_expr_parser.specs.Reading.{after}
+use Rattle.c_expr_parser.specs.reading.Parts.{after}
 use Rattle.tm_trees.specs.DeclarationTrees.{specifier_tree, count_as, as_specifiers}
 use Rattle.tm_trees.specs.DeclarationSpelling.{is_file_list}
 use Rattle.c_parser.proofs.FileSteps.{file_list_none, file_list_some}

@@ -1,10 +1,9 @@
 use Rattle.std.proofs.Common.{◌≡◌, ◌+◌, ◌-◌, List, length, map, sym, ap, ◌∙◌, arith}
 use Rattle.tm_trees.specs.FileTrees.{ParameterTree, parameter_tree}
-use Rattle.c_decl_parser.specs.Reading.{seen}
-use Rattle.c_decl_parser.specs.Repetitions.{separated}
-use Rattle.c_parser.specs.FileDescent.{parameter}
-use Rattle.c_decl_parser.proofs.RepetitionSteps.{separated_stop, separated_done, separated_stuck, separated_next}
-use Rattle.c_parser.proofs.StatementSteps.{pushed_tree}
+use Rattle.c_decl_parser.specs.reading.Parts.{seen}
+use Rattle.c_decl_parser.specs.reading.Repetitions.{separated}
+use Rattle.c_parser.specs.reading.FileDescent.{parameter}
+use Rattle.c_decl_parser.proofs.RepetitionSteps.{pushed_tree, separated_stop, separated_done, separated_stuck, separated_next}
 use Rattle.c_parser.proofs.parameters.further_parameters.Goals as goal
 
 pub returns-in-None : goal.returns-in-None

@@ -1,7 +1,7 @@
 use Rattle.std.proofs.Common.{◌≡◌, ◌-◌, [], ◌∷◌, map}
 use Rattle.tm_trees.specs.FileTrees.{parameter_tree}
-use Rattle.c_decl_parser.specs.Repetitions.{separated}
-use Rattle.c_parser.specs.FileDescent.{parameter}
+use Rattle.c_decl_parser.specs.reading.Repetitions.{separated}
+use Rattle.c_parser.specs.reading.FileDescent.{parameter}
 use Rattle.c_parser.proofs.parameters.further_parameters.Given as goal
 
 -- the rest of the reading gives what the whole gives

@@ -1,7 +1,7 @@
 use Rattle.std.proofs.Common.{◌≡◌, ◌-◌, List, Option, IfOk, sym, subst, arith}
 use Rattle.tm_terms.specs.declared.tokens.Token.{Token}
 use Rattle.tm_trees.specs.FileTrees.{ParameterTree, parameter_tree}
-use Rattle.c_decl_parser.specs.Reading.{seen}
+use Rattle.c_decl_parser.specs.reading.Parts.{seen}
 use Rattle.c_parser.proofs.FileSteps.{parameter_none, parameter_some}
 use Rattle.c_parser.proofs.parameters.parameter.Goals as goal
 

@@ -3,7 +3,7 @@ use Rattle.tm_terms.specs.declared.tokens.Token.{Token}
 use Rattle.tm_terms.specs.ExprSpelling.{is_type_name_list}
 use Rattle.tm_trees.specs.DeclarationTrees.{specifier_tree, count_as, as_specifiers}
 use Rattle.tm_trees.specs.FileTrees.{ParameterTree, parameter_tree}
-use Rattle.c_decl_parser.specs.Reading.{seen}
+use Rattle.c_decl_parser.specs.reading.Parts.{seen}
 use Rattle.c_parser.proofs.FileSteps.{parameter_unlisted, parameter_listed}
 use Rattle.c_parser.proofs.parameters.parameter_after.Goals as goal
 

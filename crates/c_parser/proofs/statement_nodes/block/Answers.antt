@@ -1,7 +1,7 @@
 use Rattle.std.proofs.Common.{◌≡◌, IfOk, subst}
 use Rattle.tm_trees.specs.FileTrees.{StatementTree}
 use Rattle.tm_trees.proofs.StatementNodes.{statement_tree-block}
-use Rattle.c_parser.specs.Founds.{boxed_tree}
+use Rattle.c_parser.specs.reading.Founds.{boxed_tree}
 use Rattle.c_parser.proofs.statement_nodes.block.Goals as goal
 
 pub returns : goal.returns

@@ -1,7 +1,7 @@
 use Rattle.std.proofs.Common.{◌≡◌, IfOk, subst}
 use Rattle.tm_trees.specs.FileTrees.{StatementTree}
 use Rattle.tm_trees.proofs.StatementNodes.{statement_tree-switch}
-use Rattle.c_parser.specs.Founds.{boxed_tree}
+use Rattle.c_parser.specs.reading.Founds.{boxed_tree}
 use Rattle.c_parser.proofs.statement_nodes.switch.Goals as goal
 
 pub returns : goal.returns

@@ -1,12 +1,12 @@
 use Rattle.std.proofs.Common.{◌≡◌, ◌+◌, ◌-◌, List, length, Option, None, Some, IfOk, map, sym, ap, ◌∙◌, subst, arith}
 use Rattle.tm_terms.specs.declared.tokens.Token.{Token}
 use Rattle.tm_trees.specs.FileTrees.{StatementTree, PartTree, PartTrees, part_tree, block_tree, CaseTree, case_tree}
-use Rattle.c_decl_parser.specs.Reading.{seen}
-use Rattle.c_decl_parser.specs.Repetitions.{until_brace}
-use Rattle.c_parser.specs.Founds.{boxed_tree}
-use Rattle.c_parser.specs.FileDescent.{part, case_part, statement}
-use Rattle.c_decl_parser.proofs.RepetitionSteps.{until_brace_done, until_brace_end, until_brace_stuck, until_brace_next}
-use Rattle.c_parser.proofs.StatementSteps.{pushed_tree, parts_within, statement_none, statement_some, inside_none, inside_some}
+use Rattle.c_decl_parser.specs.reading.Parts.{seen}
+use Rattle.c_decl_parser.specs.reading.Repetitions.{until_brace}
+use Rattle.c_parser.specs.reading.Founds.{boxed_tree}
+use Rattle.c_parser.specs.reading.FileDescent.{part, case_part, statement}
+use Rattle.c_decl_parser.proofs.RepetitionSteps.{pushed_tree, until_brace_done, until_brace_end, until_brace_stuck, until_brace_next}
+use Rattle.c_parser.proofs.StatementSteps.{parts_within, statement_none, statement_some, inside_none, inside_some}
 use Rattle.c_parser.proofs.statements.+statement.Goals as goal
 
 pub cases-returns-in-Some : goal.cases-returns-in-Some

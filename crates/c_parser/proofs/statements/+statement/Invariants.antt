@@ -1,7 +1,7 @@
 use Rattle.std.proofs.Common.{◌≡◌, ◌+◌, ◌-◌, ◌*◌, [], map}
 use Rattle.tm_trees.specs.FileTrees.{part_tree, case_tree}
-use Rattle.c_decl_parser.specs.Repetitions.{until_brace}
-use Rattle.c_parser.specs.FileDescent.{part, case_part, statement}
+use Rattle.c_decl_parser.specs.reading.Repetitions.{until_brace}
+use Rattle.c_parser.specs.reading.FileDescent.{part, case_part, statement}
 use Rattle.c_parser.proofs.statements.+statement.Given as goal
 
 abbrev pub decreases-block_form : goal.decreases-block_form

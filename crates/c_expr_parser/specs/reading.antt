@@ -1,0 +1,4 @@
+-- What the code computes, as recursive functions on lists of tokens, and how its types are seen as what these give.
+pub mod Descent
+pub mod Founds
+pub mod Parts

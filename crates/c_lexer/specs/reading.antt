@@ -1,0 +1,5 @@
+-- What the code of the lexer keeps beside the definitions of the lexis: no clause of a public call names it.
+pub mod Kept
+pub mod Refused
+pub mod Runs
+pub mod Starts

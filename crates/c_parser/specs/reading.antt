@@ -1,0 +1,3 @@
+-- What the code computes, as recursive functions on lists of tokens, and how its types are seen as what these give.
+pub mod FileDescent
+pub mod Founds
