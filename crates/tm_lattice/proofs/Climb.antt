@@ -3,7 +3,7 @@ use Rattle.std.proofs.Common.{◌≡◌, ℕ, zero, suc, ◌+◌, ◌<◌, ◌�
 use Rattle.std.proofs.lemmas.Bool.{cases_lt}
 use Rattle.tm_lattice.specs.declared.lattices.Lattice as lattice
 use Rattle.tm_lattice.specs.declared.passers.Passer as passer
-use Rattle.tm_lattice.specs.Laws.{IsOrder, IsJoin, IsClosure}
+use Rattle.tm_lattice.specs.LatticeLaws.{IsOrder, IsJoin, IsClosure}
 use Rattle.tm_lattice.specs.Fitting.{IsFitting, IsBottom, IsMonotone}
 use Rattle.tm_lattice.specs.Rounds.{with_passes, up, IsHistory, IsClosed}
 

@@ -7,11 +7,11 @@ use Rattle.std.specs.FinMap as fin
 use Rattle.std.specs.FinMap.{find, put, is_sorted, get, empty, from_sorted, get-from_sorted, get-empty, entries-from_sorted}
 use Rattle.std.proofs.lemmas.List.{get_or_default}
 use Rattle.tm_lattice.specs.declared.lattices.Lattice as lattice
-use Rattle.tm_lattice.specs.Keys.{find-here, find-there}
-use Rattle.tm_lattice.specs.Laws.{IsOrder, IsJoin, IsClosure, IsLeastNothing}
-use Rattle.tm_lattice.specs.Tables.{Table, IsEntry, IsTable, IsBelow, IsTableBelow, joined_value, with_entry, joined_table, rounded_entries, rounded_table}
-use Rattle.tm_lattice.specs.Listed.{IsListed, IsAt, IsGapFor}
-use Rattle.tm_lattice.specs.TableLaws.{same_table, get-insert_here, get-insert_there, joined_at, get-joined_table, is_sorted-rounded, find-rounded, not_nothing, at_joined, at_rounded}
+use Rattle.tm_lattice.specs.laws.Keys.{find-here, find-there}
+use Rattle.tm_lattice.specs.LatticeLaws.{IsOrder, IsJoin, IsClosure, IsLeastNothing}
+use Rattle.tm_lattice.specs.Tables.{Table, IsEntry, IsTable, IsBelow, IsTableBelow, joined_value, joined_at, with_entry, joined_table, rounded_entries, rounded_table}
+use Rattle.tm_lattice.specs.reading.Listed.{IsListed, IsAt, IsGapFor}
+use Rattle.tm_lattice.specs.laws.TableLaws.{same_table, get-insert_here, get-insert_there, get-joined_table, is_sorted-rounded, find-rounded, not_nothing, at_joined, at_rounded}
 use Rattle.tm_lattice.proofs.Merging.{merged, sorted_merged, find_merged}
 use Rattle.tm_lattice.proofs.Search.{find_at, find_gap, set_at, insert_gap, put_sorted, put_inserts}
 

@@ -6,9 +6,10 @@ use Rattle.std.proofs.lemmas.Bool.{cases_eq, cases_order}
 use Rattle.std.proofs.lemmas.Bool.Decides.{nat_tests}
 use Rattle.std.specs.FinMap.{find, is_sorted}
 use Rattle.std.specs.FinMap.Entries.{by_order}
-use Rattle.tm_lattice.specs.Keys.{AllAbove, AllAbove-rest, AllAbove-lower, is_sorted-rest, is_sorted-cons, find-here, find-there, find_below}
-use Rattle.tm_lattice.specs.Listed.{order_of_first}
-use Rattle.tm_lattice.specs.TableLaws.{joined_at, joined_at_none}
+use Rattle.tm_lattice.specs.laws.Keys.{AllAbove, AllAbove-rest, AllAbove-lower, is_sorted-rest, is_sorted-cons, find-here, find-there, find_below}
+use Rattle.tm_lattice.specs.reading.Listed.{order_of_first}
+use Rattle.tm_lattice.specs.Tables.{joined_at}
+use Rattle.tm_lattice.specs.laws.TableLaws.{joined_at_none}
 
 pub cmp_less : (k l : ℕ) → k < l → nat_cmp k l ≡ Less
 cmp_less k l lt = grind (arith, nat_tests)

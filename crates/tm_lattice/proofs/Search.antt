@@ -7,9 +7,11 @@ use Rattle.std.proofs.lemmas.Cmp.{ranked}
 use Rattle.std.proofs.lemmas.Bool.Decides.{nat_tests}
 use Rattle.std.specs.Cmp.{nat_cmp_total}
 use Rattle.std.specs.FinMap as map
-use Rattle.std.specs.FinMap.{find, put, is_sorted, from_sorted, entries-insert, entries-from_sorted, entries_sorted, same_entries_map}
-use Rattle.tm_lattice.specs.Keys.{AllAbove, AllAbove-rest, is_sorted-rest, find-here, find-there, find_below}
-use Rattle.tm_lattice.specs.Listed.{key_at, IsAt, IsGapFor}
+use Rattle.std.specs.FinMap.{find, put, is_sorted, from_sorted, get-from_sorted, entries-insert, entries-from_sorted, entries_sorted, same_entries_map}
+use Rattle.tm_lattice.specs.laws.Keys.{AllAbove, AllAbove-rest, is_sorted-rest, find-here, find-there, find_below}
+use Rattle.std.proofs.lemmas.List.{get_or_default}
+use Rattle.tm_lattice.specs.Tables.{IsPast, IsNext}
+use Rattle.tm_lattice.specs.reading.Listed.{key_at, IsAt, IsGapFor, IsFirstFrom}
 use Rattle.tm_lattice.proofs.Merging.{cmp_less, cmp_equal, cmp_greater}
 
 module _ {V : Type 0} where
@@ -18,12 +20,31 @@ module _ {V : Type 0} where
   AllAbove-at k (e ∷ es) zero d above within = above.0
   AllAbove-at k (e ∷ es) (suc i) d above within = AllAbove-at k es i d above.1 (omega arith)
 
-  keys_rise : (es : List (ℕ × V)) (i j : ℕ) (d : ℕ × V) → T (is_sorted nat_cmp es) → i ≤ j → j < length es → key_at es i d ≤ key_at es j d
+  pub keys_rise : (es : List (ℕ × V)) (i j : ℕ) (d : ℕ × V) → T (is_sorted nat_cmp es) → i ≤ j → j < length es → key_at es i d ≤ key_at es j d
   keys_rise [] i j d sorted le within = absurd (omega arith)
   keys_rise (e ∷ es) zero zero d sorted le within = omega arith
   keys_rise (e ∷ es) zero (suc j) d sorted le within = omega (arith, AllAbove-at e.0 es j d (AllAbove-rest e es sorted) (omega arith))
   keys_rise (e ∷ es) (suc i) zero d sorted le within = absurd (omega arith)
   keys_rise (e ∷ es) (suc i) (suc j) d sorted le within = keys_rise es i j d (is_sorted-rest e es sorted) (omega arith) (omega arith)
+
+  keys_climb : (es : List (ℕ × V)) (i j : ℕ) (d : ℕ × V) → T (is_sorted nat_cmp es) → i < j → j < length es → key_at es i d < key_at es j d
+  keys_climb [] i j d sorted lt within = absurd (omega arith)
+  keys_climb (e ∷ es) i zero d sorted lt within = absurd (omega arith)
+  keys_climb (e ∷ es) zero (suc j) d sorted lt within = AllAbove-at e.0 es j d (AllAbove-rest e es sorted) (omega arith)
+  keys_climb (e ∷ es) (suc i) (suc j) d sorted lt within = keys_climb es i j d (is_sorted-rest e es sorted) (omega arith) (omega arith)
+
+  -- where the key stands, or the gap for it, is the first place from it on
+  pub first_at : (es : List (ℕ × V)) (k at : ℕ) → T (is_sorted nat_cmp es) → IsAt es k at → IsFirstFrom es k at
+  first_at es k at sorted is = record {
+    smaller_before = λ i d lt. omega (arith, keys_climb es i at d sorted lt is.in_range, is.has_key d);
+    at_least_after = λ i d le lt. omega (arith, keys_rise es at i d sorted le lt, is.has_key d);
+  }
+
+  pub first_gap : (es : List (ℕ × V)) (k at : ℕ) → IsGapFor es k at → IsFirstFrom es k at
+  first_gap es k at gap = record {
+    smaller_before = gap.smaller_before;
+    at_least_after = λ i d le lt. omega (arith, gap.greater_after i d le lt);
+  }
 
   -- a binary search by key ends at the key, or at the gap for it
   pub searched : (es : List (ℕ × V)) (k : ℕ) (r : Result ℕ ℕ) → T (is_sorted nat_cmp es) → IsSearchInRange r (length es) → IsBinarySearchResult (λ e. nat_cmp e.0 k) es r
@@ -41,10 +62,10 @@ module _ {V : Type 0} where
         };
       }
 
-  at_rest : (e : ℕ × V) (es : List (ℕ × V)) (k at : ℕ) → IsAt (e ∷ es) k (suc at) → IsAt es k at
+  pub at_rest : (e : ℕ × V) (es : List (ℕ × V)) (k at : ℕ) → IsAt (e ∷ es) k (suc at) → IsAt es k at
   at_rest e es k at is = record { in_range = omega (arith, is.in_range); has_key = is.has_key }
 
-  above_first : (e : ℕ × V) (es : List (ℕ × V)) (k at : ℕ) → T (is_sorted nat_cmp (e ∷ es)) → IsAt (e ∷ es) k (suc at) → e.0 < k
+  pub above_first : (e : ℕ × V) (es : List (ℕ × V)) (k at : ℕ) → T (is_sorted nat_cmp (e ∷ es)) → IsAt (e ∷ es) k (suc at) → e.0 < k
   above_first e es k at sorted is =
       let there = at_rest e es k at is in
       omega (arith, AllAbove-at e.0 es at e (AllAbove-rest e es sorted) there.in_range, there.has_key e)
@@ -97,3 +118,30 @@ module _ {V : Type 0} where
   put_inserts es k v sorted =
       same_entries_map (from_sorted (put nat_cmp k v es)) (map.insert (from_sorted es) k v)
       (entries-from_sorted nat_cmp (put nat_cmp k v es) (put_sorted es k v sorted) ∙ sym (entries-insert nat_cmp_total (from_sorted es) k v ∙ ap (put nat_cmp k v) (entries-from_sorted nat_cmp es sorted)))
+
+  -- no key from this one on
+  pub past_end : (es : List (ℕ × V)) (k at : ℕ) → T (is_sorted nat_cmp es) → IsFirstFrom es k at → length es ≤ at → IsPast (from_sorted es) k
+  past_end es k at sorted first past q le =
+      get-from_sorted nat_cmp es q sorted ∙ find_gap es q (length es) (record {
+        in_range = omega arith;
+        smaller_before = λ i d lt. omega (arith, first.smaller_before i d (omega arith));
+        greater_after = λ i d le' lt. absurd (omega arith);
+      })
+
+  -- the entry at that place is the next one
+  pub next_there : (es : List (ℕ × V)) (k at : ℕ) (e : ℕ × V) → T (is_sorted nat_cmp es) → IsFirstFrom es k at → at < length es → e ≡ get_or es at e → IsNext (from_sorted es) k e.0 e.1
+  next_there es k at e sorted first within read =
+      let here : key_at es at e ≡ e.0 = ap (λ (x : ℕ × V). x.0) (sym read) in
+      record {
+        at_least = omega (arith, first.at_least_after at e (omega arith) within);
+        stands = get-from_sorted nat_cmp es e.0 sorted
+            ∙ find_at es e.0 at e sorted (record { in_range = within; has_key = λ d. ap (λ (x : ℕ × V). x.0) (get_or_default es at d e within ∙ sym read) })
+            ∙ ap (λ (x : ℕ × V). Some x.1) (sym read);
+        none_between = λ q le lt. get-from_sorted nat_cmp es q sorted ∙ find_gap es q at (record {
+          in_range = omega arith;
+          smaller_before = λ i d lt'. omega (arith, first.smaller_before i d lt');
+          greater_after = λ i d le' lt'.
+              let same : key_at es at d ≡ key_at es at e = ap (λ (x : ℕ × V). x.0) (get_or_default es at d e within) in
+              omega (arith, keys_rise es at i d sorted le' lt');
+        });
+      }

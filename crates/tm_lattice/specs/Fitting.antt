@@ -3,7 +3,8 @@ use Rattle.std.specs.Prelude.{◌≡◌, ℕ, ◌<◌}
 use Rattle.tm_lattice.specs.declared.lattices.Lattice as lattice
 
 module _ {S M : Type 0} (store : lattice.Ghosts S M) where
-  -- the stores that fit a program are values, and the bottom, the passes, joins and roundings of stores that fit all fit
+  -- the stores that fit a program are values, and the bottom, the passes, joins and roundings of stores that fit all
+  -- fit
   pub record IsFitting (marks : M) (tasks : ℕ) (bottom : S) (passed : ℕ → S → S) (fits : S → Type 0) : Type 0 where
     pub marks_are : store.is_marks marks
     pub value : (s : S) → fits s → store.is_value s
@@ -19,4 +20,5 @@ module _ {S M : Type 0} (store : lattice.Ghosts S M) where
 
   -- a pass over more gives more
   abbrev pub IsMonotone : ℕ → (ℕ → S → S) → (S → Type 0) → Type 0
-  IsMonotone tasks passed fits = (task : ℕ) (s t : S) → task < tasks → fits s → fits t → store.leq s t → store.leq (passed task s) (passed task t)
+  IsMonotone tasks passed fits = (task : ℕ) (s t : S) → task < tasks → fits s → fits t → store.leq s t
+      → store.leq (passed task s) (passed task t)

@@ -1,8 +1,7 @@
 pub mod Fitting
-pub mod FourNumbers
-pub mod Keys
-pub mod Laws
-pub mod Listed
+pub mod Heights
+pub mod LatticeLaws
 pub mod Rounds
-pub mod TableLaws
 pub mod Tables
+pub mod laws
+pub mod reading

@@ -14,7 +14,8 @@ module _ {P S M : Type 0} (store : lattice.Ghosts S M) (passer : passer.Ghosts P
   up zero = passer.least program
   up (suc k) = store.rounded (passer.marks_of program) (with_passes (passer.task_count program) (up k))
 
-  -- a store after a publication: what stood before, joined with a task's pass over some store that was read, and rounded
+  -- a store after a publication: what stood before, joined with a task's pass over some store that was read, and
+  -- rounded
   pub record IsPublished (before : S) (stores : List S) (after : S) : Type 0 where
     pub task : ℕ
     pub exists : task < passer.task_count program
@@ -22,7 +23,8 @@ module _ {P S M : Type 0} (store : lattice.Ghosts S M) (passer : passer.Ghosts P
     pub stood : Contains stores read
     pub joins : after ≡ store.rounded (passer.marks_of program) (store.joined before (passer.passed program task read))
 
-  -- a history, the newest store first: it begins with the bottom, and each later store is a publication over the one before, from any store so far
+  -- a history, the newest store first: it begins with the bottom, and each later store is a publication over the one
+  -- before, from any store so far
   abbrev pub IsHistory : List S → Type 0
   IsHistory [] = ⊥
   IsHistory (s ∷ []) = s ≡ passer.least program

@@ -1,6 +1,6 @@
 //! Lattices: an order with joins, and rounding by marks in place of widening.
 ghost use Rattle.std.specs.Prelude.{◌≡◌, ◌↔◌, IsTrue, IfOk};
-ghost use Rattle.tm_lattice.specs.Laws.{IsOrder, IsJoin, IsClosure, IsLeastNothing};
+ghost use Rattle.tm_lattice.specs.LatticeLaws.{IsOrder, IsJoin, IsClosure, IsLeastNothing};
 
 use crate::memory::NoMemory;
 use std::alloc::Global;

@@ -53,11 +53,15 @@ pub trait Passer: Sized + Drop + Send + Sync {
         ensures { IfOk result (λ added. added ≡ passed self.now task store.now) };
 
     // Bottom, passes, joins and roundings stay within the stores that fit.
-    ghost fitting: { (program : Self) → is_program program → IsFitting Self.Store.Lattice (marks_of program) (task_count program) (least program) (passed program) (fits program) };
+    ghost fitting: { (program : Self) → is_program program
+        → IsFitting Self.Store.Lattice (marks_of program) (task_count program) (least program) (passed program)
+        (fits program) };
 
     // `bottom` is the least store, and its own rounding.
-    ghost bottom_laws: { (program : Self) → is_program program → IsBottom Self.Store.Lattice (marks_of program) (least program) };
+    ghost bottom_laws: { (program : Self) → is_program program
+        → IsBottom Self.Store.Lattice (marks_of program) (least program) };
 
     // `pass` is monotone in the store.
-    ghost monotone: { (program : Self) → is_program program → IsMonotone Self.Store.Lattice (task_count program) (passed program) (fits program) };
+    ghost monotone: { (program : Self) → is_program program
+        → IsMonotone Self.Store.Lattice (task_count program) (passed program) (fits program) };
 }

@@ -4,7 +4,7 @@ use Rattle.std.specs.List.{insert}
 use Rattle.std.specs.FinMap.{from_sorted}
 use Rattle.std.specs.Ordering.{nat_cmp}
 use Rattle.tm_lattice.specs.Tables.{with_entry}
-use Rattle.tm_lattice.specs.Listed.{IsListed}
+use Rattle.tm_lattice.specs.reading.Listed.{IsListed}
 use Rattle.tm_lattice.proofs.Edits.{set_listed, set_joins, keeps, set_rises, insert_listed, insert_joins, insert_rises}
 use Rattle.tm_lattice.proofs.tables.Keyed.join_at.Goals as goal
 

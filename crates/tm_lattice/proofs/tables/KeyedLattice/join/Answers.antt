@@ -3,7 +3,7 @@ use Rattle.std.specs.declared.cmp.Ordering.TheVariants.{Less, Equal, Greater}
 use Rattle.std.proofs.lemmas.List.{get_or_default}
 use Rattle.std.specs.FinMap.{from_sorted}
 use Rattle.tm_lattice.specs.Tables.{joined_table}
-use Rattle.tm_lattice.specs.Listed.{IsListed, order_of_first}
+use Rattle.tm_lattice.specs.reading.Listed.{IsListed, order_of_first}
 use Rattle.tm_lattice.proofs.Edits.{merged_listed, merged_joins}
 use Rattle.tm_lattice.proofs.Merging.{merged, merged_end, all_pushed, pushed, step_less, step_equal, step_greater, less_within, equal_within, greater_within}
 use Rattle.tm_lattice.proofs.tables.KeyedLattice.join.Given.{Over}

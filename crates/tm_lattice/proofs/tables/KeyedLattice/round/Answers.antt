@@ -2,7 +2,7 @@ use Rattle.std.proofs.Common.{◌≡◌, ◌∙◌, ap, subst, sym}
 use Rattle.std.specs.FinMap.{from_sorted}
 use Rattle.std.proofs.lemmas.List.{take_all}
 use Rattle.tm_lattice.specs.Tables.{rounded_entries, rounded_table}
-use Rattle.tm_lattice.specs.Listed.{IsListed}
+use Rattle.tm_lattice.specs.reading.Listed.{IsListed}
 use Rattle.tm_lattice.proofs.Edits.{rounded_listed, rounded_is}
 use Rattle.tm_lattice.proofs.tables.KeyedLattice.round.Given.{Over}
 use Rattle.tm_lattice.proofs.tables.KeyedLattice.round.Goals as goal

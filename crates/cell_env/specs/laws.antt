@@ -1,0 +1,5 @@
+pub mod Bits
+pub mod CellLaws
+pub mod Codes
+pub mod StateLaws
+pub mod TempLaws

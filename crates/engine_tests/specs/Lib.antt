@@ -1,0 +1,3 @@
+pub mod FourNumbers
+pub mod LoopLaws
+pub mod Loops

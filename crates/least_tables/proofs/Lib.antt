@@ -1,0 +1,5 @@
+pub mod Marking
+pub mod Rechecks
+pub mod SameAdded
+pub mod Starts
+pub mod Steps

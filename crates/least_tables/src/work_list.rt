@@ -1,0 +1,146 @@
+//! The work list: edges are applied until none brings more.
+ghost use Rattle.std.specs.Prelude.{◌≡◌, ◌<◌, ℕ, length, None, IfOk, IsOk, slice_index_or, true};
+ghost use Rattle.least_tables.specs.Solutions.{at, IsStarted, IsClosedTable, IsMetOrPending, IsLeastAbove};
+ghost use Rattle.least_tables.specs.Solutions.{IsLeastSolution};
+ghost use Rattle.least_tables.specs.reading.WorkLists.{IsStart, IsStep, IsIndex};
+
+use crate::equations::Equations;
+use crate::leaving_edges::Leaving;
+use crate::pending::{all_pending, next_pending};
+use crate::raising::bring;
+use std::alloc::Global;
+use tm_lattice::NoMemory;
+
+/// The least solution: a state for each node, None where it is bottom.
+pub fn least_table<E: Equations>(
+    alloc: Global,
+    system: &E,
+) -> Result<Vec<Option<E::State>>, NoMemory>
+    requires { E.is_system system.now }
+    ensures nodes { IfOk result (λ table. length table.items ≡ (E.system_of system.now).node_count) }
+    ensures least { IfOk result (λ table.
+        IsLeastSolution E.State.Lattice (E.fits system.now) (E.system_of system.now) (at table.items)) }
+{
+    let start = started(alloc, system)?;
+    let pending = all_pending(alloc, system.links().len())?;
+    let table = settle(alloc, system, start, pending)?;
+    Ok(table)
+}
+
+/// Applies the pending edges, and those that leave a node which rose, until no edge brings more: a closed table, and
+/// the least one above the given one. The start may be bottom with all edges pending, or an earlier least table over
+/// less with those that now bring more.
+pub fn settle<E: Equations>(
+    alloc: Global,
+    system: &E,
+    mut table: Vec<Option<E::State>>,
+    mut pending: Vec<bool>,
+) -> Result<Vec<Option<E::State>>, NoMemory>
+    requires system { E.is_system system.now }
+    requires nodes { length table.items ≡ (E.system_of system.now).node_count }
+    requires edges { length pending.items ≡ length (E.system_of system.now).links }
+    requires started { IsStarted E.State.Lattice (E.fits system.now) (E.system_of system.now) (at table.items) }
+    requires pending { IsMetOrPending E.State.Lattice (E.fits system.now) (E.system_of system.now)
+        (at table.items) pending.items }
+    ensures nodes { IfOk result (λ last. length last.items ≡ length table.items) }
+    ensures closed { IfOk result (λ last.
+        IsClosedTable E.State.Lattice (E.fits system.now) (E.system_of system.now) (at last.items)) }
+    ensures least { IfOk result (λ last.
+        IsLeastAbove E.State.Lattice (E.fits system.now) (E.system_of system.now) (at table.items) (at last.items)) }
+{
+    let leaving = Leaving::new(alloc, system.links(), system.nodes())?;
+    run(alloc, system, &leaving, &mut table, &mut pending)?;
+    Ok(table)
+}
+
+// The loop.
+fn run<E: Equations>(
+    alloc: Global,
+    system: &E,
+    leaving: &Leaving<'_>,
+    table: &mut [Option<E::State>],
+    pending: &mut [bool],
+) -> Result<(), NoMemory>
+    requires system { E.is_system system.now }
+    requires links { leaving.now.links.now ≡ (E.system_of system.now).links }
+    requires index { IsIndex leaving.now.links.now (E.system_of system.now).node_count
+        leaving.now.last.items leaving.now.before.items }
+    requires nodes { length table.old ≡ (E.system_of system.now).node_count }
+    requires edges { length pending.old ≡ length (E.system_of system.now).links }
+    requires started { IsStarted E.State.Lattice (E.fits system.now) (E.system_of system.now) (at table.old) }
+    requires pending { IsMetOrPending E.State.Lattice (E.fits system.now) (E.system_of system.now)
+        (at table.old) pending.old }
+    ensures closed { IsOk result
+        → IsClosedTable E.State.Lattice (E.fits system.now) (E.system_of system.now) (at table.new) }
+    ensures least { IsOk result
+        → IsLeastAbove E.State.Lattice (E.fits system.now) (E.system_of system.now) (at table.old) (at table.new) }
+{
+    let mut cursor = 0;
+    while let Some(edge) = next_pending(pending, cursor) {
+        cursor = edge;
+        step(alloc, system, leaving, table, pending, edge)?;
+    }
+    Ok(())
+}
+
+// Applies one edge, which is pending no longer unless it leads back to where it came from.
+fn step<E: Equations>(
+    alloc: Global,
+    system: &E,
+    leaving: &Leaving<'_>,
+    table: &mut [Option<E::State>],
+    pending: &mut [bool],
+    edge: usize,
+) -> Result<(), NoMemory>
+    requires system { E.is_system system.now }
+    requires links { leaving.now.links.now ≡ (E.system_of system.now).links }
+    requires index { IsIndex leaving.now.links.now (E.system_of system.now).node_count
+        leaving.now.last.items leaving.now.before.items }
+    requires nodes { length table.old ≡ (E.system_of system.now).node_count }
+    requires edges { length pending.old ≡ length (E.system_of system.now).links }
+    requires edge { edge < length (E.system_of system.now).links }
+    requires pending { slice_index_or pending.old edge true ≡ true }
+    requires started { IsStarted E.State.Lattice (E.fits system.now) (E.system_of system.now) (at table.old) }
+    requires met { IsMetOrPending E.State.Lattice (E.fits system.now) (E.system_of system.now)
+        (at table.old) pending.old }
+    ensures { IsOk result → IsStep E.State.Lattice (E.fits system.now) (E.system_of system.now)
+        table.old pending.old table.new pending.new }
+{
+    pending[edge] = false;
+    let link = leaving.links[edge];
+    let Some(state) = &table[link.from] else {
+        return Ok(());
+    };
+    let Some(brought) = system.apply(alloc, edge, state)? else {
+        return Ok(());
+    };
+    if bring(alloc, system, table, link.to, brought)? {
+        leaving.mark(link.to, pending);
+    }
+    Ok(())
+}
+
+// Bottom at each node, but for what stands at the first one besides.
+fn started<E: Equations>(alloc: Global, system: &E) -> Result<Vec<Option<E::State>>, NoMemory>
+    requires { E.is_system system.now }
+    ensures { IfOk result (λ table. IsStart E.State.Lattice (E.fits system.now) (E.system_of system.now) table.items) }
+{
+    let mut table = no_states(alloc, system.nodes())?;
+    let Some(state) = system.first(alloc)? else {
+        return Ok(table);
+    };
+    table[0] = Some(system.rounded(alloc, 0, state)?);
+    Ok(table)
+}
+
+/// Bottom at each node.
+pub fn no_states<S: Drop>(alloc: Global, nodes: usize) -> Result<Vec<Option<S>>, NoMemory>
+    ensures { IfOk result (λ table. (length table.items ≡ nodes)
+        × ((n : ℕ) → slice_index_or table.items n None ≡ None)) }
+{
+    let mut table = Vec::new(alloc);
+    for _ in 0..nodes {
+        table.push(None)?;
+    }
+    Ok(table)
+}

@@ -1,0 +1,5 @@
+pub mod EntriesBelow
+pub mod Keys
+pub mod SelectedLaws
+pub mod TableHeights
+pub mod TableLaws
