@@ -1,0 +1,4 @@
+pub mod Causes
+pub mod Keeping
+pub mod Led
+pub mod Pasts

@@ -1,0 +1,9 @@
+pub mod Answers
+pub mod Calls
+pub mod Cores
+pub mod Events
+pub mod Histories
+pub mod KeptValues
+pub mod Outcomes
+pub mod laws
+pub mod reading

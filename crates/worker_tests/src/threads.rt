@@ -1,0 +1,163 @@
+//! Workers in threads.
+ghost use Rattle.std.specs.Prelude.{◌≤◌};
+
+use crate::toy::{Numbers, TwoTasks};
+use std::alloc::Global;
+use std::sync::atomic::{AtomicU64, Ordering};
+use std::sync::{Arc, Wait};
+use std::test::Fail;
+use std::thread::Threads;
+use store_core::{Event, StoreCore};
+use thread_workers::{SharedStore, solve, work};
+use tm_io::{Gate, OpenGate};
+use tm_lattice::NoMemory;
+
+// At most so many turns the first pass is held.
+const TURNS: u64 = 300_000_000;
+
+// Holds the first pass until a second has begun, and counts the passes of two workers for two tasks.
+#[derive(Drop)]
+struct HoldsTheFirst {
+    begun: AtomicU64,
+    begun_before_an_end: AtomicU64,
+    passes: [AtomicU64; 4],
+}
+
+impl HoldsTheFirst {
+    fn new() -> HoldsTheFirst {
+        HoldsTheFirst {
+            begun: AtomicU64::new(0),
+            begun_before_an_end: AtomicU64::new(0),
+            passes: [
+                AtomicU64::new(0),
+                AtomicU64::new(0),
+                AtomicU64::new(0),
+                AtomicU64::new(0),
+            ],
+        }
+    }
+}
+
+// Where the passes of a worker for a task are counted: past the end for any other worker or task.
+fn place_of(worker: u32, task: u32) -> usize {
+    if (worker < 2) & (task < 2) {
+        2 * worker as usize + task as usize
+    } else {
+        4
+    }
+}
+
+impl Gate for HoldsTheFirst {
+    fn began(&self, worker: u32, task: u32) {
+        if let Some(count) = self.passes.get(place_of(worker, task)) {
+            count.fetch_add(1, Ordering::SeqCst);
+        }
+        if self.begun.fetch_add(1, Ordering::SeqCst) == 0 {
+            for _ in 0..TURNS {
+                if self.begun.load(Ordering::SeqCst) > 1 {
+                    break;
+                }
+            }
+        }
+    }
+
+    fn ended(&self, _worker: u32, _task: u32) {
+        if self.begun_before_an_end.load(Ordering::SeqCst) == 0 {
+            self.begun_before_an_end
+                .store(self.begun.load(Ordering::SeqCst), Ordering::SeqCst);
+        }
+    }
+}
+
+// How many readings of a worker for a task stand in a history.
+fn readings(history: &[Event<TwoTasks>], which: u32, of: u32) -> u64 {
+    let mut count: u64 = 0;
+    for event in history {
+        if let Event::Read {
+            worker,
+            task,
+            version: _,
+        } = event
+        {
+            if (*worker == which) & (*task == of) {
+                count = count.saturating_add(1);
+            }
+        }
+    }
+    count
+}
+
+// Whether as many passes of a worker for a task began as the history has readings.
+fn is_counted(gate: &HoldsTheFirst, history: &[Event<TwoTasks>], worker: u32, task: u32) -> bool {
+    match gate.passes.get(place_of(worker, task)) {
+        Some(count) => count.load(Ordering::SeqCst) == readings(history, worker, task),
+        None => false,
+    }
+}
+
+#[test]
+fn two_passes_begin_before_the_first_ends(rt: HostRuntime) -> Result<(), Fail> {
+    let alloc = rt.alloc();
+    let gate = HoldsTheFirst::new();
+    let core = solve(
+        &rt,
+        alloc,
+        Arc::new(alloc, TwoTasks { first: true })?,
+        2,
+        &gate,
+    )?;
+    assert!(rt; gate.begun_before_an_end.load(Ordering::SeqCst) > 1);
+    let history = core.history();
+    assert!(rt; is_counted(&gate, history, 0, 0) & is_counted(&gate, history, 0, 1));
+    assert!(rt; is_counted(&gate, history, 1, 0) & is_counted(&gate, history, 1, 1));
+    assert_eq!(rt; gate.begun.load(Ordering::SeqCst), history.len() as u64 / 2);
+    Ok(())
+}
+
+// Whether so many workers end in this store.
+fn ends_in<R: Threads + Wait + Sync>(
+    rt: &R,
+    alloc: Global,
+    first: bool,
+    workers: u32,
+    wanted: &Numbers,
+) -> Result<bool, NoMemory>
+    requires some { 1 ≤ workers }
+    requires most { workers ≤ 16 }
+{
+    let program = Arc::new(alloc, TwoTasks { first })?;
+    let core = solve(rt, alloc, program, workers, &OpenGate)?;
+    Ok(core.quiet() & (core.workers() == workers) & core.store().same(wanted))
+}
+
+#[test]
+fn every_number_of_workers_ends_in_one_store(rt: HostRuntime) -> Result<(), Fail> {
+    let alloc = rt.alloc();
+    let all = Numbers::new(true, true, true, true);
+    let none = Numbers::new(false, false, false, false);
+    for workers in 1..17 {
+        assert!(rt; ends_in(&rt, alloc, true, workers, &all)?);
+        assert!(rt; ends_in(&rt, alloc, false, workers, &none)?);
+    }
+    Ok(())
+}
+
+// How many passes a worker makes by itself on a core for two workers.
+fn passes_alone<R: Wait>(rt: &R, alloc: Global, worker: u32) -> Result<u64, NoMemory> {
+    let gate = HoldsTheFirst::new();
+    gate.begun.store(2, Ordering::SeqCst);
+    let core = StoreCore::open(alloc, Arc::new(alloc, TwoTasks { first: true })?, 2)?;
+    let shared = SharedStore::new(core);
+    work(rt, alloc, &shared, worker, &gate)?;
+    Ok(gate.begun.load(Ordering::SeqCst))
+}
+
+#[test]
+fn a_worker_alone_ends(rt: HostRuntime) -> Result<(), Fail> {
+    let alloc = rt.alloc();
+    assert_eq!(rt; passes_alone(&rt, alloc, 0)?, 7);
+    assert_eq!(rt; passes_alone(&rt, alloc, 1)?, 7);
+    // There is no worker 2.
+    assert_eq!(rt; passes_alone(&rt, alloc, 2)?, 2);
+    Ok(())
+}
