@@ -1,0 +1,14 @@
+pub mod Shape
+pub mod Tables
+pub mod GraphWorlds
+pub mod Shaped
+pub mod Covers
+pub mod Invariant
+pub mod Reports
+pub mod Section
+pub mod Rows
+pub mod Worlds
+pub mod Listing
+pub mod Numbered
+pub mod Configured
+pub mod WholeWorlds
