@@ -1,0 +1,2 @@
+pub mod ConstantTypes
+pub mod GivenLists

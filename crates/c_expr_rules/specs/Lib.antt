@@ -1,0 +1,2 @@
+-- What the code's pairs of pointers and its arguments stand for.
+pub mod Pairs

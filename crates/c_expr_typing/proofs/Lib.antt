@@ -1,0 +1,5 @@
+pub mod Frame
+pub mod WellTypedRules
+pub mod WellTypedMore
+pub mod WellTypedWhole
+pub mod WellTypedGrowth

@@ -1,0 +1,5 @@
+pub mod Latest
+pub mod Pushed
+pub mod SameTypes
+pub mod Popped
+pub mod Members

@@ -1,0 +1,2 @@
+-- How the tables of the code stand for plain lists.
+pub mod reading

@@ -1,0 +1,22 @@
+//! What is visible at a place of the text, with the tables of types, structures and functions: names, tags and members
+//! are looked up by an index, never by a scan. Which declarations there are and which are refused, this crate does not
+//! know.
+//!
+//! Behind `int x; { char x;` the name `x` has two declarations: `named` gives the inner one, and the outer one again once
+//! the block is left.
+#![tactic(auto)]
+
+mod bindings;
+mod growth;
+mod positions;
+mod scopes;
+mod structures;
+mod tags;
+mod types;
+
+pub use bindings::Bindings;
+pub use growth::Outside;
+pub use scopes::Scope;
+pub use structures::Structures;
+pub use tags::Tags;
+pub use types::Types;

@@ -1,0 +1,4 @@
+pub mod Paths
+pub mod Works
+pub mod SearchSteps
+pub mod Marking

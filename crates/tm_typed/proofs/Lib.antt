@@ -1,0 +1,2 @@
+pub mod CallTrees
+pub mod TypedStatementTrees
