@@ -17,10 +17,10 @@ fn main(rt: HostRuntime) -> ExitCode {
     };
     let _program = words.next();
     let Ok(words) = words.collect::<Vec<String>>(rt.alloc()) else {
-        return ExitCode::from(Status::NoMemory as u8);
+        return ExitCode::from(Status::NoMemory.number());
     };
     let mut source = StdSource::new(rt.stdin());
     let mut out = StdSink::new(rt.stdout());
     let status = analyse(&rt, rt.alloc(), &words, &mut source, &mut out, &OpenGate);
-    ExitCode::from(status as u8)
+    ExitCode::from(status.number())
 }

@@ -4,7 +4,6 @@ use Rattle.std.proofs.lemmas.List.{append-nil}
 use Rattle.std.specs.Io.KnownBytes.{IsAtEnd, append_known, prepend_known}
 use Rattle.std.specs.Prelude.{◌⊎◌, ◌↔◌, false, IsTrue, Option, Some, None, Result, Ok, Err, IfOk}
 use Rattle.tm_terms.specs.declared.alarms.Alarm.{Alarm}
-use Rattle.tm_terms.specs.declared.limits.TheConstants.{SOURCE}
 use Rattle.tm_terms.specs.declared.refusals.Refusal.{Refusal}
 use Rattle.tm_terms.specs.declared.tokens.Token.{Token}
 use Rattle.tm_terms.specs.Spelling.{Lexes}
@@ -14,10 +13,12 @@ use Rattle.analyser.specs.declared.statuses.Status.TheVariants.{NoAlarm, Alarms,
 use Rattle.analyser.specs.Form.{Program, IsProgramOf, IsProgram}
 use Rattle.tm_trees.specs.FileTrees.{ItemTree}
 use Rattle.tm_trees.specs.Parsing.{Parses, too_deep, spells, spells_none}
-use Rattle.analyser.specs.Answers.{IsAccepted, IsLeastReport, Reports, IsRefusedAs, not_parsed, not_built, IsRefused, too_long, not_lexed, not_read, unbuilt, HasAnswer, IsAnalyse, IsReported, IsStop, IsWhole, IsReadOut, MayGive, Answers, TakesFront, Told}
-use Rattle.analyser.specs.Replies.{GivesReport, AnswersFile, AnswersTokens, AnswersSource, TakesAnswerFront}
+use Rattle.analyser.specs.Answers.{longest_source, IsAccepted, IsLeastReport, Reports, IsRefusedAs, not_parsed, not_built, IsRefused, too_long, not_lexed, not_read, unbuilt, HasAnswer, IsAnalyse, IsReadOut, MayGive, Answers, TakesNoMore, Told}
+use Rattle.analyser.specs.Statuses.{IsReported, IsStop, IsWhole}
+use Rattle.analyser.specs.reading.Replies.{GivesReport, AnswersFile, AnswersTokens}
+use Rattle.analyser.specs.reading.Streams.{TakesFrontOf}
 use Rattle.c_lexer.proofs.AnswerLemmas.{one_answer}
-use Rattle.c_parser.specs.FileDescent.{file}
+use Rattle.c_parser.specs.reading.FileDescent.{file}
 use Rattle.c_parser.proofs.FileComplete.{file_complete}
 
 -- what an answer says is what it says of another fact that follows
@@ -29,7 +30,7 @@ pub if_ok_both : {A E : Type 0} {P P' Q : A → Type 0} (r : Result A E) → IfO
 if_ok_both (Ok a) h h' k = k a h h'
 if_ok_both (Err e) h h' k = tt
 
-module _ (bytes : List ℕ) (short : length bytes ≤ SOURCE) where
+module _ (bytes : List ℕ) (short : length bytes ≤ longest_source) where
   reports : (tokens : List Token) → Lexes bytes (Ok tokens) → (p : Program) → IsProgram p tokens → (report : List Alarm) → IsLeastReport p report → Reports bytes report
   reports tokens lexed p program report answer = record {
     program = p;
@@ -62,15 +63,15 @@ answer_is_whole bytes ReadFault text h = absurd h
 answer_is_whole bytes WriteFault text h = absurd h
 answer_is_whole bytes NoMemory text h = absurd h
 
-longer_refused : (bytes more : List ℕ) (refusal : Refusal) → SOURCE < length bytes → IsRefused bytes refusal → IsRefused (bytes ++ more) refusal
+longer_refused : (bytes more : List ℕ) (refusal : Refusal) → longest_source < length bytes → IsRefused bytes refusal → IsRefused (bytes ++ more) refusal
 longer_refused bytes more refusal h (too_long k) = too_long (omega (arith, length-append bytes more))
 longer_refused bytes more refusal h (not_lexed k l) = absurd (omega arith)
 longer_refused bytes more refusal h (not_read k l r) = absurd (omega arith)
 
 -- a source that is too long has its answer already where only its front is known
-pub longer_answered : (bytes more : List ℕ) → SOURCE < length bytes → (status : Status) (text : List ℕ) → HasAnswer bytes status text → HasAnswer (bytes ++ more) status text
-longer_answered bytes more long NoAlarm text h = absurd (let k : length bytes ≤ SOURCE = h.0.accepted.short in omega arith)
-longer_answered bytes more long Alarms text h = absurd (let k : length bytes ≤ SOURCE = h.2.accepted.short in omega arith)
+pub longer_answered : (bytes more : List ℕ) → longest_source < length bytes → (status : Status) (text : List ℕ) → HasAnswer bytes status text → HasAnswer (bytes ++ more) status text
+longer_answered bytes more long NoAlarm text h = absurd (let k : length bytes ≤ longest_source = h.0.accepted.short in omega arith)
+longer_answered bytes more long Alarms text h = absurd (let k : length bytes ≤ longest_source = h.2.accepted.short in omega arith)
 longer_answered bytes more long Refused text h = (h.0, longer_refused bytes more h.0 long h.1, h.2)
 longer_answered bytes more long Usage text h = absurd h
 longer_answered bytes more long ReadFault text h = absurd h
@@ -83,7 +84,7 @@ pub record Known (left : Option (List ℕ)) (status : Status) (text : List ℕ) 
   pub told : Told left bytes
   pub has : HasAnswer bytes status text
 
-known_by : (bytes : List ℕ) (left' : Option (List ℕ)) (status : Status) (text : List ℕ) → IsAtEnd left' ⊎ (SOURCE < length bytes) → HasAnswer bytes status text
+known_by : (bytes : List ℕ) (left' : Option (List ℕ)) (status : Status) (text : List ℕ) → IsAtEnd left' ⊎ (longest_source < length bytes) → HasAnswer bytes status text
     → Known (prepend_known bytes left') status text
 known_by bytes None status text e h = record { bytes = bytes; told = tt; has = h }
 known_by bytes (Some more) status text (inl e) h =
@@ -92,21 +93,21 @@ known_by bytes (Some more) status text (inr long) h =
     record { bytes = bytes ++ more; told = refl; has = longer_answered bytes more long status text h }
 
 pub known : (left : Option (List ℕ)) (bytes : List ℕ) (left' : Option (List ℕ)) (status : Status) (text : List ℕ) → left ≡ prepend_known bytes left'
-    → IsAtEnd left' ⊎ (SOURCE < length bytes) → HasAnswer bytes status text → Known left status text
+    → IsAtEnd left' ⊎ (longest_source < length bytes) → HasAnswer bytes status text → Known left status text
 known left bytes left' status text e k h = subst (λ l. Known l status text) (sym e) (known_by bytes left' status text k h)
 
-read_out_by : (bytes : List ℕ) (left' : Option (List ℕ)) → IsAtEnd left' ⊎ (SOURCE < length bytes) → IsReadOut (prepend_known bytes left') left'
+read_out_by : (bytes : List ℕ) (left' : Option (List ℕ)) → IsAtEnd left' ⊎ (longest_source < length bytes) → IsReadOut (prepend_known bytes left') left'
 read_out_by bytes left' (inl e) = inl e
 read_out_by bytes None (inr long) = inl tt
 read_out_by bytes (Some more) (inr long) = inr (omega (arith, length-append bytes more))
 
 pub read_out : (left : Option (List ℕ)) (bytes : List ℕ) (left' : Option (List ℕ)) → left ≡ prepend_known bytes left'
-    → IsAtEnd left' ⊎ (SOURCE < length bytes) → IsReadOut left left'
+    → IsAtEnd left' ⊎ (longest_source < length bytes) → IsReadOut left left'
 read_out left bytes left' e k = subst (λ l. IsReadOut l left') (sym e) (read_out_by bytes left' k)
 
 -- the answer that was sent
 pub sent_whole : (left taken taken' : Option (List ℕ)) (status result : Status) (text sent : List ℕ) → Known left status text → sent ≡ text
-    → result ≡ status → taken' ≡ append_known taken sent → AnswersSource left taken taken' result
+    → result ≡ status → taken' ≡ append_known taken sent → Answers HasAnswer left taken taken' result
 sent_whole left taken taken' status result text sent k e f h = record {
   bytes = k.bytes;
   told = k.told;
@@ -115,22 +116,22 @@ sent_whole left taken taken' status result text sent k e f h = record {
   appended = h ∙ ap (append_known taken) e;
 }
 
-pub sent_front : (left taken taken' : Option (List ℕ)) (status : Status) (text sent part rest : List ℕ) → Known left status text → sent ≡ text
-    → sent ≡ part ++ rest → taken' ≡ append_known taken part → TakesAnswerFront left taken taken'
-sent_front left taken taken' status text sent part rest k e f h = record {
+pub sent_front : (left taken taken' : Option (List ℕ)) (status : Status) (text sent : List ℕ) → Known left status text → sent ≡ text
+    → TakesFrontOf sent taken taken' → TakesNoMore HasAnswer left taken taken'
+sent_front left taken taken' status text sent k e f = inr (record {
   bytes = k.bytes;
   told = k.told;
   status = status;
   text = text;
   may = k.has;
-  front = part;
-  rest = rest;
-  split = sym e ∙ f;
-  appended = h;
-}
+  front = f.front;
+  rest = f.rest;
+  split = sym e ∙ f.split;
+  appended = f.appended;
+})
 
-pub past_limit : (n m : ℕ) (left' : Option (List ℕ)) → n ≡ m → IsAtEnd left' ⊎ (SOURCE < n) → IsAtEnd left' ⊎ (SOURCE < m)
-past_limit n m left' e h = subst (λ k. IsAtEnd left' ⊎ (SOURCE < k)) e h
+pub past_limit : (n m : ℕ) (left' : Option (List ℕ)) → n ≡ m → IsAtEnd left' ⊎ (longest_source < n) → IsAtEnd left' ⊎ (longest_source < m)
+past_limit n m left' e h = subst (λ k. IsAtEnd left' ⊎ (longest_source < k)) e h
 
 -- ---- the answer to words
 
@@ -143,8 +144,8 @@ may_give words bytes w ReadFault text h = absurd h
 may_give words bytes w WriteFault text h = absurd h
 may_give words bytes w NoMemory text h = absurd h
 
-pub words_answered : (words : List (List ℕ)) (left taken taken' : Option (List ℕ)) (status : Status) → IsAnalyse words → AnswersSource left taken taken' status
-    → Answers words left taken taken' status
+pub words_answered : (words : List (List ℕ)) (left taken taken' : Option (List ℕ)) (status : Status) → IsAnalyse words → Answers HasAnswer left taken taken' status
+    → Answers (MayGive words) left taken taken' status
 words_answered words left taken taken' status w a = record {
   bytes = a.bytes;
   told = a.told;
@@ -153,8 +154,8 @@ words_answered words left taken taken' status w a = record {
   appended = a.appended;
 }
 
-pub words_front : (words : List (List ℕ)) (left taken taken' : Option (List ℕ)) → IsAnalyse words → (taken' ≡ taken) ⊎ TakesAnswerFront left taken taken'
-    → (taken' ≡ taken) ⊎ TakesFront words left taken taken'
+pub words_front : (words : List (List ℕ)) (left taken taken' : Option (List ℕ)) → IsAnalyse words → TakesNoMore HasAnswer left taken taken'
+    → TakesNoMore (MayGive words) left taken taken'
 words_front words left taken taken' w (inl e) = inl e
 words_front words left taken taken' w (inr a) = inr (record {
   bytes = a.bytes;
@@ -173,16 +174,16 @@ told_some None = ([], tt)
 told_some (Some bytes) = (bytes, refl)
 
 pub usage_answered : (words : List (List ℕ)) (left taken taken' : Option (List ℕ)) (text : List ℕ) → (IsAnalyse words → ⊥) → text ≡ usage_text
-    → taken' ≡ append_known taken text → Answers words left taken taken' Usage
+    → taken' ≡ append_known taken text → Answers (MayGive words) left taken taken' Usage
 usage_answered words left taken taken' text w e h =
     let known = told_some left in
     record { bytes = known.0; told = known.1; text = text; may = (w, e); appended = h }
 
-pub usage_front : (words : List (List ℕ)) (left taken taken' : Option (List ℕ)) (text part rest : List ℕ) → (IsAnalyse words → ⊥) → text ≡ usage_text
-    → text ≡ part ++ rest → taken' ≡ append_known taken part → TakesFront words left taken taken'
-usage_front words left taken taken' text part rest w e f h =
+pub usage_front : (words : List (List ℕ)) (left taken taken' : Option (List ℕ)) (text : List ℕ) → (IsAnalyse words → ⊥) → text ≡ usage_text
+    → TakesFrontOf text taken taken' → TakesNoMore (MayGive words) left taken taken'
+usage_front words left taken taken' text w e f =
     let known = told_some left in
-    record { bytes = known.0; told = known.1; status = Usage; text = text; may = (w, e); front = part; rest = rest; split = f; appended = h }
+    inr (record { bytes = known.0; told = known.1; status = Usage; text = text; may = (w, e); front = f.front; rest = f.rest; split = f.split; appended = f.appended })
 
 -- ---- a source has one answer
 
@@ -200,7 +201,7 @@ program_is_not_refused tokens p refusal a (not_parsed r) = parsed_is_not_refused
 program_is_not_refused tokens p refusal a (not_built parsed none) = none p a
 
 pub accepted_is_not_refused : (bytes : List ℕ) (p : Program) (refusal : Refusal) → IsAccepted bytes p → IsRefused bytes refusal → ⊥
-accepted_is_not_refused bytes p refusal a (too_long h) = absurd (let k : length bytes ≤ SOURCE = a.short in omega arith)
+accepted_is_not_refused bytes p refusal a (too_long h) = absurd (let k : length bytes ≤ longest_source = a.short in omega arith)
 accepted_is_not_refused bytes p refusal a (not_lexed h l) = let e : Ok a.tokens ≡ Err refusal = one_answer bytes a.lexed l in cc
 accepted_is_not_refused bytes p refusal a (not_read {tokens} h l r) =
     let e : Ok a.tokens ≡ Ok tokens = one_answer bytes a.lexed l in
@@ -235,7 +236,7 @@ whole_or_stop ReadFault = inr tt
 whole_or_stop WriteFault = inr tt
 whole_or_stop NoMemory = inr tt
 
-pub accepted_reported : (left taken taken' : Option (List ℕ)) (status : Status) → (IsWhole status → AnswersSource left taken taken' status)
+pub accepted_reported : (left taken taken' : Option (List ℕ)) (status : Status) → (IsWhole status → Answers HasAnswer left taken taken' status)
     → (bytes : List ℕ) (p : Program) → left ≡ Some bytes → IsAccepted bytes p → IsReported status ⊎ IsStop status
 accepted_reported left taken taken' status h bytes p e a = by_case (whole_or_stop status)
   where
@@ -245,7 +246,7 @@ accepted_reported left taken taken' status h bytes p e a = by_case (whole_or_sto
         let f : bytes ≡ (h w).bytes = told_bytes left bytes (h w).bytes e (h w).told in
         inl (accepted_comes (h w).bytes p (subst (λ b. IsAccepted b p) f a) status (h w).text (h w).may)
 
-pub refused_refused : (left taken taken' : Option (List ℕ)) (status : Status) → (IsWhole status → AnswersSource left taken taken' status)
+pub refused_refused : (left taken taken' : Option (List ℕ)) (status : Status) → (IsWhole status → Answers HasAnswer left taken taken' status)
     → (bytes : List ℕ) (refusal : Refusal) → left ≡ Some bytes → IsRefused bytes refusal → (status ≡ Refused) ⊎ IsStop status
 refused_refused left taken taken' status h bytes refusal e r = by_case (whole_or_stop status)
   where
@@ -258,9 +259,9 @@ refused_refused left taken taken' status h bytes refusal e r = by_case (whole_or
 pub not_analyse : (words : List (List ℕ)) → IsTrue false ↔ IsAnalyse words → IsAnalyse words → ⊥
 not_analyse words h w = let no : IsTrue false = h.1 w in cc
 
-pub as_usage : (words : List (List ℕ)) (left taken taken' : Option (List ℕ)) (status : Status) → status ≡ Usage → Answers words left taken taken' Usage
-    → Answers words left taken taken' status
-as_usage words left taken taken' status e h = subst (Answers words left taken taken') (sym e) h
+pub as_usage : (words : List (List ℕ)) (left taken taken' : Option (List ℕ)) (status : Status) → status ≡ Usage → Answers (MayGive words) left taken taken' Usage
+    → Answers (MayGive words) left taken taken' status
+as_usage words left taken taken' status e h = subst (Answers (MayGive words) left taken taken') (sym e) h
 
 -- ---- from the answer to the file to the answer to the tokens
 
@@ -273,15 +274,15 @@ file_is tokens wanted _ (spells {items} flat f) e = file_complete tokens items f
 file_is tokens wanted _ (spells_none flat none place) e = absurd (cc)
 
 -- tokens that parse spell one file
-one_file : (tokens : List Token) (items others : List ItemTree) → Parses tokens (Ok items) → Parses tokens (Ok others) → items ≡ others
+pub one_file : (tokens : List Token) (items others : List ItemTree) → Parses tokens (Ok items) → Parses tokens (Ok others) → items ≡ others
 one_file tokens items others h k =
     let e : Some items ≡ Some others = sym (file_is tokens items (Ok items) h refl) ∙ file_is tokens others (Ok others) k refl in cc
 
 module _ (tokens : List Token) (items : List ItemTree) (parsed : Parses tokens (Ok items)) where
-  program : (p : Program) → IsProgramOf p items → length tokens ≤ 400 → IsProgram p tokens
+  pub program : (p : Program) → IsProgramOf p items → length tokens ≤ 400 → IsProgram p tokens
   program p h short = record { items = items; parsed = parsed; program = h; short = short }
 
-  none_of : ((p : Program) → IsProgramOf p items → ⊥) → (p : Program) → IsProgram p tokens → ⊥
+  pub none_of : ((p : Program) → IsProgramOf p items → ⊥) → (p : Program) → IsProgram p tokens → ⊥
   none_of none p h = none p (subst (IsProgramOf p) (one_file tokens h.items items h.parsed parsed) h.program)
 
   pub file_answered : length tokens ≤ 400 → (status : Status) (text : List ℕ) → AnswersFile items status text → AnswersTokens tokens status text

@@ -14,7 +14,7 @@ use Rattle.analyser.specs.declared.programs.Assignment.{Assignment as ShortAssig
 use Rattle.analyser.specs.declared.programs.Task.{Task as ShortTask}
 use Rattle.analyser.specs.declared.programs.Program.{Program as ShortProgram}
 use Rattle.analyser.specs.Form.{body_of, body_of_task, initial_among}
-use Rattle.analyser.specs.Programs.{atom_expr, value_expr, plain_assignment, plain_body, plain_task, plain, atom_value, alarm_at, assignment_alarm, body_alarm, task_alarm}
+use Rattle.analyser.specs.reading.Programs.{atom_expr, value_expr, plain_assignment, plain_body, plain_task, plain, atom_value, alarm_at, assignment_alarm, body_alarm, task_alarm}
 use Rattle.analyser.specs.Runs.{result_of}
 use Rattle.analyser.specs.Values.{only}
 use Rattle.analyser.specs.Equations.{Reached, alarms_in, alarms_of}

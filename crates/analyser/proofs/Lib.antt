@@ -9,3 +9,6 @@ pub mod LeastReport
 pub mod OneWord
 pub mod Written
 pub mod AnswerLemmas
+pub mod Decisions
+pub mod OneAnswer
+pub mod OneReport

@@ -1,5 +1,5 @@
 -- What the code reads of a file is its program, where that is one of those that are analysed.
-use Rattle.std.proofs.Common.{◌≡◌, ◌+◌, ◌<◌, ◌≤◌, ℤ, Bool, true, false, List, [], ◌∷◌, ◌++◌, append_assoc, length, refl, arith, sym, ◌∙◌, ap, subst}
+use Rattle.std.proofs.Common.{◌≡◌, ◌+◌, ◌≤◌, ℤ, Bool, true, false, List, [], ◌∷◌, ◌++◌, append_assoc, length, refl, arith, sym, ◌∙◌, ap, subst}
 use Rattle.std.proofs.lemmas.List.{append-nil}
 use Rattle.std.specs.Prelude.{Option, Some, None, option_map}
 use Rattle.std.specs.Prelude.{Vec, map, if◌then◌else◌, pos}
@@ -7,12 +7,12 @@ use Rattle.std.specs.declared.alloc.Global.{Global as Heap}
 use Rattle.tm_terms.specs.declared.places.Place.{Place}
 use Rattle.tm_terms.specs.declared.tokens.Name.{Name}
 use Rattle.tm_terms.specs.declared.exprs.Infix.{Infix}
-use Rattle.tm_terms.specs.declared.exprs.Infix.TheVariants.{Comma, Assign, AssignBy, Binary as ByBinary}
-use Rattle.tm_terms.specs.ExprTrees.{Tree, a_name, an_integer, a_character, in_parentheses, an_input, an_islocked, a_call, a_prefix, a_sizeof_type, a_cast, an_infix, a_conditional, a_subscript, a_member, a_postfix}
-use Rattle.tm_trees.specs.FileTrees.{a_value, PartTree, a_local, a_step, PartTrees, no_parts, and_part, ItemTree, a_declaration, a_function, an_empty_item, a_mutex, a_task}
+use Rattle.tm_terms.specs.declared.exprs.Infix.TheVariants.{Assign, Binary as ByBinary}
+use Rattle.tm_terms.specs.ExprTrees.{Tree, a_name, an_integer, an_infix}
+use Rattle.tm_trees.specs.FileTrees.{a_value, PartTree, a_step, PartTrees, no_parts, and_part, ItemTree, a_declaration, a_function, an_empty_item, a_mutex, a_task}
 use Rattle.tm_trees.specs.declared.declarations.Specifier.{Specifier}
 use Rattle.tm_trees.specs.declared.statements.BlockPart.{BlockPart}
-use Rattle.tm_trees.specs.DeclarationTrees.{SpecifierTree, a_plain, a_struct, an_enum, SpecifierTrees, and_specifier, specifier_tree, specifier_trees}
+use Rattle.tm_trees.specs.DeclarationTrees.{specifier_trees}
 use Rattle.tm_trees.specs.FileTrees.{as_parts, part_tree}
 use Rattle.analyser.specs.declared.operators.Operator.{Operator}
 use Rattle.analyser.specs.declared.programs.Global.{Global}
@@ -21,9 +21,9 @@ use Rattle.analyser.specs.declared.programs.Atom.TheVariants as Atoms
 use Rattle.analyser.specs.declared.programs.Operation.{Operation as OneOperation}
 use Rattle.analyser.specs.declared.programs.Assignment.{Assignment as ShortAssignment}
 use Rattle.analyser.specs.declared.programs.Task.{Task as ShortTask}
-use Rattle.analyser.specs.Form.{Expr, Number, Variable, Operation, Assignment, Task, Program, operators_in, IsBuiltBody, body_of_task, IsLawful, IsProgramOf, is_int_constant, operator_of, joined, operation_of, expr_of, target_of, assigned, assignment_of_tree, assignment_of, listed, assignments_of, number_of, global_of, is_int, task_with, task_of, from_item, program_of}
-use Rattle.analyser.specs.Programs.{atom_expr, value_expr, plain_assignment, plain_body, plain_task, plain}
-use Rattle.analyser.specs.Reading.{atom_of, single, pair, operation_by, value_of, short_assigned, short_tree, short_assignment, some_body, short_body, short_with, short_task, global_then, globals_by, globals_then, some_task, ending_of}
+use Rattle.analyser.specs.Form.{Expr, Number, Operation, Assignment, Task, Program, operators_in, IsBuiltBody, body_of_task, IsLawful, IsProgramOf, is_int_constant, operator_of, joined, operation_of, expr_of, target_of, assigned, assignment_of_tree, assignment_of, listed, assignments_of, number_of, global_of, is_int, task_with, task_of, from_item, program_of}
+use Rattle.analyser.specs.reading.Programs.{atom_expr, value_expr, plain_assignment, plain_body, plain_task, plain}
+use Rattle.analyser.specs.reading.Readings.{atom_of, single, pair, operation_by, value_of, short_assigned, short_tree, short_assignment, some_body, short_body, short_with, short_task, global_then, globals_by, globals_then, some_task, ending_of}
 
 from_some : {A : Type 0} {x y : A} → Some x ≡ Some y → x ≡ y
 from_some e = cc

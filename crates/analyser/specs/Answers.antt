@@ -1,5 +1,6 @@
 -- What the program answers: which texts these words and bytes may give, with which status.
-use Rattle.std.specs.Prelude.{◌≡◌, ℕ, ◌<◌, ◌≤◌, ◌⊎◌, List, [], ◌∷◌, ◌++◌, length, map, codes, Option, Some, None, IfSome, Ok, Err, Contains, String, string_bytes}
+use Rattle.std.specs.Prelude.{◌≡◌, ℕ, ◌<◌, ◌≤◌, ◌⊎◌, List, [], ◌∷◌, ◌++◌, length, map, codes, Contains}
+use Rattle.std.specs.Prelude.{Option, Some, None, IfSome, Ok, Err, String, string_bytes}
 use Rattle.std.specs.Io.KnownBytes.{append_known, IsAtEnd}
 use Rattle.std.specs.declared.alloc.Global.{Global as Heap}
 use Rattle.tm_cint.specs.declared.Class.{Class}
@@ -8,23 +9,28 @@ use Rattle.tm_terms.specs.declared.alarms.Alarm.{Alarm}
 use Rattle.tm_terms.specs.declared.refusals.Refusal.{Refusal}
 use Rattle.tm_terms.specs.declared.refusals.Kind.TheVariants as Kinds
 use Rattle.tm_terms.specs.declared.refusals.Limit.TheVariants as Limits
-use Rattle.tm_terms.specs.declared.limits.TheConstants.{SOURCE}
 use Rattle.tm_terms.specs.declared.tokens.Token.{Token}
+use Rattle.tm_terms.specs.Limits.{limit_number}
 use Rattle.tm_terms.specs.Spelling.{Lexes}
 use Rattle.tm_terms.specs.Texts.{report_text, refusal_text, usage_text}
 use Rattle.tm_trees.specs.FileTrees.{ItemTree}
 use Rattle.tm_trees.specs.Parsing.{Parses}
 use Rattle.analyser.specs.declared.statuses.Status.{Status}
-use Rattle.analyser.specs.declared.statuses.Status.TheVariants.{NoAlarm, Alarms, Refused, Usage, ReadFault, WriteFault, NoMemory}
+use Rattle.analyser.specs.declared.statuses.Status.TheVariants.{NoAlarm, Alarms, Refused, Usage, ReadFault}
+use Rattle.analyser.specs.declared.statuses.Status.TheVariants.{WriteFault, NoMemory}
 use Rattle.analyser.specs.Form.{Program, IsProgram}
 use Rattle.analyser.specs.Runs.{Occurs}
 use Rattle.analyser.specs.Equations.{State, IsLeast, IsReport}
 
 -- ## Sources
 
+-- the greatest number of bytes of a source
+abbrev pub longest_source : ℕ
+longest_source = limit_number Limits.Source
+
 -- these bytes are a source of this program, which is analysed
 pub record IsAccepted (bytes : List ℕ) (p : Program) : Type 0 where
-  pub short : length bytes ≤ SOURCE
+  pub short : length bytes ≤ longest_source
   pub tokens : List Token
   pub lexed : Lexes bytes (Ok tokens)
   pub program : IsProgram p tokens
@@ -35,23 +41,32 @@ source_limit = record { kind = Kinds.Limit; place = record { line = 0; col = 0 }
 abbrev pub unbuilt : Refusal
 unbuilt = record { kind = Kinds.Unbuilt; place = record { line = 1; col = 1 }; limit = None }
 
+-- the tokens spell no program that is analysed
+abbrev pub IsNoProgram : List Token → Type 0
+IsNoProgram tokens = (p : Program) → IsProgram p tokens → ⊥
+
 -- Why tokens are refused: the grammar refuses them; or else they spell no program that is analysed.
 pub data IsRefusedAs (tokens : List Token) : Refusal → Type 0 where
   not_parsed : {refusal : Refusal} → Parses tokens (Err refusal) → IsRefusedAs tokens refusal
-  not_built : {items : List ItemTree} → Parses tokens (Ok items) → ((p : Program) → IsProgram p tokens → ⊥) → IsRefusedAs tokens unbuilt
+  not_built : {items : List ItemTree} → Parses tokens (Ok items) → IsNoProgram tokens → IsRefusedAs tokens unbuilt
 
 -- Why these bytes are refused: they are too many; or else the lexis refuses them; or else their tokens are refused.
 pub data IsRefused (bytes : List ℕ) : Refusal → Type 0 where
-  too_long : SOURCE < length bytes → IsRefused bytes source_limit
-  not_lexed : {refusal : Refusal} → length bytes ≤ SOURCE → Lexes bytes (Err refusal) → IsRefused bytes refusal
-  not_read : {tokens : List Token} {refusal : Refusal} → length bytes ≤ SOURCE → Lexes bytes (Ok tokens) → IsRefusedAs tokens refusal → IsRefused bytes refusal
+  too_long : longest_source < length bytes → IsRefused bytes source_limit
+  not_lexed : {refusal : Refusal} → length bytes ≤ longest_source → Lexes bytes (Err refusal)
+      → IsRefused bytes refusal
+  not_read : {tokens : List Token} {refusal : Refusal} → length bytes ≤ longest_source → Lexes bytes (Ok tokens)
+      → IsRefusedAs tokens refusal → IsRefused bytes refusal
 
 -- ## Reports
+
+abbrev pub alarm_at : Place → Class → Alarm
+alarm_at place class = record { place = place; class = class }
 
 -- each error that occurs in a run of the program that the scheduler allows, up to its first fault, stands in the report
 -- at its place
 abbrev pub ListsAll : Program → List Alarm → Type 0
-ListsAll p report = (class : Class) (place : Place) → Occurs p class place → Contains report (record { place = place; class = class })
+ListsAll p report = (class : Class) (place : Place) → Occurs p class place → Contains report (alarm_at place class)
 
 -- the programs for which that is proved: all that are analysed
 abbrev pub IsCovered : Program → Type 0
@@ -89,7 +104,8 @@ HasAlarm (a ∷ report) = Unit {0}
 -- The status and the text that the command `analyse` answers these bytes with.
 abbrev pub HasAnswer : List ℕ → Status → List ℕ → Type 0
 HasAnswer bytes NoAlarm text = Reports bytes [] × (text ≡ report_text [])
-HasAnswer bytes Alarms text = (report : List Alarm) × HasAlarm report × Reports bytes report × (text ≡ report_text report)
+HasAnswer bytes Alarms text =
+    (report : List Alarm) × HasAlarm report × Reports bytes report × (text ≡ report_text report)
 HasAnswer bytes Refused text = (refusal : Refusal) × IsRefused bytes refusal × (text ≡ refusal_text refusal)
 HasAnswer bytes Usage text = ⊥
 HasAnswer bytes ReadFault text = ⊥
@@ -105,60 +121,32 @@ MayGive words bytes status text = IsAnalyse words × HasAnswer bytes status text
 abbrev pub Told : Option (List ℕ) → List ℕ → Type 0
 Told left bytes = IfSome left (λ known. known ≡ bytes)
 
--- the sink has taken the whole of a text that may come with the status, for the bytes of the source
-pub record TakesWhole (May : List ℕ → Status → List ℕ → Type 0) (left taken taken' : Option (List ℕ)) (status : Status) : Type 0 where
-  pub bytes : List ℕ
-  pub told : Told left bytes
-  pub text : List ℕ
-  pub may : May bytes status text
-  pub appended : taken' ≡ append_known taken text
+-- What these bytes may be answered with: a status, and a text.
+module _ (May : List ℕ → Status → List ℕ → Type 0) (left taken taken' : Option (List ℕ)) where
+  -- the sink has taken the whole of a text that may come with the status, for the bytes of the source
+  pub record Answers (status : Status) : Type 0 where
+    pub bytes : List ℕ
+    pub told : Told left bytes
+    pub text : List ℕ
+    pub may : May bytes status text
+    pub appended : taken' ≡ append_known taken text
 
--- the sink has taken a front of a text that may come with some status
-pub record TakesPart (May : List ℕ → Status → List ℕ → Type 0) (left taken taken' : Option (List ℕ)) : Type 0 where
-  pub bytes : List ℕ
-  pub told : Told left bytes
-  pub status : Status
-  pub text : List ℕ
-  pub may : May bytes status text
-  pub front : List ℕ
-  pub rest : List ℕ
-  pub split : text ≡ front ++ rest
-  pub appended : taken' ≡ append_known taken front
+  -- the sink has taken a front of a text that may come with some status
+  pub record TakesFront : Type 0 where
+    pub bytes : List ℕ
+    pub told : Told left bytes
+    pub status : Status
+    pub text : List ℕ
+    pub may : May bytes status text
+    pub front : List ℕ
+    pub rest : List ℕ
+    pub split : text ≡ front ++ rest
+    pub appended : taken' ≡ append_known taken front
 
--- the same of the texts that these words may give
-abbrev pub Answers : List (List ℕ) → Option (List ℕ) → Option (List ℕ) → Option (List ℕ) → Status → Type 0
-Answers words left taken taken' status = TakesWhole (MayGive words) left taken taken' status
-
-abbrev pub TakesFront : List (List ℕ) → Option (List ℕ) → Option (List ℕ) → Option (List ℕ) → Type 0
-TakesFront words left taken taken' = TakesPart (MayGive words) left taken taken'
-
--- the statuses that come with a whole text
-abbrev pub IsWhole : Status → Type 0
-IsWhole NoAlarm = Unit {0}
-IsWhole Alarms = Unit {0}
-IsWhole Refused = Unit {0}
-IsWhole Usage = Unit {0}
-IsWhole ReadFault = ⊥
-IsWhole WriteFault = ⊥
-IsWhole NoMemory = ⊥
-
--- a stop without a whole text
-abbrev pub IsStop : Status → Type 0
-IsStop NoAlarm = ⊥
-IsStop Alarms = ⊥
-IsStop Refused = ⊥
-IsStop Usage = ⊥
-IsStop ReadFault = Unit {0}
-IsStop WriteFault = Unit {0}
-IsStop NoMemory = Unit {0}
-
--- a stop that is not the source's
-abbrev pub IsSinkStop : Status → Type 0
-IsSinkStop status = (status ≡ WriteFault) ⊎ (status ≡ NoMemory)
-
-abbrev pub IsReported : Status → Type 0
-IsReported status = (status ≡ NoAlarm) ⊎ (status ≡ Alarms)
+  -- the sink has taken nothing, or a front of such a text
+  abbrev pub TakesNoMore : Type 0
+  TakesNoMore = (taken' ≡ taken) ⊎ TakesFront
 
 -- the source was read to its end, or past the limit
 abbrev pub IsReadOut : Option (List ℕ) → Option (List ℕ) → Type 0
-IsReadOut left left' = IsAtEnd left' ⊎ IfSome left (λ known. SOURCE < length known)
+IsReadOut left left' = IsAtEnd left' ⊎ IfSome left (λ known. longest_source < length known)

@@ -35,7 +35,8 @@ with_outcome place alarms o = record { value = o.value; alarms = alarms ++ alarm
 -- the right operand counts only where the left one has a value
 abbrev pub with_right : Operator → Place → Value → List Alarm → Judged → Judged
 with_right op place None alarms right = record { value = None; alarms = alarms }
-with_right op place (Some i) alarms right = with_outcome place (alarms ++ right.alarms) (applied op (Some i) right.value)
+with_right op place (Some i) alarms right =
+    with_outcome place (alarms ++ right.alarms) (applied op (Some i) right.value)
 
 abbrev pub judged : (Name → Value) → Expr → Judged
 judged values (Number v place) = record { value = only v; alarms = [] }

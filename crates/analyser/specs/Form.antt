@@ -1,5 +1,6 @@
 -- The built form of a source: `int` globals, and at most one task, whose body is a list of assignments.
-use Rattle.std.specs.Prelude.{◌≡◌, ℕ, ◌+◌, ◌≤◌, ℤ, pos, ◌≤ℤ◌, ◌⊎◌, Bool, true, false, not, ◌&&◌, nat_le, List, [], ◌∷◌, length, map, Option, Some, None, IfSome, Ok, if◌then◌else◌}
+use Rattle.std.specs.Prelude.{◌≡◌, ℕ, ◌+◌, ◌≤◌, ℤ, pos, ◌≤ℤ◌, ◌⊎◌, Bool, true, false, not, ◌&&◌, nat_le, List, [], ◌∷◌}
+use Rattle.std.specs.Prelude.{length, map, Option, Some, None, IfSome, Ok, if◌then◌else◌}
 use Rattle.tm_terms.specs.declared.places.Place.{Place}
 use Rattle.tm_terms.specs.declared.tokens.IntConstant.{IntConstant}
 use Rattle.tm_terms.specs.declared.tokens.Longs.{Longs}
@@ -15,8 +16,11 @@ use Rattle.tm_terms.specs.declared.exprs.Infix.{Infix}
 use Rattle.tm_terms.specs.declared.exprs.Infix.TheVariants.{Assign, Binary as ByBinary}
 use Rattle.tm_terms.specs.Names.{is_same_name}
 use Rattle.tm_terms.specs.ExprTrees.{Tree, a_name, an_integer, an_infix}
-use Rattle.tm_trees.specs.DeclarationTrees.{DeclaratorTree, a_declared_name, SpecifierTree, SpecifierTrees, a_plain, no_specifiers, and_specifier, ValueTree, an_expression, a_list, InitialiserTree, InitDeclaratorTree}
-use Rattle.tm_trees.specs.FileTrees.{a_value, PartTree, a_step, PartTrees, no_parts, and_part, ItemTree, a_declaration, a_task}
+use Rattle.tm_trees.specs.DeclarationTrees.{DeclaratorTree, a_declared_name, SpecifierTree, SpecifierTrees, a_plain}
+use Rattle.tm_trees.specs.DeclarationTrees.{no_specifiers, and_specifier, ValueTree, an_expression, a_list}
+use Rattle.tm_trees.specs.DeclarationTrees.{InitialiserTree, InitDeclaratorTree}
+use Rattle.tm_trees.specs.FileTrees.{a_value, PartTree, a_step, PartTrees, no_parts, and_part, ItemTree, a_declaration}
+use Rattle.tm_trees.specs.FileTrees.{a_task}
 use Rattle.tm_trees.specs.Parsing.{Parses}
 use Rattle.analyser.specs.declared.operators.Operator.{Operator}
 use Rattle.analyser.specs.declared.operators.Operator.TheVariants.{Plus, Minus, Times, Over}
@@ -176,7 +180,8 @@ global_of (a_declaration d) = declared_global (is_int d.specifiers) d.declarator
 global_of _ = None
 
 abbrev pub task_with : Option (ℤ × Place) → Name → Place → Option (List Assignment) → Option Task
-task_with (Some x) n q (Some body) = Some (record { priority = x.0; priority_place = x.1; name = n; name_place = q; body = body })
+task_with (Some x) n q (Some body) =
+    Some (record { priority = x.0; priority_place = x.1; name = n; name_place = q; body = body })
 task_with _ n q _ = None
 
 abbrev pub task_of : ItemTree → Option Task

@@ -1,11 +1,9 @@
 pub mod Form
-pub mod Programs
-pub mod Reading
 pub mod Runs
 pub mod Values
 pub mod Equations
-pub mod Input
 pub mod Solved
 pub mod Laws
+pub mod Statuses
 pub mod Answers
-pub mod Replies
+pub mod reading

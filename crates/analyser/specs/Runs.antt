@@ -1,5 +1,6 @@
 -- Runs of a program of the built form: one processor, one access a step, up to the first fault.
-use Rattle.std.specs.Prelude.{◌≡◌, ℕ, zero, if◌then◌else◌, ℤ, pos, List, [], ◌∷◌, ◌++◌, Result, Ok, Err, Option, Some, None}
+use Rattle.std.specs.Prelude.{◌≡◌, ℕ, zero, if◌then◌else◌, ℤ, pos, List, [], ◌∷◌, ◌++◌, Result, Ok, Err, Option, Some}
+use Rattle.std.specs.Prelude.{None}
 use Rattle.tm_cint.specs.declared.Class.{Class}
 use Rattle.tm_cint.specs.declared.int_types.IntType.TheVariants.{Int}
 use Rattle.tm_cint.specs.declared.operators.BinOp.{BinOp}
@@ -70,7 +71,8 @@ end_after (a ∷ answers) = Misfit
 -- the right side, and then the store (C99 6.5.16)
 abbrev pub body_then : List Assignment → List Answer → Next
 body_then [] answers = end_after answers
-body_then (a ∷ body) answers = value_then a.value (λ v rest. store_then a.target v a.place (body_then body) rest) answers
+body_then (a ∷ body) answers =
+    value_then a.value (λ v rest. store_then a.target v a.place (body_then body) rest) answers
 
 -- what the task of the program does after these answers
 abbrev pub next : Program → List Answer → Next
@@ -104,8 +106,8 @@ task_standing (Some t) n = standing_at n Waiting
 abbrev pub start : Program → World
 start p = record { contents = initial_of p; answers = []; standing = task_standing p.task (next p []) }
 
--- the scheduler wakes the task, or lets it make its next action; the number answers what an action leaves open, which in
--- this form is nothing
+-- the scheduler wakes the task, or lets it make its next action; the number answers what an action leaves open, which
+-- in this form is nothing
 pub data Choice : Type 0 where
   Wake : (task : ℕ) → Choice
   Run : (task : ℕ) (value : ℤ) → Choice
@@ -120,7 +122,8 @@ written contents cell v n = if is_same_name cell n then v else contents n
 
 -- the world after an action that went through, with its answer
 abbrev pub went : Program → (Name → ℤ) → List Answer → Stepped
-went p contents answers = Went (record { contents = contents; answers = answers; standing = standing_at (next p answers) Ready })
+went p contents answers =
+    Went (record { contents = contents; answers = answers; standing = standing_at (next p answers) Ready })
 
 abbrev pub act : Program → World → Next → Stepped
 act p w (Load cell place) = went p w.contents (w.answers ++ Loaded (w.contents cell) ∷ [])

@@ -1,9 +1,9 @@
 //! The error that the built form may have: that of its one operation, on single numbers.
 
 ghost use Rattle.std.specs.Prelude.{◌≡◌, IfOk, option_to_list};
-ghost use Rattle.tm_terms.specs.Names.{is_same_name};
 ghost use Rattle.analyser.specs.Form.{initial_among};
-ghost use Rattle.analyser.specs.Programs.{assignment_alarm, atom_value, body_alarm, global_value, operation_alarm, plain, task_alarm};
+ghost use Rattle.analyser.specs.reading.Programs.{assignment_alarm, atom_value, body_alarm, global_value};
+ghost use Rattle.analyser.specs.reading.Programs.{operation_alarm, plain, task_alarm};
 ghost use Rattle.analyser.specs.Runs.{binary_of};
 ghost use Rattle.analyser.specs.Answers.{IsLeastReport};
 
@@ -24,20 +24,13 @@ fn initial_value(global: &Global) -> i32
     }
 }
 
-/// Whether two names are the same.
-fn is_same(a: Name, b: Name) -> bool
-    ensures { result ≡ is_same_name a b }
-{
-    a.start == b.start && a.length == b.length
-}
-
 /// The initial value of the global of this name.
 fn initial_of(globals: &[Global], name: Name) -> i32
     ensures { result ≡ initial_among globals.now name }
 {
     let mut rest = globals;
     while let [first, more @ ..] = rest {
-        if is_same(first.name, name) {
+        if first.name == name {
             return initial_value(first);
         }
         rest = more;

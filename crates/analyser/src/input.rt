@@ -1,16 +1,16 @@
 //! The bytes of a source, read to their end or past the limit.
 
 ghost use Rattle.std.specs.Prelude.{◌≡◌, ◌≤◌, ◌<◌, ◌+◌, ◌⊎◌, [], IfOk, IsErrOf, IsFalse, IsTrue, OnOk, vec_len};
-ghost use Rattle.analyser.specs.Input.{ReadsMore};
+ghost use Rattle.analyser.specs.reading.Streams.{ReadsMore};
 ghost use Rattle.std.specs.Io.KnownBytes.{IsAtEnd, prepend_known};
 ghost use Rattle.tm_io.specs.Faults.{Rose};
-ghost use Rattle.tm_terms.specs.declared.limits.TheConstants.{SOURCE as SOURCE_LIMIT};
+ghost use Rattle.analyser.specs.Answers.{longest_source};
 
 use tm_io::{Failed, Source};
 use tm_terms::limits::SOURCE;
 
 /// Why the bytes of a source could not be had.
-#[derive(Clone, Copy, PartialEq, Eq, Debug)]
+#[derive(Clone, Copy)]
 pub enum InputError {
     /// The source failed.
     Failed,
@@ -26,11 +26,11 @@ const MOST: usize = SOURCE as usize + 1;
 
 /// Reads one piece more behind the bytes, and says whether the source has ended.
 fn read_piece<S: Source>(source: &mut S, bytes: &mut Vec<u8>) -> Result<bool, InputError>
-    requires { vec_len bytes.old ≤ SOURCE_LIMIT }
+    requires { vec_len bytes.old ≤ longest_source }
     ensures read { OnOk result (ReadsMore (S.left source.old) (S.left source.new) bytes.old.items bytes.new.items) }
     ensures end { IfOk result (λ ended. IsTrue ended → IsAtEnd (S.left source.new)) }
     ensures more { IfOk result (λ ended. IsFalse ended → vec_len bytes.old < vec_len bytes.new) }
-    ensures most { OnOk result (vec_len bytes.new ≤ SOURCE_LIMIT + 1) }
+    ensures most { OnOk result (vec_len bytes.new ≤ longest_source + 1) }
     ensures same { OnOk result (S.faults source.new ≡ S.faults source.old) }
     ensures failed { IsErrOf result InputError.Failed → Rose (S.faults source.old) (S.faults source.new) }
     ensures no_memory { IsErrOf result InputError.NoMemory → S.faults source.new ≡ S.faults source.old }
@@ -51,7 +51,7 @@ fn read_piece<S: Source>(source: &mut S, bytes: &mut Vec<u8>) -> Result<bool, In
 pub fn read_all<S: Source>(source: &mut S, bytes: &mut Vec<u8>) -> Result<(), InputError>
     requires { bytes.old.items ≡ [] }
     ensures read { OnOk result (S.left source.old ≡ prepend_known bytes.new.items (S.left source.new)) }
-    ensures end { OnOk result (IsAtEnd (S.left source.new) ⊎ (SOURCE_LIMIT < vec_len bytes.new)) }
+    ensures end { OnOk result (IsAtEnd (S.left source.new) ⊎ (longest_source < vec_len bytes.new)) }
     ensures same { OnOk result (S.faults source.new ≡ S.faults source.old) }
     ensures failed { IsErrOf result InputError.Failed → Rose (S.faults source.old) (S.faults source.new) }
     ensures no_memory { IsErrOf result InputError.NoMemory → S.faults source.new ≡ S.faults source.old }

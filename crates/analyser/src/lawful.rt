@@ -2,7 +2,7 @@
 
 ghost use Rattle.std.specs.Prelude.{◌≡◌, ◌↔◌, [], ◌∷◌, IfSome, IsTrue, option_map};
 ghost use Rattle.analyser.specs.Form.{AllDifferent, AssignsOnly, IsAmong, IsLawful, IsLawfulTask, UsesOnly};
-ghost use Rattle.analyser.specs.Programs.{atom_expr, names_of, plain, plain_assignment, plain_body, plain_task};
+ghost use Rattle.analyser.specs.reading.Programs.{atom_expr, names_of, plain, plain_assignment, plain_body, plain_task};
 
 use crate::programs::{Assignment, Atom, Global, Operation, Program, Task};
 use tm_terms::Name;

@@ -1,5 +1,5 @@
 /// An operator of the built form (C99 6.5.5, 6.5.6).
-#[derive(Clone, Copy, PartialEq, Eq, Debug)]
+#[derive(Clone, Copy)]
 pub enum Operator {
     /// `+`
     Plus,

@@ -4,7 +4,7 @@ use crate::operators::Operator;
 use tm_terms::{Name, Place};
 
 /// `= value` in a declaration, with the places of its `=` and its number.
-#[derive(Clone, Copy, PartialEq, Eq, Debug)]
+#[derive(Clone, Copy)]
 pub struct Initial {
     pub equal: Place,
     pub value: i32,
@@ -12,7 +12,7 @@ pub struct Initial {
 }
 
 /// `int name = value;`, or `int name;`
-#[derive(Clone, Copy, PartialEq, Eq, Debug)]
+#[derive(Clone, Copy)]
 pub struct Global {
     pub name: Name,
     pub place: Place,
@@ -20,14 +20,14 @@ pub struct Global {
 }
 
 /// A number or a global.
-#[derive(Clone, Copy, PartialEq, Eq, Debug)]
+#[derive(Clone, Copy)]
 pub enum Atom {
     Number { value: i32, place: Place },
     Variable { name: Name, place: Place },
 }
 
 /// An operator and its right operand.
-#[derive(Clone, Copy, PartialEq, Eq, Debug)]
+#[derive(Clone, Copy)]
 pub struct Operation {
     pub operator: Operator,
     pub place: Place,
@@ -35,7 +35,7 @@ pub struct Operation {
 }
 
 /// `target = left;` or `target = left operator right;`, with the places of its target and of its `=`.
-#[derive(Clone, Copy, PartialEq, Eq, Debug)]
+#[derive(Clone, Copy)]
 pub struct Assignment {
     pub target: Name,
     pub target_place: Place,
@@ -45,7 +45,7 @@ pub struct Assignment {
 }
 
 /// `__task(priority) void name(void) { body }`
-#[derive(Clone, Copy, PartialEq, Eq, Debug)]
+#[derive(Clone, Copy)]
 pub struct Task {
     pub priority: i32,
     pub priority_place: Place,

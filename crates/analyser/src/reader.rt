@@ -3,8 +3,8 @@
 ghost use Rattle.std.specs.Prelude.{◌≡◌, IfNone, IfOk, IfSome, map};
 ghost use Rattle.tm_trees.specs.FileTrees.{file_tree, item_tree};
 ghost use Rattle.analyser.specs.Form.{IsProgramOf, Program as PlainProgram};
-ghost use Rattle.analyser.specs.Programs.{plain};
-ghost use Rattle.analyser.specs.Reading.{globals_then};
+ghost use Rattle.analyser.specs.reading.Programs.{plain};
+ghost use Rattle.analyser.specs.reading.Readings.{globals_then};
 
 use crate::lawful::is_lawful;
 use crate::programs::{Global, Program};
@@ -32,7 +32,8 @@ fn read_globals(alloc: Heap, items: &[Item]) -> Result<(Vec<Global>, &[Item]), N
 /// The one program that the file is, where it is one of those that are analysed today.
 pub fn read_program(alloc: Heap, file: &File) -> Result<Option<Program>, NoMemory>
     ensures found { IfOk result (λ o. IfSome o (λ p. IsProgramOf (plain p) (file_tree file.now))) }
-    ensures only { IfOk result (λ o. (p : PlainProgram) → IsProgramOf p (file_tree file.now) → IfSome o (λ q. plain q ≡ p)) }
+    ensures only { IfOk result (λ o. (p : PlainProgram) → IsProgramOf p (file_tree file.now)
+        → IfSome o (λ q. plain q ≡ p)) }
     ensures none { IfOk result (λ o. IfNone o ((p : PlainProgram) → IsProgramOf p (file_tree file.now) → ⊥)) }
 {
     let (globals, rest) = read_globals(alloc, &file.items)?;

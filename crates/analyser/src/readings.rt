@@ -2,10 +2,13 @@
 
 ghost use Rattle.std.specs.Prelude.{◌≡◌, map, option_map};
 ghost use Rattle.tm_terms.specs.ExprTrees.{tree_of};
-ghost use Rattle.tm_trees.specs.DeclarationTrees.{declarator_tree, init_declarator_tree, initialiser_tree, specifier_tree, specifier_trees};
+ghost use Rattle.tm_trees.specs.DeclarationTrees.{declarator_tree, init_declarator_tree, initialiser_tree};
+ghost use Rattle.tm_trees.specs.DeclarationTrees.{specifier_tree, specifier_trees};
 ghost use Rattle.tm_trees.specs.FileTrees.{block_tree, item_tree, part_tree};
-ghost use Rattle.analyser.specs.Form.{declared_global, given_by, global_of, is_int, is_int_constant, is_int_specifier, is_int_word, named_global, number_of, operator_of, target_of};
-ghost use Rattle.analyser.specs.Reading.{atom_of, ending_of, global_then, operation_by, pair, short_assignment, short_body, short_task, short_tree, value_of};
+ghost use Rattle.analyser.specs.Form.{declared_global, given_by, global_of, is_int, is_int_constant, is_int_specifier};
+ghost use Rattle.analyser.specs.Form.{is_int_word, named_global, number_of, operator_of, target_of};
+ghost use Rattle.analyser.specs.reading.Readings.{atom_of, ending_of, global_then, operation_by, pair};
+ghost use Rattle.analyser.specs.reading.Readings.{short_assignment, short_body, short_task, short_tree, value_of};
 
 use crate::operators::Operator;
 use crate::programs::{Assignment, Atom, Global, Initial, Operation, Task};

@@ -2,11 +2,10 @@
 
 ghost use Rattle.std.specs.Prelude.{◌≡◌, ◌≤◌, IfOk, length, string_bytes};
 ghost use Rattle.tm_terms.specs.Texts.{refusal_text};
-ghost use Rattle.tm_terms.specs.declared.limits.TheConstants.{SOURCE as SOURCE_LIMIT};
 ghost use Rattle.tm_trees.specs.FileTrees.{file_tree};
-ghost use Rattle.analyser.specs.Answers.{HasAnswer, unbuilt};
-ghost use Rattle.analyser.specs.Replies.{AnswersFile, AnswersTokens, GivesReport};
-ghost use Rattle.analyser.specs.Programs.{plain};
+ghost use Rattle.analyser.specs.Answers.{HasAnswer, longest_source, unbuilt};
+ghost use Rattle.analyser.specs.reading.Replies.{AnswersFile, AnswersTokens, GivesReport};
+ghost use Rattle.analyser.specs.reading.Programs.{plain};
 
 use crate::faults::report_of;
 use crate::programs::Program;
@@ -102,7 +101,7 @@ fn reply_to(alloc: Heap, tokens: &[Token]) -> Result<Reply, NoMemory>
 
 /// The answer to a source that is not too long.
 pub fn answer_to(alloc: Heap, bytes: &[u8]) -> Result<Reply, NoMemory>
-    requires { length bytes.now ≤ SOURCE_LIMIT }
+    requires { length bytes.now ≤ longest_source }
     ensures { IfOk result (λ reply. HasAnswer bytes.now reply.status (string_bytes reply.text)) }
 {
     match lex(alloc, bytes) {

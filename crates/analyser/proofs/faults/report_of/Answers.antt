@@ -1,6 +1,6 @@
 use Rattle.std.proofs.Common.{◌∙◌, ap}
 use Rattle.std.specs.Prelude.{option_to_list}
-use Rattle.analyser.specs.Programs.{task_alarm}
+use Rattle.analyser.specs.reading.Programs.{task_alarm}
 use Rattle.analyser.proofs.LeastReport.{report_is_least}
 use Rattle.analyser.proofs.faults.report_of.Goals as goal
 

@@ -1,7 +1,7 @@
 use Rattle.std.proofs.Common.{length}
 use Rattle.std.specs.Prelude.{◌↔◌}
 use Rattle.analyser.specs.Form.{AllDifferent}
-use Rattle.analyser.specs.Programs.{names_of}
+use Rattle.analyser.specs.reading.Programs.{names_of}
 use Rattle.analyser.proofs.lawful.all_different.Given as goal
 
 abbrev pub invariant-loop-rest : goal.invariant-loop-rest

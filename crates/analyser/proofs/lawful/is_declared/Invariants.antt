@@ -1,7 +1,7 @@
 use Rattle.std.proofs.Common.{length}
 use Rattle.std.specs.Prelude.{◌↔◌}
 use Rattle.analyser.specs.Form.{IsAmong}
-use Rattle.analyser.specs.Programs.{names_of}
+use Rattle.analyser.specs.reading.Programs.{names_of}
 use Rattle.analyser.proofs.lawful.is_declared.Given as goal
 
 abbrev pub invariant-loop-rest : goal.invariant-loop-rest

@@ -1,7 +1,7 @@
 use Rattle.std.proofs.Common.{◌≡◌, ◌++◌, length}
 use Rattle.std.specs.Prelude.{map}
 use Rattle.tm_trees.specs.FileTrees.{item_tree}
-use Rattle.analyser.specs.Reading.{globals_then}
+use Rattle.analyser.specs.reading.Readings.{globals_then}
 use Rattle.analyser.proofs.reader.read_globals.Given as goal
 
 abbrev pub invariant-loop-global : goal.invariant-loop-global

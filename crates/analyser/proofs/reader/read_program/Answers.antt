@@ -1,11 +1,9 @@
-use Rattle.std.proofs.Common.{◌≡◌, ◌∙◌, ap, sym, subst, refl, false, List}
+use Rattle.std.proofs.Common.{◌∙◌, ap, sym, subst, refl, false, List}
 use Rattle.std.specs.Prelude.{IsTrue, map}
 use Rattle.tm_trees.specs.FileTrees.{item_tree, file_tree}
 use Rattle.tm_trees.specs.declared.files.Item.{Item}
-use Rattle.analyser.specs.declared.programs.Global.{Global}
-use Rattle.tm_trees.specs.FileTrees.{ItemTree}
 use Rattle.analyser.specs.Form.{IsLawful}
-use Rattle.analyser.specs.Reading.{globals_then}
+use Rattle.analyser.specs.reading.Readings.{globals_then}
 use Rattle.analyser.proofs.ReadBack.{program_found, program_none, program_only}
 use Rattle.analyser.proofs.reader.read_program.Goals as goal
 

@@ -1,9 +1,9 @@
-use Rattle.std.proofs.Common.{sym, ap, ◌∙◌, ◌≤◌, subst, length}
+use Rattle.std.proofs.Common.{sym, ap, ◌∙◌}
 use Rattle.std.specs.Prelude.{map}
 use Rattle.tm_trees.specs.FileTrees.{as_parts, part_tree}
 use Rattle.tm_trees.specs.declared.statements.BlockPart.{BlockPart}
 use Rattle.std.proofs.Common.{List}
-use Rattle.analyser.specs.Reading.{short_body}
+use Rattle.analyser.specs.reading.Readings.{short_body}
 use Rattle.analyser.proofs.ReadBack.{many_parts}
 use Rattle.analyser.proofs.readings.body.Goals as goal
 

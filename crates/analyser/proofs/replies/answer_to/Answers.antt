@@ -1,7 +1,7 @@
 use Rattle.std.proofs.Common.{subst}
 use Rattle.std.specs.Prelude.{string_bytes}
 use Rattle.analyser.specs.Answers.{not_lexed}
-use Rattle.analyser.specs.Replies.{AnswersTokens}
+use Rattle.analyser.specs.reading.Replies.{AnswersTokens}
 use Rattle.analyser.proofs.AnswerLemmas.{if_ok_by, if_ok_both, tokens_answered, refusal_answered}
 use Rattle.analyser.proofs.replies.answer_to.Goals as goal
 

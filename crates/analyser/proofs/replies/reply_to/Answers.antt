@@ -1,4 +1,3 @@
-use Rattle.std.proofs.Common.{subst}
 use Rattle.std.specs.Prelude.{string_bytes}
 use Rattle.tm_trees.specs.FileTrees.{file_tree}
 use Rattle.analyser.proofs.AnswerLemmas.{if_ok_by, if_ok_both, file_answered, long_answered, parse_refused}

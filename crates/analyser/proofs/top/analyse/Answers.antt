@@ -1,4 +1,4 @@
-use Rattle.std.proofs.Common.{refl, inr, ◌∙◌}
+use Rattle.std.proofs.Common.{refl, ◌∙◌}
 use Rattle.analyser.proofs.AnswerLemmas.{words_front, accepted_reported, refused_refused, usage_answered, usage_front, not_analyse, as_usage}
 use Rattle.analyser.proofs.top.analyse.Goals as goal
 
@@ -20,5 +20,4 @@ returns-else-is_analyse-clause-headline g c h =
 
 pub returns-else-is_analyse-clause-front : goal.returns-else-is_analyse-clause-front
 returns-else-is_analyse-clause-front g c =
-    inr (usage_front _ _ _ _ c.as_bytes.result.now c.send.ensures.front.0 c.send.ensures.front.1
-    (not_analyse _ c.if-is_analyse.ensures) (c.as_bytes.ensures.value ∙ c.usage_line.ensures) c.send.ensures.front.2 c.send.ensures.front.3)
+    usage_front _ _ _ _ c.as_bytes.result.now (not_analyse _ c.if-is_analyse.ensures) (c.as_bytes.ensures.value ∙ c.usage_line.ensures) c.send.ensures.front

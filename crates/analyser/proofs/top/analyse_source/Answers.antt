@@ -1,4 +1,4 @@
-use Rattle.std.proofs.Common.{subst, inr}
+use Rattle.std.proofs.Common.{subst}
 use Rattle.std.specs.Prelude.{string_bytes}
 use Rattle.analyser.specs.Answers.{HasAnswer}
 use Rattle.analyser.proofs.AnswerLemmas.{known, past_limit, sent_whole, sent_front}
@@ -14,9 +14,8 @@ returns-in-Ok-reply_or_limit-clause-whole g c h =
 
 pub returns-in-Ok-reply_or_limit-clause-front : goal.returns-in-Ok-reply_or_limit-clause-front
 returns-in-Ok-reply_or_limit-clause-front g c =
-    inr (sent_front _ _ _ c.in-Ok-reply_or_limit.reply.status (string_bytes c.in-Ok-reply_or_limit.reply.text) c.as_bytes.result.now
-    c.send.ensures.front.0 c.send.ensures.front.1
+    sent_front _ _ _ c.in-Ok-reply_or_limit.reply.status (string_bytes c.in-Ok-reply_or_limit.reply.text) c.as_bytes.result.now
     (known _ c.read_all.new.bytes.items _ _ _ c.in-Ok.ensures.read
     (past_limit _ _ _ c.read_all.new.bytes.ok.0 c.in-Ok.ensures.end)
     (subst (λ b. HasAnswer b c.in-Ok-reply_or_limit.reply.status (string_bytes c.in-Ok-reply_or_limit.reply.text)) c.deref.ensures.value c.in-Ok-reply_or_limit.ensures))
-    c.as_bytes.ensures.value c.send.ensures.front.2 c.send.ensures.front.3)
+    c.as_bytes.ensures.value c.send.ensures.front

@@ -1,19 +1,21 @@
 -- The parts of an answer, as the code makes them.
-use Rattle.std.specs.Prelude.{◌≡◌, ℕ, List, [], Option}
+use Rattle.std.specs.Prelude.{◌≡◌, ℕ, List, []}
 use Rattle.tm_terms.specs.declared.alarms.Alarm.{Alarm}
 use Rattle.tm_terms.specs.declared.refusals.Refusal.{Refusal}
 use Rattle.tm_terms.specs.declared.tokens.Token.{Token}
 use Rattle.tm_terms.specs.Texts.{report_text, refusal_text}
 use Rattle.tm_trees.specs.FileTrees.{ItemTree}
 use Rattle.analyser.specs.declared.statuses.Status.{Status}
-use Rattle.analyser.specs.declared.statuses.Status.TheVariants.{NoAlarm, Alarms, Refused, Usage, ReadFault, WriteFault, NoMemory}
+use Rattle.analyser.specs.declared.statuses.Status.TheVariants.{NoAlarm, Alarms, Refused, Usage, ReadFault, WriteFault}
+use Rattle.analyser.specs.declared.statuses.Status.TheVariants.{NoMemory}
 use Rattle.analyser.specs.Form.{Program, IsProgramOf, IsProgram}
-use Rattle.analyser.specs.Answers.{HasAlarm, HasAnswer, IsLeastReport, IsRefusedAs, TakesWhole, TakesPart, unbuilt}
+use Rattle.analyser.specs.Answers.{HasAlarm, IsLeastReport, IsRefusedAs, unbuilt}
 
 -- the text and the status of the report of a program
 abbrev pub GivesReport : Program → Status → List ℕ → Type 0
 GivesReport p NoAlarm text = IsLeastReport p [] × (text ≡ report_text [])
-GivesReport p Alarms text = (report : List Alarm) × HasAlarm report × IsLeastReport p report × (text ≡ report_text report)
+GivesReport p Alarms text =
+    (report : List Alarm) × HasAlarm report × IsLeastReport p report × (text ≡ report_text report)
 GivesReport p Refused text = ⊥
 GivesReport p Usage text = ⊥
 GivesReport p ReadFault text = ⊥
@@ -29,10 +31,3 @@ AnswersTokens tokens status text = (p : Program) × IsProgram p tokens × GivesR
 abbrev pub AnswersFile : List ItemTree → Status → List ℕ → Type 0
 AnswersFile items Refused text = ((p : Program) → IsProgramOf p items → ⊥) × (text ≡ refusal_text unbuilt)
 AnswersFile items status text = (p : Program) × IsProgramOf p items × GivesReport p status text
-
--- the sink has taken the whole answer to the bytes of the source, or a front of it
-abbrev pub AnswersSource : Option (List ℕ) → Option (List ℕ) → Option (List ℕ) → Status → Type 0
-AnswersSource left taken taken' status = TakesWhole HasAnswer left taken taken' status
-
-abbrev pub TakesAnswerFront : Option (List ℕ) → Option (List ℕ) → Option (List ℕ) → Type 0
-TakesAnswerFront left taken taken' = TakesPart HasAnswer left taken taken'

@@ -12,7 +12,8 @@ use Rattle.tm_cint.specs.declared.Class.{Class}
 use Rattle.tm_terms.specs.declared.places.Place.{Place}
 use Rattle.tm_terms.specs.declared.alarms.Alarm.{Alarm}
 use Rattle.analyser.specs.Runs.{result_of}
-use Rattle.analyser.specs.Form.{initial_among, initial_value, Expr, Number, Variable, Operation, Assignment, Task, Program}
+use Rattle.analyser.specs.Form.{initial_among, initial_value, Expr, Number, Variable, Operation, Assignment, Task}
+use Rattle.analyser.specs.Form.{Program}
 
 abbrev pub atom_expr : Atom → Expr
 atom_expr (Atoms.Number v p) = Number v p

@@ -39,7 +39,8 @@ value_of (an_infix l op p r) = operation_by op p (atom_of l) (atom_of r)
 value_of t = single (atom_of t)
 
 abbrev pub short_assigned : Option (Name × Place) → Place → Option (Atom × Option Operation) → Option Assignment
-short_assigned (Some x) q (Some v) = Some (record { target = x.0; target_place = x.1; place = q; left = v.0; operation = v.1 })
+short_assigned (Some x) q (Some v) =
+    Some (record { target = x.0; target_place = x.1; place = q; left = v.0; operation = v.1 })
 short_assigned _ q _ = None
 
 abbrev pub short_tree : Tree → Option Assignment
@@ -61,7 +62,8 @@ short_body (and_part part no_parts) = some_body (short_assignment part)
 short_body _ = None
 
 abbrev pub short_with : Option (ℤ × Place) → Name → Place → Option (Option Assignment) → Option Task
-short_with (Some x) n q (Some body) = Some (record { priority = x.0; priority_place = x.1; name = n; name_place = q; body = body })
+short_with (Some x) n q (Some body) =
+    Some (record { priority = x.0; priority_place = x.1; name = n; name_place = q; body = body })
 short_with _ n q _ = None
 
 abbrev pub short_task : ItemTree → Option Task

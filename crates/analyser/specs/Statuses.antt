@@ -1,0 +1,43 @@
+-- How a call of the program ends.
+use Rattle.std.specs.Prelude.{◌≡◌, ℕ, ◌⊎◌}
+use Rattle.analyser.specs.declared.statuses.Status.{Status}
+use Rattle.analyser.specs.declared.statuses.Status.TheVariants.{NoAlarm, Alarms, Refused, Usage, ReadFault}
+use Rattle.analyser.specs.declared.statuses.Status.TheVariants.{WriteFault, NoMemory}
+
+-- the number with which the program ends
+abbrev pub status_number : Status → ℕ
+status_number NoAlarm = 0
+status_number Alarms = 1
+status_number Refused = 2
+status_number Usage = 3
+status_number ReadFault = 4
+status_number WriteFault = 5
+status_number NoMemory = 6
+
+-- the statuses that come with a whole text
+abbrev pub IsWhole : Status → Type 0
+IsWhole NoAlarm = Unit {0}
+IsWhole Alarms = Unit {0}
+IsWhole Refused = Unit {0}
+IsWhole Usage = Unit {0}
+IsWhole ReadFault = ⊥
+IsWhole WriteFault = ⊥
+IsWhole NoMemory = ⊥
+
+-- a stop without a whole text
+abbrev pub IsStop : Status → Type 0
+IsStop NoAlarm = ⊥
+IsStop Alarms = ⊥
+IsStop Refused = ⊥
+IsStop Usage = ⊥
+IsStop ReadFault = Unit {0}
+IsStop WriteFault = Unit {0}
+IsStop NoMemory = Unit {0}
+
+-- a stop that is not the source's
+abbrev pub IsSinkStop : Status → Type 0
+IsSinkStop status = (status ≡ WriteFault) ⊎ (status ≡ NoMemory)
+
+-- the statuses that come with a report
+abbrev pub IsReported : Status → Type 0
+IsReported status = (status ≡ NoAlarm) ⊎ (status ≡ Alarms)
