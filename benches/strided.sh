@@ -1,14 +1,12 @@
-#!/bin/sh
+#!/usr/bin/env bash
 # Times 10^7 calls of hull, meet and round of strided sets, beside the same operations on plain intervals of i128.
-# The program is made, proved and built in a temporary folder. Run it at the top of the repository.
+# The program is made, proved and built in a temporary folder.
 set -eu
-top=$(pwd)
+top=$(readlink -f "$(dirname "${BASH_SOURCE[0]}")/..")
+. "$top/benches/copies.sh"
 work=$(mktemp -d)
 trap 'rm -rf "$work"' EXIT
-mkdir -p "$work/crates/speed/src"
-cp -r "$top/crates/strided_dom" "$work/crates/strided_dom"
-rm -rf "$work/crates/strided_dom/out"
-printf 'strided_dom:\nspeed: strided_dom\n' > "$work/crates.txt"
+copy_crates "$top" "$work" strided_dom
 cat > "$work/crates/speed/src/main.rt" <<'PROGRAM'
 #![tactic(auto)]
 
@@ -132,8 +130,5 @@ fn main(rt: HostRuntime) -> anyhow::Result<()> {
     Ok(())
 }
 PROGRAM
-printf 'strided_dom:\nspeed: strided_dom anyhow\n' > "$work/crates.txt"
-cd "$work/crates/strided_dom"
-rt lib > /dev/null
 cd "$work/crates/speed"
 rt run

@@ -1,23 +1,12 @@
-#!/bin/sh
+#!/usr/bin/env bash
 # Times 10^7 calls of `binary`, of operators in turn and of each alone, beside the same operators on plain intervals of i128.
-# The program is made, proved and built in a temporary folder. Run it at the top of the repository.
+# The program is made, proved and built in a temporary folder.
 set -eu
-top=$(pwd)
+top=$(readlink -f "$(dirname "${BASH_SOURCE[0]}")/..")
+. "$top/benches/copies.sh"
 work=$(mktemp -d)
 trap 'rm -rf "$work"' EXIT
-mkdir -p "$work/crates/speed/src"
-for crate in tm_cint strided_dom interval_dom congruence_dom transfer_int; do
-    cp -r "$top/crates/$crate" "$work/crates/$crate"
-    rm -rf "$work/crates/$crate/out"
-done
-cat > "$work/crates.txt" <<'CRATES'
-tm_cint:
-strided_dom:
-interval_dom:
-congruence_dom:
-transfer_int: tm_cint strided_dom interval_dom congruence_dom
-speed: tm_cint strided_dom transfer_int anyhow
-CRATES
+copy_crates "$top" "$work" tm_cint strided_dom transfer_int
 cat > "$work/crates/speed/src/main.rt" <<'PROGRAM'
 #![tactic(auto)]
 
@@ -180,9 +169,5 @@ fn main(rt: HostRuntime) -> anyhow::Result<()> {
     Ok(())
 }
 PROGRAM
-for crate in tm_cint strided_dom interval_dom congruence_dom transfer_int; do
-    cd "$work/crates/$crate"
-    rt lib > /dev/null
-done
 cd "$work/crates/speed"
 rt run

@@ -1,1 +1,2 @@
 pub mod Empties
+pub mod Parting

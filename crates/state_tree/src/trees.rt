@@ -1,37 +1,73 @@
-//! Tables that share their entries until one of them changes.
-ghost use Rattle.std.specs.Prelude.{◌≡◌, ◌≢◌, ◌↔◌, IsTrue, IfOk, OnOk, OnErr, MatchBool, MatchOption};
+//! Tables in parts that are shared one by one.
+ghost use Rattle.std.specs.Prelude.{◌≡◌, ◌≢◌, ◌↔◌, [], ◌∷◌, ◌<◌, ◌^◌, IsTrue, IfOk, OnOk, OnErr, MatchBool};
+ghost use Rattle.std.specs.Prelude.{MatchOption};
 ghost use Rattle.std.specs.Option.{option_copied};
 ghost use Rattle.std.specs.FinMap as map;
 ghost use Rattle.tm_lattice.specs.Tables.{IsTableBelow, IsPast, IsNext, with_entry, joined_table, selected_table};
+ghost use Rattle.state_tree.specs.reading.Parts.{part_of, part_at};
 
+use crate::tables::SharedTable;
 use std::alloc::Global;
 use std::marker::Model;
-use std::sync::Arc;
-use tm_lattice::{Keyed, Lattice, NoMemory};
+use tm_lattice::{Lattice, NoMemory};
 
-/// A finite table from numbers to values of a lattice, as a keyed table is, whose copies share the entries.
+/// A finite table from numbers to values of a lattice, as a keyed table is, whose copies share what they do not change.
 ///
-/// One counted pointer holds all entries, None where there was none yet: a copy takes constant time, and a change
-/// copies the entries once. A tree whose parts are shared can stand behind the same calls.
+/// Its entries stand in parts of 64 keys, each behind a counted pointer, and the parts behind one more: a copy takes
+/// constant time, and a change copies one part and the pointers to the others.
 #[derive(Drop)]
 pub struct Tree<V: Lattice> {
     alloc: Global,
-    entries: Option<Arc<Keyed<V>>>,
+    parts: SharedTable<SharedTable<V>>,
 }
 
 impl<V: Lattice> Model for Tree<V> {
-    ghost use Rattle.std.specs.Arc.{arc_value};
     ghost use Rattle.std.specs.Coded.{coded_ℕ};
     ghost use Rattle.std.specs.FinMap as map;
-    ghost use Rattle.std.specs.Option.{option_map};
     ghost use Rattle.std.specs.Ordering.{nat_cmp};
-    ghost use Rattle.std.specs.Prelude.{unwrap_or};
+    ghost use Rattle.state_tree.specs.reading.Parts.{together, IsParted};
 
     ghost Value = { map.FinMap nat_cmp V };
 
     ghost coded = { map.code coded_ℕ V.code };
 
-    ghost view = { λ a. unwrap_or (option_map arc_value a.entries) map.empty };
+    ghost view = { λ t. together t.parts };
+
+    ghost invariant = { λ t. IsParted t.parts };
+}
+
+// The part in which a key stands: 64 keys are together.
+#[tactic(auto, unfolding(crate::specs::reading::Parts::part_of))]
+fn part_of(key: u32) -> u32
+    ensures value { result ≡ part_of key }
+    ensures bound { result < 2 ^ 26 }
+{
+    key / 64
+}
+
+// The part in which a key stands, empty where it is not there.
+fn part_at<V: Lattice>(
+    alloc: Global,
+    parts: &SharedTable<SharedTable<V>>,
+    key: u32,
+) -> Result<SharedTable<V>, NoMemory>
+    ensures { IfOk result (λ part. part ≡ part_at parts.now key) }
+{
+    match parts.get(part_of(key)) {
+        None => Ok(SharedTable::new(alloc)),
+        Some(part) => part.shared(),
+    }
+}
+
+// The entry with the least key of those from the given one on, in its part.
+fn entry_of_part<V: Lattice>(parts: &SharedTable<SharedTable<V>>, key: u32) -> Option<(u32, &V)>
+    ensures { MatchOption result (IsPast (part_at parts.now key) key)
+        (λ entry. IsNext (part_at parts.now key) key entry.0 entry.1.now) }
+{
+    match parts.get(part_of(key)) {
+        None => None,
+        Some(part) => part.entry_from(key),
+    }
 }
 
 impl<V: Lattice> Tree<V> {
@@ -41,35 +77,17 @@ impl<V: Lattice> Tree<V> {
     {
         Tree {
             alloc,
-            entries: None,
+            parts: SharedTable::new(alloc),
         }
-    }
-
-    /// The table with the entries of a keyed one.
-    pub fn from_keyed(alloc: Global, entries: Keyed<V>) -> Result<Self, NoMemory>
-        ensures { IfOk result (λ tree. tree ≡ entries) }
-    {
-        let entries = Some(Arc::new(alloc, entries)?);
-        Ok(Tree { alloc, entries })
     }
 
     /// What stands at a key: None exactly where the key is absent.
     pub fn get(&self, key: u32) -> Option<&V>
         ensures { option_copied result ≡ map.get self.now key }
     {
-        match &self.entries {
+        match self.parts.get(part_of(key)) {
             None => None,
-            Some(entries) => entries.get(key),
-        }
-    }
-
-    /// The entries, in the order of their keys.
-    pub fn entries(&self) -> &[(u32, V)]
-        ensures { result.now ≡ map.entries self.now }
-    {
-        match &self.entries {
-            None => &[],
-            Some(entries) => entries.entries(),
+            Some(part) => part.get(key),
         }
     }
 
@@ -77,9 +95,15 @@ impl<V: Lattice> Tree<V> {
     pub fn entry_from(&self, key: u32) -> Option<(u32, &V)>
         ensures { MatchOption result (IsPast self.now key) (λ entry. IsNext self.now key entry.0 entry.1.now) }
     {
-        match &self.entries {
+        // The call tells that no part is empty.
+        let _empty = Lattice::is_nothing(&self.parts);
+        let next = entry_of_part(&self.parts, key);
+        if next.is_some() {
+            return next;
+        }
+        match self.parts.entry_from(part_of(key) + 1) {
             None => None,
-            Some(entries) => entries.entry_from(key),
+            Some((_, part)) => part.entry_from(0),
         }
     }
 
@@ -90,10 +114,9 @@ impl<V: Lattice> Tree<V> {
         ensures written { OnOk result ((V.nothing value → ⊥) → self.new ≡ map.insert self.old key value) }
         ensures err { OnErr result (self.new ≡ self.old) }
     {
-        let mut own = self.own_entries()?;
-        own.put(key, value)?;
-        self.entries = Some(Arc::new(self.alloc, own)?);
-        Ok(())
+        let mut part = part_at(self.alloc, &self.parts, key)?;
+        part.put(key, value)?;
+        self.parts.put(part_of(key), part)
     }
 
     /// Takes the entry at a key away, if there is one. After want of memory the table is as before.
@@ -101,10 +124,9 @@ impl<V: Lattice> Tree<V> {
         ensures ok { OnOk result (self.new ≡ map.remove self.old key) }
         ensures err { OnErr result (self.new ≡ self.old) }
     {
-        let mut own = self.own_entries()?;
-        own.remove(key);
-        self.entries = Some(Arc::new(self.alloc, own)?);
-        Ok(())
+        let mut part = part_at(self.alloc, &self.parts, key)?;
+        part.remove(key)?;
+        self.parts.put(part_of(key), part)
     }
 
     /// Joins a value to what stands at a key. True exactly where that rose; after want of memory the table is as
@@ -116,9 +138,11 @@ impl<V: Lattice> Tree<V> {
         ensures rose { IfOk result (λ rose. MatchBool rose (self.new ≢ self.old) (self.new ≡ self.old)) }
         ensures err { OnErr result (self.new ≡ self.old) }
     {
-        let mut own = self.own_entries()?;
-        let rose = own.join_at(key, value)?;
-        self.entries = Some(Arc::new(self.alloc, own)?);
+        let mut part = part_at(self.alloc, &self.parts, key)?;
+        let rose = part.join_at(key, value)?;
+        if rose {
+            self.parts.put(part_of(key), part)?;
+        }
         Ok(rose)
     }
 
@@ -133,9 +157,30 @@ impl<V: Lattice> Tree<V> {
         requires { V.is_marks marks.now }
         ensures { IfOk result (λ outer. outer ≡ selected_table (V.rounded marks.now) keys.now self.now) }
     {
-        let none = Keyed::new(alloc);
-        let outer = self.keyed(&none).rounded_at(alloc, keys, marks)?;
-        Ok(Tree::from_keyed(alloc, outer)?)
+        // The call tells that the entries are values.
+        let _empty = self.is_nothing();
+        let mut outer = self.copied(alloc)?;
+        for key in keys {
+            outer.round_entry(alloc, *key, marks)?;
+        }
+        Ok(outer)
+    }
+
+    // Rounds what stands at a key.
+    fn round_entry(&mut self, alloc: Global, key: u32, marks: &V::Marks) -> Result<(), NoMemory>
+        requires { V.is_marks marks.now }
+        ensures { OnOk result (self.new ≡ selected_table (V.rounded marks.now) (key ∷ []) self.old) }
+    {
+        // The call tells that the entries are values.
+        let _empty = self.is_nothing();
+        let Some(value) = self.get(key) else {
+            return Ok(());
+        };
+        let outer = value.round(alloc, marks)?;
+        if outer.below(value) {
+            return Ok(());
+        }
+        self.put(key, outer)
     }
 
     /// An equal table, which shares the entries. It takes constant time.
@@ -157,25 +202,6 @@ impl<V: Lattice> Tree<V> {
         ensures { IsTrue result ↔ IsTableBelow V.leq self.now other.now }
     {
         Lattice::below(self, other)
-    }
-
-    // The entries as a keyed table, the given one where there are none.
-    fn keyed<'a>(&'a self, none: &'a Keyed<V>) -> &'a Keyed<V>
-        requires { none.now ≡ map.empty }
-        ensures { result.now ≡ self.now }
-    {
-        match &self.entries {
-            None => none,
-            Some(entries) => &**entries,
-        }
-    }
-
-    // A copy of the entries.
-    fn own_entries(&self) -> Result<Keyed<V>, NoMemory>
-        ensures { IfOk result (λ own. own ≡ self.now) }
-    {
-        let none = Keyed::new(self.alloc);
-        self.keyed(&none).copied(self.alloc)
     }
 }
 
@@ -199,44 +225,35 @@ impl<V: Lattice> Lattice for Tree<V> {
     ghost nothing = { λ t. t ≡ map.empty };
 
     fn is_nothing(&self) -> bool {
-        match &self.entries {
-            None => true,
-            Some(entries) => entries.is_nothing(),
-        }
+        self.parts.is_nothing()
     }
 
     fn below(&self, other: &Self) -> bool {
-        match (&self.entries, &other.entries) {
-            (None, _) => true,
-            (Some(one), None) => one.is_nothing(),
-            (Some(one), Some(other)) => Lattice::below(&**one, &**other),
-        }
+        // The calls tell that no part is empty.
+        let _empty = Lattice::is_nothing(&self.parts);
+        let _none = Lattice::is_nothing(&other.parts);
+        Lattice::below(&self.parts, &other.parts)
     }
 
     fn join(&self, alloc: Global, other: &Self) -> Result<Self, NoMemory> {
-        let entries = match (&self.entries, &other.entries) {
-            (None, None) => None,
-            (None, Some(other)) => Some(Arc::try_clone(other)?),
-            (Some(one), None) => Some(Arc::try_clone(one)?),
-            (Some(one), Some(other)) => Some(Arc::new(alloc, one.join(alloc, &**other)?)?),
-        };
-        Ok(Tree { alloc, entries })
+        Ok(Tree {
+            alloc,
+            parts: self.parts.join(alloc, &other.parts)?,
+        })
     }
 
     fn round(&self, alloc: Global, marks: &V::Marks) -> Result<Self, NoMemory> {
-        let entries = match &self.entries {
-            None => None,
-            Some(entries) => Some(Arc::new(alloc, entries.round(alloc, marks)?)?),
-        };
-        Ok(Tree { alloc, entries })
+        Ok(Tree {
+            alloc,
+            parts: self.parts.round(alloc, marks)?,
+        })
     }
 
     fn copied(&self, alloc: Global) -> Result<Self, NoMemory> {
-        let entries = match &self.entries {
-            None => None,
-            Some(entries) => Some(Arc::try_clone(entries)?),
-        };
-        Ok(Tree { alloc, entries })
+        Ok(Tree {
+            alloc,
+            parts: self.parts.copied(alloc)?,
+        })
     }
 
     ghost order = { table_order V.is_value V.is_marks V.leq V.joined V.rounded V.nothing

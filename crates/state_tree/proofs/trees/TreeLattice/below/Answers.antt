@@ -1,21 +1,17 @@
-use Rattle.std.proofs.Common.{◌∙◌, sym, subst, refl}
+use Rattle.std.proofs.Common.{sym, subst}
 use Rattle.tm_lattice.specs.Tables.{IsTableBelow}
-use Rattle.state_tree.proofs.Empties.{empty_below, below_empty, is_empty_below}
+use Rattle.state_tree.specs.reading.Parts.{together}
+use Rattle.state_tree.proofs.Parting.{together_below, below_together, have_parts}
 use Rattle.state_tree.proofs.trees.TreeLattice.below.Goals as goal
 
-pub returns-in-None-default : goal.returns-in-None-default
-returns-in-None-default g c =
+pub returns : goal.returns
+returns g c =
     let leq = g.V.Lattice.leq in
-    let none = rw c.in-None-default.is-0 at c.self.view_is in
-    (λ yes. subst (λ t. IsTableBelow leq t c.args.other.now) none (empty_below leq c.args.other.now), λ below. refl)
-
-pub returns-in-Some-None : goal.returns-in-Some-None
-returns-in-Some-None g c =
-    let leq = g.V.Lattice.leq in
-    let self_is = rw c.in-Some-None.is-0 at c.self.view_is in
-    let none = rw c.in-Some-None.is-1 at c.other.view_is in (
-      λ yes. subst (λ t. IsTableBelow leq c.args.self.now t) none
-          (is_empty_below leq c.args.self.now (sym self_is ∙ sym c.deref.ensures ∙ c.is_nothing.ensures.nothing.0 yes)),
-      λ below. c.is_nothing.ensures.nothing.1
-          (c.deref.ensures ∙ self_is ∙ below_empty leq c.args.self.now (subst (λ t. IsTableBelow leq c.args.self.now t) (sym none) below)),
+    let one = c.self.inside.parts in
+    let other = c.other.inside.parts in
+    let parts = have_parts g.V.Lattice.is_value g.V.Lattice.nothing one c.is_nothing-empty.ensures.value in (
+      λ yes. subst (λ s. IsTableBelow leq s c.args.other.now) c.self.view_is (subst (IsTableBelow leq (together one)) c.other.view_is
+          (together_below leq one other c.self.invariant c.other.invariant (c.below.ensures.0 yes))),
+      λ le. c.below.ensures.1 (below_together leq one other c.self.invariant c.other.invariant parts
+          (subst (λ s. IsTableBelow leq s (together other)) (sym c.self.view_is) (subst (IsTableBelow leq c.args.self.now) (sym c.other.view_is) le))),
     )

@@ -1,17 +1,13 @@
-use Rattle.std.proofs.Common.{◌∙◌, sym, ap}
+use Rattle.std.proofs.Common.{◌∙◌, sym, subst, ap}
 use Rattle.tm_lattice.specs.Tables.{rounded_table}
-use Rattle.state_tree.proofs.Empties.{rounded_empty}
+use Rattle.state_tree.specs.reading.Parts.{IsParted, together}
+use Rattle.state_tree.proofs.Parting.{parted_rounded, together_rounded}
 use Rattle.state_tree.proofs.trees.TreeLattice.round.Goals as goal
-use Rattle.state_tree.proofs.trees.TreeLattice.round.Goals.{in-None, in-Some+in_ok-round-in-Some+in_ok-new-in-Some}
+
+pub invariant_of-result : goal.invariant_of-result
+invariant_of-result g c = subst IsParted (sym c.in_ok-round.ensures) (parted_rounded (g.V.Lattice.rounded c.args.marks.now) c.self.inside.parts c.self.invariant)
 
 pub returns : goal.returns
 returns g c =
     let round = g.V.Lattice.rounded c.args.marks.now in
-    elim c.match-self.branch [
-      | in-None w ↦
-          let none = rw w.in-None.is at c.self.view_is in
-          rw w.entries-is (sym (rounded_empty round) ∙ ap (rounded_table round) none)
-      | in-Some+in_ok-round-in-Some+in_ok-new-in-Some w ↦
-          let self_is = rw w.in-Some.is at c.self.view_is in
-          rw w.entries-is (w.in_ok-new-in-Some.ensures.ok ∙ w.in_ok-round-in-Some.ensures ∙ ap (rounded_table round) (w.deref.ensures ∙ self_is))
-    ]
+    ap together c.in_ok-round.ensures ∙ together_rounded round c.self.inside.parts c.self.invariant ∙ ap (rounded_table round) c.self.view_is
