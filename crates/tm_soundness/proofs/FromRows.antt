@@ -111,7 +111,10 @@ module _ (P : Shape) (D : Domain P) (F : Finders P D) (laws : IsDomain P D) (fin
       }
 
   locals_in : (e : P.Edge) (s : S) (ρ : P.Valuation) → table (P.from e) ≡ Some s → HasLocals P Q e ρ → LocalsIn P D F e s ρ
-  locals_in e s ρ here locals u x live copied mine = own_from (P.from e) s here x (P.value_of ρ u) (locals u x (copy_up (P.from e) s here u x live copied) mine)
+  locals_in e s ρ here locals = record {
+    own = λ u x live copied mine. own_from (P.from e) s here x (P.value_of ρ u) (locals.own u x (copy_up (P.from e) s here u x live copied) mine);
+    agree = λ t u x live live' copied copied' mine. locals.agree t u x (copy_up (P.from e) s here t x live copied) (copy_up (P.from e) s here u x live' copied') mine;
+  }
 
   calc_covers : (e : P.Edge) (ρ ρ' : P.Valuation) → P.operation e ≡ calculation → IsInside P D F table (P.from e) ρ → HasLocals P Q e ρ → P.does e ρ ρ' → CoversCalc P Q e ρ ρ'
   calc_covers e ρ ρ' is inside locals does =

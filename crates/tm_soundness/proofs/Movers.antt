@@ -32,12 +32,26 @@ module _ (P : Shape) (T : Tables P) where
 
   -- what the copies of own local cells have, lies in the own values of these cells
   pub has_locals : IsShaped P → (κ : P.Cell → Content P.Value) (last : Writers P) (e : P.Edge) (ρ : P.Valuation) (st : Status P.Mutex) → IsGood P T κ last (P.actor e) (at P (P.from e) ρ st) → HasLocals P T e ρ
-  has_locals shape κ last e ρ st good t x copied mine =
-      let c : P.Cell = (shape.some_cell x (P.actor e) mine).0 in
-      let is : P.abstract_cell c ≡ x = (shape.some_cell x (P.actor e) mine).1 in
-      let local : IsLocal P T (P.from e) ρ (P.abstract_cell c) (κ c) = good.locals c (subst (λ y. P.owned y (P.actor e)) (sym is) mine) in
-      let same : κ c ≡ given (P.value_of ρ t) = local.copies t (subst (λ y. T.copy (P.from e) t y) (sym is) copied) in
-      subst (λ y. T.own (P.from e) y (P.value_of ρ t)) is (local.reads (P.value_of ρ t) (subst (λ k. Reads P (P.abstract_cell c) k (P.value_of ρ t)) (sym same) reads_given))
+  has_locals shape κ last e ρ st good = record {
+    own = λ t x copied mine.
+        (let c : P.Cell = (shape.some_cell x (P.actor e) mine).0 in
+        let is : P.abstract_cell c ≡ x = (shape.some_cell x (P.actor e) mine).1 in
+        let same : κ c ≡ given (P.value_of ρ t) = is_content c x t is copied mine in
+        subst (λ y. T.own (P.from e) y (P.value_of ρ t)) is ((local c x is mine).reads (P.value_of ρ t) (subst (λ k. Reads P (P.abstract_cell c) k (P.value_of ρ t)) (sym same) reads_given)));
+    agree = λ t u x copied copied' mine.
+        (let c : P.Cell = (shape.some_cell x (P.actor e) mine).0 in
+        let is : P.abstract_cell c ≡ x = (shape.some_cell x (P.actor e) mine).1 in
+        one_value (P.value_of ρ t) (P.value_of ρ u) (sym (is_content c x t is copied mine) ∙ is_content c x u is copied' mine));
+  }
+    where
+      local : (c : P.Cell) (x : P.AbstractCell) → P.abstract_cell c ≡ x → P.owned x (P.actor e) → IsLocal P T (P.from e) ρ (P.abstract_cell c) (κ c)
+      local c x is mine = good.locals c (subst (λ y. P.owned y (P.actor e)) (sym is) mine)
+
+      is_content : (c : P.Cell) (x : P.AbstractCell) (t : P.Temporary) → P.abstract_cell c ≡ x → T.copy (P.from e) t x → P.owned x (P.actor e) → κ c ≡ given (P.value_of ρ t)
+      is_content c x t is copied mine = (good.locals c (subst (λ y. P.owned y (P.actor e)) (sym is) mine)).copies t (subst (λ y. T.copy (P.from e) t y) (sym is) copied)
+
+      one_value : (v w : P.Value) → given v ≡ given w → v ≡ w
+      one_value v w k = cc
 
   calc_local : (e : P.Edge) (ρ ρ' : P.Valuation) → CoversCalc P T e ρ ρ' → (x : P.AbstractCell) (k : Content P.Value) → IsLocal P T (P.from e) ρ x k → IsLocal P T (P.to e) ρ' x k
   calc_local e ρ ρ' cover x (given u) local = record {

@@ -37,9 +37,12 @@ module _ (P : Shape) (T : Tables P) where
     abbrev q' : P.Node
     q' = P.to e
 
-    -- the copies of own local cells have values that these cells may have
-    abbrev pub HasLocals : P.Valuation → Type 0
-    HasLocals ρ = (t : P.Temporary) (x : P.AbstractCell) → T.copy q t x → P.owned x i → T.own q x (P.value_of ρ t)
+    -- the copies of own local cells have values that these cells may have, and those of one cell agree: a comparison of
+    -- two copies of one cell refines it by both
+    pub record HasLocals (ρ : P.Valuation) : Type 0 where
+      pub own : (t : P.Temporary) (x : P.AbstractCell) → T.copy q t x → P.owned x i → T.own q x (P.value_of ρ t)
+      pub agree : (t u : P.Temporary) (x : P.AbstractCell) → T.copy q t x → T.copy q u x → P.owned x i
+          → P.value_of ρ t ≡ P.value_of ρ u
 
     pub record CoversCalc (ρ ρ' : P.Valuation) : Type 0 where
       pub inside : T.inside q' ρ'

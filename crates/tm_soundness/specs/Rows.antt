@@ -326,9 +326,12 @@ module _ (P : Shape) (D : Domain P) where
       pub fresh : (x : P.AbstractCell) → IsTrue (state.fresh x) → IsTrue (s.fresh x)
       pub stored : (x : P.AbstractCell) → IsTrue (state.stored x) → IsTrue (s.stored x)
 
-    abbrev pub LocalsIn : P.Edge → State → P.Valuation → Type 0
-    LocalsIn e s ρ = (t : P.Temporary) (x : P.AbstractCell) → D.live (P.from e) t → s.copy t ≡ Some x
-        → P.owned x (P.actor e) → D.In (s.own x) (P.value_of ρ t)
+    -- the copies of own local cells have values that these cells may have, and those of one cell agree
+    pub record LocalsIn (e : P.Edge) (s : State) (ρ : P.Valuation) : Type 0 where
+      pub own : (t : P.Temporary) (x : P.AbstractCell) → D.live (P.from e) t → s.copy t ≡ Some x
+          → P.owned x (P.actor e) → D.In (s.own x) (P.value_of ρ t)
+      pub agree : (t u : P.Temporary) (x : P.AbstractCell) → D.live (P.from e) t → D.live (P.from e) u
+          → s.copy t ≡ Some x → s.copy u ≡ Some x → P.owned x (P.actor e) → P.value_of ρ t ≡ P.value_of ρ u
 
     pub record IsCalculating : Type 0 where
       pub calcs : (e : P.Edge) (s : State) (ρ ρ' : P.Valuation) → P.operation e ≡ calculation → AreIn (P.from e) s ρ

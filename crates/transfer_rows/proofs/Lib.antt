@@ -1,0 +1,14 @@
+pub mod Contributing
+pub mod CoverSteps
+pub mod CoverValues
+pub mod Covers
+pub mod Examples
+pub mod Filters
+pub mod Fitting
+pub mod Leading
+pub mod Monotone
+pub mod Passes
+pub mod RowsRise
+pub mod Steps
+pub mod TableChanges
+pub mod ValuesRise
