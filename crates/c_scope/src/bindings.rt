@@ -1,5 +1,5 @@
 //! Declarations of ordinary names.
-ghost use Rattle.std.specs.Prelude.{◌≡◌, OnOk, OnErr, ◌++◌, [], ◌∷◌, drop, length, take, option_map, slice_get};
+ghost use Rattle.std.specs.Prelude.{◌≡◌, OnOk, OnErr, IfOk, ◌++◌, [], ◌∷◌, drop, length, take, option_map, slice_get};
 ghost use Rattle.tm_typed.specs.Scopes.{last_declared};
 
 use crate::positions::Positions;
@@ -104,5 +104,18 @@ impl Bindings {
     {
         self.positions.truncate(len);
         self.bindings.truncate(len);
+    }
+
+    /// Copies of the declarations from the one at `start` on.
+    pub fn since(&self, alloc: Global, start: usize) -> Result<Vec<Binding>, NoMemory>
+        ensures { IfOk result (λ v. v.items ≡ drop start self.now) }
+    {
+        let mut found = Vec::new(alloc);
+        if start <= self.bindings.len() {
+            for binding in &self.bindings[start..] {
+                found.push(*binding)?;
+            }
+        }
+        Ok(found)
     }
 }

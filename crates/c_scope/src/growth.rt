@@ -3,6 +3,7 @@ ghost use Rattle.std.specs.Prelude.{◌≡◌, ◌*◌, ◌<◌, ◌≤◌, leng
 ghost use Rattle.tm_typed.specs.Scopes.{structure_of, function_of, structure, entry};
 ghost use Rattle.tm_typed.specs.TypeRows.{is_founded, apart_from_const, cells_in, abstract_cells_in, size_in, alignment_in, of_pointers_in, row_in, number_in, with_row, with_type, clipped, wrapped};
 ghost use Rattle.tm_typed.specs.Specifiers.{new_structure};
+ghost use Rattle.tm_typed.specs.Functions.{function, names_here};
 ghost use Rattle.tm_typed.specs.States.{with_name, with_tag, entered, left_to};
 
 use crate::scopes::Scope;
@@ -80,6 +81,23 @@ impl Scope {
     {
         self.names.truncate(self.outer_names);
         self.outer_names = outside;
+    }
+
+    /// More ordinary names in the present block.
+    pub fn add_names(&mut self, names: &[Binding]) -> Result<(), NoMemory>
+        ensures { OnOk result (self.new ≡ record self.old { names = self.old.names ++ names.now }) }
+    {
+        'names: for binding in names {
+            self.add_name(binding.name, binding.named)?;
+        }
+        Ok(())
+    }
+
+    /// The declarations of names in the present block.
+    pub fn names_here(&self, alloc: Global) -> Result<Vec<Binding>, NoMemory>
+        ensures { IfOk result (λ v. v.items ≡ names_here self.now) }
+    {
+        self.names.since(alloc, self.outer_names)
     }
 
     /// The tags of the present block are no longer visible, its names are; `outside` tags stand outside the one around it.
@@ -284,6 +302,18 @@ impl Scope {
         match self.functions.push(entry) {
             Ok(()) => Ok(()),
             Err(_) => Err(NoMemory),
+        }
+    }
+}
+
+impl Scope {
+    /// A function has a body from now on.
+    pub fn define_function(&mut self, number: u32)
+        ensures { self.new ≡ record self.old { functions = slice_set self.old.functions number (record (function self.old number) { defined = true }) } }
+    {
+        let index = number as usize;
+        if index < self.functions.len() {
+            self.functions[index].defined = true;
         }
     }
 }

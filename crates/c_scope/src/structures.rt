@@ -1,5 +1,5 @@
 //! The table of structures, and their members by name.
-ghost use Rattle.std.specs.Prelude.{◌≡◌, ◌<◌, ◌≤◌, true, false, option_map, slice_get, slice_set, get_or, cond, length, [], ◌∷◌, ◌++◌, IfSome, IfNone, OnOk, OnErr};
+ghost use Rattle.std.specs.Prelude.{◌≡◌, ◌<◌, ◌≤◌, true, false, option_map, slice_get, slice_set, get_or, cond, map, length, [], ◌∷◌, ◌++◌, IfSome, IfNone, OnOk, OnErr};
 ghost use Rattle.indexmap.specs.IndexMap.{get, spare};
 ghost use Rattle.c_scope.specs.declared.structures.MemberKey.{MemberKey};
 ghost use Rattle.c_scope.specs.reading.Members.{is_same_key, with_members};
@@ -45,6 +45,16 @@ impl Model for Structures {
 }
 
 impl Structures {
+    /// No structures.
+    pub fn new(alloc: Global) -> Structures
+        ensures { result ≡ [] }
+    {
+        Structures {
+            entries: Vec::new(alloc),
+            members: IndexMap::new(alloc),
+        }
+    }
+
     /// A structure.
     pub fn structure(&self, number: u32) -> Option<&StructEntry>
         ensures found { option_map (λ s. structure_of s.now) result ≡ slice_get self.now number }
@@ -75,6 +85,17 @@ impl Structures {
             }
             None => None,
         }
+    }
+
+    /// The entries alone.
+    pub fn into_entries(self) -> Vec<StructEntry>
+        ensures { map structure_of result.items ≡ self }
+    {
+        let Structures {
+            entries,
+            members: _members,
+        } = self;
+        entries
     }
 
     /// How many structures there are.

@@ -96,4 +96,15 @@ impl Types {
             Err(_) => Err(NoMemory),
         }
     }
+
+    /// The rows alone.
+    pub fn into_entries(self) -> Vec<TypeEntry>
+        ensures { result.items ≡ self }
+    {
+        let Types {
+            entries,
+            rows: _rows,
+        } = self;
+        entries
+    }
 }

@@ -5,3 +5,8 @@ pub mod Labels
 pub mod Reaching
 pub mod Definitions
 pub mod SomeAnswer
+pub mod SameNames
+pub mod WithinUses
+pub mod WithinDeclarations
+pub mod WithinObjects
+pub mod WithinFiles

@@ -13,4 +13,5 @@ HasOneAnswer =
 
 -- it has at least one
 abbrev pub HasAnAnswer : Type 0
-HasAnAnswer = (main : Option Name) (items : List ItemTree) → (answer : Result TypedFileTree Refusal) × IsTyped main items answer
+HasAnAnswer = (main : Option Name) (items : List ItemTree) → (answer : Result TypedFileTree Refusal)
+    × IsTyped main items answer

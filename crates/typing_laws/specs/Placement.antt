@@ -4,7 +4,11 @@ use Rattle.tm_cint.specs.declared.int_types.IntType.{IntType}
 use Rattle.tm_cint.specs.IntTypes.{IsIn}
 use Rattle.tm_trees.specs.FileTrees.{StatementTree}
 use Rattle.tm_typed.specs.States.{State}
-use Rattle.tm_typed.specs.TypedStatements.{TypedTree, evaluates, declares, runs_block, branches, branches_else, loops_while, loops_do, loops_for, selects, breaks, continues, returns, locks, unlocks, yields, TypedTrees, no_statements, and_statement, TypedCase, a_label, a_default_label, a_labelled_step, TypedCases, no_typed_cases, and_typed_case}
+use Rattle.tm_typed.specs.TypedStatements.{TypedTree, evaluates, declares, runs_block, branches, branches_else}
+use Rattle.tm_typed.specs.TypedStatements.{loops_while, loops_do, loops_for, selects, breaks, continues, returns, locks}
+use Rattle.tm_typed.specs.TypedStatements.{unlocks, yields, TypedTrees, no_statements, and_statement, TypedCase}
+use Rattle.tm_typed.specs.TypedStatements.{a_label, a_default_label, a_labelled_step, TypedCases, no_typed_cases}
+use Rattle.tm_typed.specs.TypedStatements.{and_typed_case}
 use Rattle.tm_typed.specs.StatementRules.{Around, looping, switching, Labels, no_labels, with_label, is_labelled}
 use Rattle.tm_typed.specs.StatementTyping.{statement_in}
 
@@ -43,15 +47,18 @@ abbrev mutual
   IsCasePlaced around (a_labelled_step s) = ArePlaced around s
 
 abbrev pub JumpsStand : Type 0
-JumpsStand = (s t : State) (around : Around) (source : StatementTree) (typed : TypedTree) → statement_in s around source ≡ Ok (typed, t) → ArePlaced around typed
+JumpsStand = (s t : State) (around : Around) (source : StatementTree) (typed : TypedTree)
+    → statement_in s around source ≡ Ok (typed, t) → ArePlaced around typed
 
 -- ## Labels (C99 6.8.4.2)
 
 -- the labels behind those before: none equals an earlier one, they lie in the type, and there is one `default`
 abbrev pub AreDifferent : IntType → Labels → TypedCases → Type 0
 AreDifferent t before no_typed_cases = Unit {0}
-AreDifferent t before (and_typed_case (a_label z p) cs) = IsIn t z × (is_labelled before.values z ≡ false) × AreDifferent t (with_label before z) cs
-AreDifferent t before (and_typed_case (a_default_label p) cs) = (before.has_default ≡ false) × AreDifferent t (record before { has_default = true }) cs
+AreDifferent t before (and_typed_case (a_label z p) cs) = IsIn t z × (is_labelled before.values z ≡ false)
+    × AreDifferent t (with_label before z) cs
+AreDifferent t before (and_typed_case (a_default_label p) cs) = (before.has_default ≡ false) × AreDifferent t
+    (record before { has_default = true }) cs
 AreDifferent t before (and_typed_case (a_labelled_step s) cs) = AreDifferent t before cs
 
 abbrev mutual
@@ -83,4 +90,5 @@ abbrev mutual
   HaveCaseLabels (and_typed_case (a_labelled_step s) cs) = HaveLabels s × HaveCaseLabels cs
 
 abbrev pub LabelsDiffer : Type 0
-LabelsDiffer = (s t : State) (around : Around) (source : StatementTree) (typed : TypedTree) → statement_in s around source ≡ Ok (typed, t) → HaveLabels typed
+LabelsDiffer = (s t : State) (around : Around) (source : StatementTree) (typed : TypedTree)
+    → statement_in s around source ≡ Ok (typed, t) → HaveLabels typed
