@@ -1,0 +1,14 @@
+pub mod FileTables
+pub mod CallDepth
+pub mod Totals
+pub mod LimitCounts
+pub mod PathSteps
+pub mod StaticSteps
+pub mod TypeNodes
+pub mod PartSteps
+pub mod ObjectSteps
+pub mod Whole
+pub mod CoreSteps
+pub mod PathTrees
+pub mod CellPairs
+pub mod PathCalls

@@ -1,0 +1,5 @@
+pub mod Examples
+pub mod WorldExamples
+pub mod Refusals
+pub mod Reached
+pub mod Moving
