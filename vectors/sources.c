@@ -14,7 +14,7 @@ enum { LOW, HIGH = LOW + 1 };
 int (*rows)[4], *columns[4], **twice, *const fixed = 0, (inside);
 int table[2][3] = {{1, 2, 3}, {4, 5, 6}};
 int from_values[] = {1, 2};
-int *volatile restless; int *restrict alone;
+int *restrict alone;
 typedef struct point *point_p; typedef int row_t[3], number_t; row_t row; number_t number;
 static int helper(int a, int *const b);
 void unnamed(int, char *, const int *, struct point *);

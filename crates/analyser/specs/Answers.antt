@@ -1,6 +1,7 @@
 -- What the program answers: which texts these words and bytes may give, with which status.
 use Rattle.std.specs.Prelude.{◌≡◌, ℕ, ◌<◌, ◌≤◌, ◌⊎◌, List, [], ◌∷◌, ◌++◌, length, map, codes, Contains}
-use Rattle.std.specs.Prelude.{Option, Some, None, IfSome, Ok, Err, String, string_bytes}
+use Rattle.std.specs.Prelude.{Option, Some, None, IfSome, Result, Ok, Err, String, string_bytes, Bool, bytes_eq}
+use Rattle.std.specs.Prelude.{if◌then◌else◌}
 use Rattle.std.specs.Io.KnownBytes.{append_known, IsAtEnd}
 use Rattle.std.specs.declared.alloc.Global.{Global as Heap}
 use Rattle.tm_cint.specs.declared.Class.{Class}
@@ -9,12 +10,16 @@ use Rattle.tm_terms.specs.declared.alarms.Alarm.{Alarm}
 use Rattle.tm_terms.specs.declared.refusals.Refusal.{Refusal}
 use Rattle.tm_terms.specs.declared.refusals.Kind.TheVariants as Kinds
 use Rattle.tm_terms.specs.declared.refusals.Limit.TheVariants as Limits
+use Rattle.tm_terms.specs.declared.tokens.Name.{Name}
+use Rattle.tm_terms.specs.declared.tokens.Shape.{Shape}
+use Rattle.tm_terms.specs.declared.tokens.Shape.TheVariants as Shapes
 use Rattle.tm_terms.specs.declared.tokens.Token.{Token}
 use Rattle.tm_terms.specs.Limits.{limit_number}
-use Rattle.tm_terms.specs.Spelling.{Lexes}
+use Rattle.tm_terms.specs.Spelling.{text_of, Lexes}
 use Rattle.tm_terms.specs.Texts.{report_text, refusal_text, usage_text}
 use Rattle.tm_trees.specs.FileTrees.{ItemTree}
 use Rattle.tm_trees.specs.Parsing.{Parses}
+use Rattle.tm_typed.specs.Files.{TypedFileTree, IsTyped}
 use Rattle.analyser.specs.declared.statuses.Status.{Status}
 use Rattle.analyser.specs.declared.statuses.Status.TheVariants.{NoAlarm, Alarms, Refused, Usage, ReadFault}
 use Rattle.analyser.specs.declared.statuses.Status.TheVariants.{WriteFault, NoMemory}
@@ -28,11 +33,32 @@ use Rattle.analyser.specs.Equations.{State, IsLeast, IsReport}
 abbrev pub longest_source : ℕ
 longest_source = limit_number Limits.Source
 
--- these bytes are a source of this program, which is analysed
+-- the name is spelled `main`
+abbrev pub is_main : List ℕ → Name → Bool
+is_main bytes n = bytes_eq (text_of bytes n) (codes "main")
+
+abbrev pub main_or : List ℕ → Shape → Option Name → Option Name
+main_or bytes (Shapes.Name n) rest = if is_main bytes n then Some n else rest
+main_or bytes _ rest = rest
+
+-- the name that is spelled `main`, where it stands among the tokens
+abbrev pub main_in : List ℕ → List Token → Option Name
+main_in bytes [] = None
+main_in bytes (t ∷ tokens) = main_or bytes t.shape (main_in bytes tokens)
+
+-- these tokens spell a file, for which typing has this answer
+pub record TypesAs (main : Option Name) (tokens : List Token) (answer : Result TypedFileTree Refusal) : Type 0 where
+  pub items : List ItemTree
+  pub parsed : Parses tokens (Ok items)
+  pub typed : IsTyped main items answer
+
+-- these bytes are a source of this program, which is typed and analysed
 pub record IsAccepted (bytes : List ℕ) (p : Program) : Type 0 where
   pub short : length bytes ≤ longest_source
   pub tokens : List Token
   pub lexed : Lexes bytes (Ok tokens)
+  pub file : TypedFileTree
+  pub typed : TypesAs (main_in bytes tokens) tokens (Ok file)
   pub program : IsProgram p tokens
 
 abbrev pub source_limit : Refusal
@@ -45,10 +71,12 @@ unbuilt = record { kind = Kinds.Unbuilt; place = record { line = 1; col = 1 }; l
 abbrev pub IsNoProgram : List Token → Type 0
 IsNoProgram tokens = (p : Program) → IsProgram p tokens → ⊥
 
--- Why tokens are refused: the grammar refuses them; or else they spell no program that is analysed.
-pub data IsRefusedAs (tokens : List Token) : Refusal → Type 0 where
-  not_parsed : {refusal : Refusal} → Parses tokens (Err refusal) → IsRefusedAs tokens refusal
-  not_built : {items : List ItemTree} → Parses tokens (Ok items) → IsNoProgram tokens → IsRefusedAs tokens unbuilt
+-- Why tokens are refused: the grammar refuses them; or else typing refuses the file that they spell; or else they spell no
+-- program that is analysed.
+pub data IsRefusedAs (main : Option Name) (tokens : List Token) : Refusal → Type 0 where
+  not_parsed : {refusal : Refusal} → Parses tokens (Err refusal) → IsRefusedAs main tokens refusal
+  not_typed : {refusal : Refusal} → TypesAs main tokens (Err refusal) → IsRefusedAs main tokens refusal
+  not_built : {file : TypedFileTree} → TypesAs main tokens (Ok file) → IsNoProgram tokens → IsRefusedAs main tokens unbuilt
 
 -- Why these bytes are refused: they are too many; or else the lexis refuses them; or else their tokens are refused.
 pub data IsRefused (bytes : List ℕ) : Refusal → Type 0 where
@@ -56,7 +84,7 @@ pub data IsRefused (bytes : List ℕ) : Refusal → Type 0 where
   not_lexed : {refusal : Refusal} → length bytes ≤ longest_source → Lexes bytes (Err refusal)
       → IsRefused bytes refusal
   not_read : {tokens : List Token} {refusal : Refusal} → length bytes ≤ longest_source → Lexes bytes (Ok tokens)
-      → IsRefusedAs tokens refusal → IsRefused bytes refusal
+      → IsRefusedAs (main_in bytes tokens) tokens refusal → IsRefused bytes refusal
 
 -- ## Reports
 

@@ -10,6 +10,7 @@ mod faults;
 mod input;
 mod lawful;
 pub mod laws;
+mod mains;
 mod operators;
 mod output;
 mod programs;

@@ -4,18 +4,20 @@ ghost use Rattle.std.specs.Prelude.{◌≡◌, ◌≤◌, IfOk, length, string_b
 ghost use Rattle.tm_terms.specs.Texts.{refusal_text};
 ghost use Rattle.tm_trees.specs.FileTrees.{file_tree};
 ghost use Rattle.analyser.specs.Answers.{HasAnswer, longest_source, unbuilt};
-ghost use Rattle.analyser.specs.reading.Replies.{AnswersFile, AnswersTokens, GivesReport};
+ghost use Rattle.analyser.specs.reading.Replies.{AnswersFew, AnswersFile, AnswersTokens, GivesReport};
 ghost use Rattle.analyser.specs.reading.Programs.{plain};
 
 use crate::faults::report_of;
+use crate::mains::main_in;
 use crate::programs::Program;
 use crate::reader::read_program;
 use crate::statuses::Status;
 use c_lexer::lex;
 use c_parser::parse;
+use c_typing::typed;
 use std::alloc::Global as Heap;
 use tm_lattice::NoMemory;
-use tm_terms::{Fail, Kind, Place, Refusal, Token, plain as plain_text, refusal_line};
+use tm_terms::{Fail, Kind, Name, Place, Refusal, Token, plain as plain_text, refusal_line};
 use tm_trees::File;
 
 /// A status and the whole text that goes with it.
@@ -82,18 +84,27 @@ fn reply_to_file(alloc: Heap, file: &File) -> Result<Reply, NoMemory>
     }
 }
 
-/// The answer to the tokens of a source that the lexis accepts.
-fn reply_to(alloc: Heap, tokens: &[Token]) -> Result<Reply, NoMemory>
-    ensures { IfOk result (λ reply. AnswersTokens tokens.now reply.status (string_bytes reply.text)) }
+/// The answer to a file that is typed, of which there may be too many tokens.
+fn reply_to_few(alloc: Heap, tokens: &[Token], file: &File) -> Result<Reply, NoMemory>
+    ensures { IfOk result (λ reply. AnswersFew (length tokens.now) (file_tree file.now) reply.status (string_bytes reply.text)) }
+{
+    if tokens.len() > MAX_TOKENS {
+        unbuilt(alloc)
+    } else {
+        reply_to_file(alloc, file)
+    }
+}
+
+/// The answer to the tokens of a source that the lexis accepts. `main` is the name that is spelled so.
+fn reply_to(alloc: Heap, main: Option<Name>, tokens: &[Token]) -> Result<Reply, NoMemory>
+    ensures { IfOk result (λ reply. AnswersTokens main tokens.now reply.status (string_bytes reply.text)) }
 {
     match parse(alloc, tokens) {
-        Ok(file) => {
-            if tokens.len() > MAX_TOKENS {
-                unbuilt(alloc)
-            } else {
-                reply_to_file(alloc, &file)
-            }
-        }
+        Ok(file) => match typed(alloc, &file, main) {
+            Ok(_typed) => reply_to_few(alloc, tokens, &file),
+            Err(Fail::Refused(refusal)) => refused(alloc, refusal),
+            Err(Fail::NoMemory) => Err(NoMemory),
+        },
         Err(Fail::Refused(refusal)) => refused(alloc, refusal),
         Err(Fail::NoMemory) => Err(NoMemory),
     }
@@ -105,7 +116,7 @@ pub fn answer_to(alloc: Heap, bytes: &[u8]) -> Result<Reply, NoMemory>
     ensures { IfOk result (λ reply. HasAnswer bytes.now reply.status (string_bytes reply.text)) }
 {
     match lex(alloc, bytes) {
-        Ok(tokens) => reply_to(alloc, &tokens),
+        Ok(tokens) => reply_to(alloc, main_in(bytes, &tokens), &tokens),
         Err(Fail::Refused(refusal)) => refused(alloc, refusal),
         Err(Fail::NoMemory) => Err(NoMemory),
     }

@@ -21,7 +21,7 @@ static PLAIN: [&str; 45] = [
     "int (*rows)[4], *columns[4], **twice, *const fixed = 0, (inside);",
     "int table[2][3] = {{1, 2, 3}, {4, 5, 6}};",
     "int from_values[] = {1, 2};",
-    "int *volatile restless; int *restrict alone;",
+    "int *restrict alone;",
     "typedef struct point *point_p; typedef int row_t[3], number_t; row_t row; number_t number;",
     "static int helper(int a, int *const b);",
     "void unnamed(int, char *, const int *, struct point *);",
@@ -54,8 +54,8 @@ static PLAIN: [&str; 45] = [
     "#pragma once upon a time",
 ];
 
-// With the analyser's own words, or with empty parts of a file.
-static OWN: [&str; 7] = [
+// With the analyser's own words, with empty parts of a file, or with what typing refuses.
+static OWN: [&str; 8] = [
     "__mutex m; int s; __task(1) void low(void) { __lock(m); s = __input(0, 10); __unlock(m); __yield(); }",
     "__task(2 + 1) void high(void) { }",
     "__mutex m; int f(void) { return __islocked(m) ? 1 : __input(-1, +1); }",
@@ -63,6 +63,7 @@ static OWN: [&str; 7] = [
     "int x;;",
     "",
     "typedef int T; T T_to_int(T t) { return (T)t; }",
+    "int *volatile restless;",
 ];
 
 // Sources that are refused, and the lines that say so.

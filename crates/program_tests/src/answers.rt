@@ -40,13 +40,17 @@ static SOURCES: [(&[u8], u8, &[u8]); 15] = [
     (
         b"int x;__task(256) void t(void){x=1;}",
         2,
-        b"1:1 refused Unbuilt\n",
+        b"1:7 refused BadTask\n",
     ),
-    (b"__task(1) void t(void){x=1;}", 2, b"1:1 refused Unbuilt\n"),
+    (
+        b"__task(1) void t(void){x=1;}",
+        2,
+        b"1:24 refused Undeclared\n",
+    ),
     (
         b"int x;__task(1) void x(void){}",
         2,
-        b"1:1 refused Unbuilt\n",
+        b"1:22 refused Redeclared\n",
     ),
     (
         b"int x;__task(1) void t(void){x=1;x=2;}",
