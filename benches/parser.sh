@@ -1,10 +1,11 @@
 #!/bin/sh
-# The time of the program on 1 MiB of code of the examples' kind, beside a C compiler's `-fsyntax-only` on the same text.
+# The time and the memory of the program on 1 MiB of code of the examples' kind, which it lexes, parses and types, beside
+# a C compiler's `-fsyntax-only` on the same text.
 # The text is the examples again and again, each copy with long names of its own, so that 1 MiB has at most 200,000 tokens. The
 # compiler gets the words of the language that C lacks by definitions on its command line.
 # usage: benches/parser.sh PROGRAM WORD..    e.g. benches/parser.sh crates/analyse_main/out/analyse_main analyse
 set -eu
-[ $# -ge 1 ] || { sed -n 2,5p "$0"; exit 2; }
+[ $# -ge 1 ] || { sed -n 2,6p "$0"; exit 2; }
 folder=$(mktemp -d)
 trap 'rm -r "$folder"' EXIT
 
@@ -48,3 +49,8 @@ compiler || { echo 'the compiler refuses the text' >&2; exit 1; }
 ours=$(best program "$@")
 theirs=$(best compiler)
 printf 'program %s ms, gcc -fsyntax-only %s ms\n' "$ours" "$theirs"
+# peak COMMAND..: the most memory at one time, in KB
+peak() { /usr/bin/time -f %M -o "$folder/peak" "$@" > /dev/null 2>&1 || true; tail -1 "$folder/peak"; }
+ours=$(peak "$@" < "$folder/cut.c")
+printf 'program %s KB, gcc -fsyntax-only %s KB\n' "$ours" "$(peak gcc -std=c11 -fsyntax-only -w '-D__task(p)=' \
+    '-D__mutex=int' '-D__lock(m)=' '-D__unlock(m)=' '-D__yield()=' '-D__input(a,b)=(a)' "$folder/cut.c")"
