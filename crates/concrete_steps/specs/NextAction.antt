@@ -1,6 +1,6 @@
 -- What a task does next: a plain interpreter of the typed tree, which takes what it loads, what is chosen, and that a
--- step is done, from a
--- list of answers, and gives the action after the last of them. Each part of the program is told what comes after it.
+-- step is done, from a list of answers, and gives the action after the last of them. Each part of the program is told
+-- what comes after it.
 use Rattle.std.specs.Prelude.{ℕ, zero, suc, ◌==◌, pos, nat_lt, Bool, true, false, if◌then◌else◌, List, [], ◌∷◌}
 use Rattle.std.specs.Prelude.{length, get_or, Result, Ok, Err, Option, Some, None}
 use Rattle.tm_cint.specs.declared.Class.{Class}
@@ -137,8 +137,7 @@ abbrev pub stored_then : LaidTree → Value → Scalar → Value → Place → (
 stored_then laid a s v p go = act_then laid (store_at a s v p) (λ u. go v)
 
 -- Operands are evaluated from left to right; `&&`, `||`, `?:` and the comma as in C99 6.5.13 to 6.5.17. The second
--- operand of
--- `&&` is evaluated where the first is true, that of `||` where it is not.
+-- operand of `&&` is evaluated where the first is true, that of `||` where it is not.
 abbrev mutual
   pub expr_then : Here → RvalueTree → Use → After
   expr_then here (a_constant t z p) how = value_used how false p (Number z)
@@ -259,8 +258,7 @@ rest_of true [] = []
 rest_of false gs = gs
 
 -- So many cells of an object from this one on: for each in order its value, then its store. The cells that the
--- initialiser gives stand in
--- rising order.
+-- initialiser gives stand in rising order.
 abbrev pub cells_then : Here → ℕ → Place → ℕ → ℕ → List GivenTree → After → After
 cells_then here o p zero k gs go = go
 cells_then here o p (suc n) k gs go =
@@ -292,8 +290,8 @@ pub record Exits : Type 0 where
   pub returns : Value → After
 
 -- The turns of a loop, where `turn back` is one turn, which comes back to the head by `back`. A turn that comes back
--- with as many answers as it
--- began with has used none: the task spins. There are no more turns than answers, which bound the recursion.
+-- with as many answers as it began with has used none: the task spins. There are no more turns than answers, which
+-- bound the recursion.
 abbrev pub loop_then : (After → After) → ℕ → After
 loop_then turn zero answers = turn (last Acts.Spins) answers
 loop_then turn (suc n) answers =

@@ -160,11 +160,12 @@ start laid = record {
 
 -- ## What a step changes
 
--- the choice is not allowed, and nothing changes
+-- what a choice leads to: what it is answered, and the world then
 pub record Outcome : Type 0 where
   pub answer : Stepped
   pub world : World
 
+-- the choice is not allowed, and nothing changes
 abbrev pub refused : World → Outcome
 refused w = record { answer = Steps.NotAllowed; world = w }
 

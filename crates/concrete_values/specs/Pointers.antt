@@ -1,6 +1,5 @@
 -- What the operators of C give on pointers. A pointer leads to an object at an offset that counts scalar cells, from 0
--- to the size of the
--- object, one past its last cell included (C99 6.5.6).
+-- to the size of the object, one past its last cell included (C99 6.5.6).
 use Rattle.std.specs.Prelude.{ℕ, ℤ, pos, negsuc, neg_ℤ, ◌+ℤ◌, ◌*ℤ◌, ◌^◌, ◌==◌, ◌&&◌, int_le, int_lt, nat_le, nat_lt}
 use Rattle.std.specs.Prelude.{Bool, true, false, not, if◌then◌else◌, Option, Some, None, is_some, Result, Ok, Err}
 use Rattle.std.specs.Prelude.{slice_get}

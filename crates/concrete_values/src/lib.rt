@@ -1,12 +1,9 @@
 //! What runs are made of: values, answers, the actions of a task, and what C's operators give on values. The next
-//! action of
-//! a task and the lowered graphs cite these definitions alike, so that both mean the same by an operator. What a
-//! statement
-//! or an expression does with them, this crate does not know.
+//! action of a task and the lowered graphs cite these definitions alike, so that both mean the same by an operator.
+//! What a statement or an expression does with them, this crate does not know.
 //!
 //! So in `int a[4]; int *p = a + 3;` the value of `p + 1` is the pointer to the object `a` at the offset 4, one past
-//! its
-//! last cell; `p + 2` has an error of the class POINTER, and `*(p + 1)` one of the class DEREF.
+//! its last cell; `p + 2` has an error of the class POINTER, and `*(p + 1)` one of the class DEREF.
 #![tactic(auto)]
 
 mod actions;

@@ -26,7 +26,7 @@ given s target value copy = cond (is_no_value value) None
 abbrev pub aged : Cell → Cell
 aged c = record c { fresh = false }
 
--- the mutexes without one
+-- a set of mutexes without one; 65535 is the set of all sixteen
 abbrev pub without : ℕ → ℕ → ℕ
 without held m = bit_and held (65535 - 2 ^ m)
 
