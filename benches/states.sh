@@ -1,8 +1,8 @@
 #!/usr/bin/env bash
 # Times 30,000 applications of an edge that changes one of 2,000 cells and is joined at its target, over the states of
 # this repository, beside the same on plain vectors of ends in Rust; and a copy of a state, for 20 and for 2,000 cells.
-# Both programs are made, and ours is proved and built, in a temporary folder, and run five times each; the fastest run
-# counts. The last lines are the ratios of time and of memory at the peak.
+# Both programs are made, and ours is proved and built, in a temporary folder, and run five times each; the run with the
+# least processor time counts. The last lines are the ratios of that time and of the memory at the peak.
 set -eu
 top=$(readlink -f "$(dirname "${BASH_SOURCE[0]}")/..")
 . "$top/benches/copies.sh"
@@ -155,28 +155,38 @@ PROGRAM
 python3 - "$work/crates/speed/out/speed" "$work/plain" <<'RATIOS'
 import os
 import sys
+import time
+
+def peak_of(process):
+    """The most memory in KB that a process had so far; 0 where it has ended."""
+    with open("/proc/%d/status" % process) as status:
+        return sum(int(line.split()[1]) for line in status if line.startswith("VmHWM:"))
 
 def run(program):
-    """The text of a run, and the most memory that it had, in KB."""
+    """The processor seconds of a run, its text, and the most memory that it had, in KB."""
     read, write = os.pipe()
     child = os.fork()
     if child == 0:
         os.dup2(write, 1)
         os.execv(program, [program])
     os.close(write)
+    # The kernel's own count for a child begins with the memory of its parent, so the process is asked while it runs.
+    memory = 0
+    while os.waitid(os.P_PID, child, os.WEXITED | os.WNOHANG | os.WNOWAIT) is None:
+        memory = peak_of(child) or memory
+        time.sleep(0.002)
     with os.fdopen(read) as told:
         text = told.read()
     usage = os.wait4(child, 0)[2]
-    return text, usage.ru_maxrss
+    return usage.ru_utime + usage.ru_stime, text, memory
 
 def best(program):
-    """Of five runs the text of the fastest, its milliseconds, and its memory."""
-    runs = [run(program) for _ in range(5)]
-    return min((int(text.split()[1]), text, memory) for text, memory in runs)
+    """The fastest of five runs."""
+    return min(run(program) for _ in range(5))
 
-time, ours, own = best(sys.argv[1])
-plain_time, plain, least = best(sys.argv[2])
+spent, ours, own = best(sys.argv[1])
+plain_spent, plain, least = best(sys.argv[2])
 print(ours + plain, end="")
-print("time: %.1f times plain vectors" % (time / plain_time))
-print("memory: %d KB beside %d KB" % (own, least))
+print("processor time: %.2f s beside %.2f s, %.1f times plain vectors" % (spent, plain_spent, spent / plain_spent))
+print("memory: %d KB beside %d KB, %.1f times" % (own, least, own / least))
 RATIOS

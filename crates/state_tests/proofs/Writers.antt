@@ -1,6 +1,6 @@
 -- The tasks that wrote something, by the entries of a store.
-use Rattle.std.proofs.Common.{◌≡◌, ◌<◌, ℕ, List, [], ◌∷◌, ◌⊎◌, inl, inr, subst, sym, All}
-use Rattle.std.specs.FinMap.{get, entries}
+use Rattle.std.proofs.Common.{◌<◌, ℕ, List, [], ◌∷◌, inl, inr, subst, sym, All}
+use Rattle.std.specs.FinMap.{entries}
 use Rattle.std.proofs.lemmas.List.Elements.{All-head, All-tail}
 use Rattle.tm_lattice.specs.Tables.{Table}
 use Rattle.pointer_dom.specs.Values.{Values}

@@ -1,6 +1,8 @@
 //! Values of numbers.
 use pointer_dom::AbsValue;
-use strided_dom::Strided;
+use std::alloc::Global;
+use std::test::Fail;
+use strided_dom::{Marks, Strided};
 use tm_lattice::Lattice;
 
 /// The numbers from the first to the last; none where the last is below the first.
@@ -17,4 +19,9 @@ pub(crate) fn numbers(row: Numbers) -> AbsValue {
 pub(crate) fn is_numbers(value: &AbsValue, row: Numbers) -> bool {
     let wanted = numbers(row);
     value.below(&wanted) && wanted.below(value)
+}
+
+/// The thresholds 0 and 10.
+pub(crate) fn zero_and_ten(alloc: Global) -> Result<Marks, Fail> {
+    Ok(Marks::checked(vec![in alloc; 0, 10]?).ok_or("no marks")?)
 }

@@ -1,11 +1,10 @@
 //! States of a task at a node.
-use crate::numbers::{NONE, Numbers, is_numbers, numbers};
+use crate::numbers::{NONE, Numbers, is_numbers, numbers, zero_and_ten};
 use cell_env::{CellState, State, TempState};
 use pointer_dom::AbsValue;
 use state_tree::Tree;
 use std::alloc::Global;
 use std::test::Fail;
-use strided_dom::Marks;
 use tm_lattice::{Keyed, Lattice, NoMemory};
 
 /// A temporary: its number, its value, and the cell of which it is a copy.
@@ -14,17 +13,21 @@ type Temp = (u32, Numbers, Option<u32>);
 /// A cell: its number, its own value, its pending mutexes, and whether it is fresh and stored.
 type Cell = (u32, Numbers, u16, bool, bool);
 
-fn state(alloc: Global, temps: &[Temp], cells: &[Cell]) -> Result<State<AbsValue>, NoMemory> {
+fn temps_of(alloc: Global, rows: &[Temp]) -> Result<Keyed<TempState<AbsValue>>, NoMemory> {
     let mut live = Keyed::new(alloc);
-    for (temp, row, copy) in temps {
+    for (temp, row, copy) in rows {
         let entry = TempState {
             value: numbers(*row),
             copy: *copy,
         };
         live.put(*temp, entry)?;
     }
+    Ok(live)
+}
+
+fn cells_of(alloc: Global, rows: &[Cell]) -> Result<Tree<CellState<AbsValue>>, NoMemory> {
     let mut own = Tree::new(alloc);
-    for (cell, row, pending, fresh, stored) in cells {
+    for (cell, row, pending, fresh, stored) in rows {
         let entry = CellState {
             value: numbers(*row),
             pending: *pending,
@@ -33,6 +36,12 @@ fn state(alloc: Global, temps: &[Temp], cells: &[Cell]) -> Result<State<AbsValue
         };
         own.put(*cell, entry)?;
     }
+    Ok(own)
+}
+
+fn state(alloc: Global, temps: &[Temp], cells: &[Cell]) -> Result<State<AbsValue>, NoMemory> {
+    let live = temps_of(alloc, temps)?;
+    let own = cells_of(alloc, cells)?;
     Ok(State::new(live, own))
 }
 
@@ -42,6 +51,15 @@ fn has_temp(state: &State<AbsValue>, temp: &Temp) -> bool {
         None => false,
         Some(found) => is_numbers(&found.value, temp.1) && found.copy == temp.2,
     }
+}
+
+fn has_temps(state: &State<AbsValue>, temps: &[Temp]) -> bool {
+    for temp in temps {
+        if !has_temp(state, temp) {
+            return false;
+        }
+    }
+    true
 }
 
 /// Whether a state has such a cell.
@@ -55,6 +73,25 @@ fn has_cell(state: &State<AbsValue>, cell: &Cell) -> bool {
                 && found.stored == cell.4
         }
     }
+}
+
+fn has_cells(state: &State<AbsValue>, cells: &[Cell]) -> bool {
+    for cell in cells {
+        if !has_cell(state, cell) {
+            return false;
+        }
+    }
+    true
+}
+
+/// Whether a state lies above two others that differ.
+fn lies_above(both: &State<AbsValue>, one: &State<AbsValue>, other: &State<AbsValue>) -> bool {
+    one.below(both) && other.below(both) && !both.below(one) && !both.below(other)
+}
+
+/// Whether a state has no more than the temporaries 3 and 4 and the cells 7 and 8, and is not nothing all the same.
+fn has_no_more(state: &State<AbsValue>) -> bool {
+    !state.is_nothing() && state.temp(5).is_none() && state.cell(9).is_none()
 }
 
 #[test]
@@ -71,29 +108,31 @@ fn states_join_part_by_part(rt: HostRuntime) -> Result<(), Fail> {
         &[(7, (2, 2), 2, false, true), (8, NONE, 0, true, true)],
     )?;
     let both = one.join(alloc, &other)?;
-    assert!(rt; has_temp(&both, &(3, (1, 2), Some(7))));
-    assert!(rt; has_temp(&both, &(4, (0, 0), None)));
-    assert!(rt; has_cell(&both, &(7, (1, 2), 3, false, true)));
-    assert!(rt; has_cell(&both, &(8, (5, 5), 0, true, false)));
-    assert!(rt; one.below(&both) && other.below(&both));
-    assert!(rt; !both.below(&one) && !both.below(&other));
-    assert!(rt; !both.is_nothing());
-    assert!(rt; both.temp(5).is_none() && both.cell(9).is_none());
+    let temps = has_temps(&both, &[(3, (1, 2), Some(7)), (4, (0, 0), None)]);
+    let cells = has_cells(
+        &both,
+        &[(7, (1, 2), 3, false, true), (8, (5, 5), 0, true, false)],
+    );
+    let above = lies_above(&both, &one, &other);
+    assert!(rt; temps & cells & above & has_no_more(&both));
     Ok(())
 }
 
 #[test]
 fn given_cells_alone_are_rounded(rt: HostRuntime) -> Result<(), Fail> {
     let alloc = rt.alloc();
+    let marks = zero_and_ten(alloc)?;
     let before = state(
         alloc,
         &[(0, (3, 3), None)],
         &[(1, (3, 5), 0, false, false), (2, (3, 5), 0, false, false)],
     )?;
-    let marks = Marks::checked(vec![in alloc; 0, 10]?).ok_or("no marks")?;
     let after = before.rounded_at(alloc, &[2, 2, 6], &marks)?;
-    assert!(rt; has_temp(&after, &(0, (3, 3), None)));
-    assert!(rt; has_cell(&after, &(1, (3, 5), 0, false, false)));
-    assert!(rt; has_cell(&after, &(2, (0, 10), 0, false, false)));
+    let temps = has_temps(&after, &[(0, (3, 3), None)]);
+    let cells = has_cells(
+        &after,
+        &[(1, (3, 5), 0, false, false), (2, (0, 10), 0, false, false)],
+    );
+    assert!(rt; temps & cells);
     Ok(())
 }

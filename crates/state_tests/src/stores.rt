@@ -9,22 +9,40 @@ use std::alloc::Global;
 use std::test::Fail;
 use tm_lattice::{Lattice, NoMemory};
 
-/// Task 1 wrote 0 to the cell 0 with no mutex held, 3 with the mutex 0 held, and 8 with the mutex 1 held; task 2 wrote
-/// 20; and under the mutex 0 the first left 5 in the cell, and the second 30.
-fn store(alloc: Global) -> Result<Store, NoMemory> {
-    let parts = [
-        Store::written(alloc, 1, 0b00, 0, numbers((0, 0)))?,
-        Store::written(alloc, 1, 0b01, 0, numbers((3, 3)))?,
-        Store::written(alloc, 1, 0b10, 0, numbers((8, 8)))?,
-        Store::written(alloc, 2, 0b00, 0, numbers((20, 20)))?,
-        Store::left(alloc, 1, 0, 0, numbers((5, 5)))?,
-        Store::left(alloc, 2, 0, 0, numbers((30, 30)))?,
-    ];
+/// What was written: the task, the mutexes held, and the value.
+const WRITTEN: [(u32, u16, Numbers); 4] = [
+    (1, 0b00, (0, 0)),
+    (1, 0b01, (3, 3)),
+    (1, 0b10, (8, 8)),
+    (2, 0b00, (20, 20)),
+];
+
+/// What was left in the cell under the mutex 0: the task, and the value.
+const LEFT: [(u32, Numbers); 2] = [(1, (5, 5)), (2, (30, 30))];
+
+fn written(alloc: Global) -> Result<Store, NoMemory> {
     let mut all = Store::new(alloc);
-    for part in &parts {
-        all = all.join(alloc, part)?;
+    for (task, held, value) in &WRITTEN {
+        let part = Store::written(alloc, *task, *held, 0, numbers(*value))?;
+        all = all.join(alloc, &part)?;
     }
     Ok(all)
+}
+
+fn left(alloc: Global) -> Result<Store, NoMemory> {
+    let mut all = Store::new(alloc);
+    for (task, value) in &LEFT {
+        let part = Store::left(alloc, *task, 0, 0, numbers(*value))?;
+        all = all.join(alloc, &part)?;
+    }
+    Ok(all)
+}
+
+/// What was written to the cell 0, and what was left there.
+fn store(alloc: Global) -> Result<Store, NoMemory> {
+    let written = written(alloc)?;
+    let left = left(alloc)?;
+    written.join(alloc, &left)
 }
 
 /// A reader: its task, the mutexes that it holds and found free, the cell, whether that is fresh; and the hull of what
@@ -76,47 +94,83 @@ fn is_seen(alloc: Global, store: &Store, row: &Row) -> Result<bool, NoMemory> {
     Ok(has_ends(&seen, wanted))
 }
 
+fn are_seen(alloc: Global, store: &Store) -> Result<bool, NoMemory> {
+    for row in &ROWS {
+        if !is_seen(alloc, store, row)? {
+            return Ok(false);
+        }
+    }
+    Ok(true)
+}
+
 #[test]
 fn what_is_seen_at_a_read(rt: HostRuntime) -> Result<(), Fail> {
-    let alloc = rt.alloc();
-    let store = store(alloc)?;
-    for row in &ROWS {
-        assert!(rt; is_seen(alloc, &store, row)?);
-    }
+    let store = store(rt.alloc())?;
+    assert!(rt; are_seen(rt.alloc(), &store)?);
     Ok(())
+}
+
+/// A task, a mutex that it locks, a cell; and the hull of what it is handed.
+const HANDED: [(u32, u32, u32, Numbers); 5] = [
+    (0, 0, 0, (5, 30)),
+    (1, 0, 0, (30, 30)),
+    (2, 0, 0, (5, 5)),
+    (0, 1, 0, NONE),
+    (0, 0, 1, NONE),
+];
+
+fn are_handed(alloc: Global, store: &Store) -> Result<bool, NoMemory> {
+    for (task, mutex, cell, wanted) in &HANDED {
+        let handed = taken_at_lock(alloc, store, *task, *mutex, *cell)?;
+        if !has_ends(&handed, *wanted) {
+            return Ok(false);
+        }
+    }
+    Ok(true)
 }
 
 #[test]
 fn what_is_handed_at_a_lock(rt: HostRuntime) -> Result<(), Fail> {
-    let alloc = rt.alloc();
-    let store = store(alloc)?;
-    for (task, mutex, cell, wanted) in [
-        (0, 0, 0, (5, 30)),
-        (1, 0, 0, (30, 30)),
-        (2, 0, 0, (5, 5)),
-        (0, 1, 0, NONE),
-        (0, 0, 1, NONE),
-    ] {
-        let handed = taken_at_lock(alloc, &store, task, mutex, cell)?;
-        assert!(rt; has_ends(&handed, wanted));
-    }
+    let store = store(rt.alloc())?;
+    assert!(rt; are_handed(rt.alloc(), &store)?);
     Ok(())
+}
+
+/// Whether a store is nothing where nothing is written or left.
+fn is_nothing_of_none(alloc: Global) -> Result<bool, NoMemory> {
+    let written = Store::written(alloc, 1, 0, 0, numbers(NONE))?;
+    let left = Store::left(alloc, 1, 0, 0, numbers(NONE))?;
+    Ok(written.is_nothing() && left.is_nothing())
+}
+
+/// Whether a store is more than nothing, and equal to its copy.
+fn is_some_and_copied(alloc: Global, one: &Store) -> Result<bool, NoMemory> {
+    let none = Store::new(alloc);
+    let copy = one.copied(alloc)?;
+    let some = !one.is_nothing() && none.below(one) && !one.below(&none);
+    Ok(some && copy.below(one) && one.below(&copy))
+}
+
+/// Whether the task 1 wrote 4 to the cell 0 with no mutex held.
+fn has_four(store: &Store) -> bool {
+    let Some(held) = store.weak().get(1) else {
+        return false;
+    };
+    let Some(cells) = held.get(0) else {
+        return false;
+    };
+    match cells.get(0) {
+        None => false,
+        Some(value) => is_numbers(value, (4, 4)),
+    }
 }
 
 #[test]
 fn nothing_is_contributed_where_nothing_is_written(rt: HostRuntime) -> Result<(), Fail> {
     let alloc = rt.alloc();
-    assert!(rt; Store::written(alloc, 1, 0, 0, numbers(NONE))?.is_nothing());
-    assert!(rt; Store::left(alloc, 1, 0, 0, numbers(NONE))?.is_nothing());
+    let nothing = is_nothing_of_none(alloc)?;
     let one = Store::written(alloc, 1, 0, 0, numbers((4, 4)))?;
-    assert!(rt;
-        !one.is_nothing() && Store::new(alloc).below(&one) && !one.below(&Store::new(alloc))
-    );
-    let copy = one.copied(alloc)?;
-    assert!(rt; copy.below(&one) && one.below(&copy));
-    let entry = one.weak().get(1).and_then(|written| written.get(0));
-    assert!(rt;
-        entry.is_some_and(|cells| cells.get(0).is_some_and(|value| is_numbers(value, (4, 4))))
-    );
+    let copied = is_some_and_copied(alloc, &one)?;
+    assert!(rt; nothing & copied & has_four(&one));
     Ok(())
 }

@@ -10,8 +10,8 @@ use std::sync::Arc;
 use tm_lattice::{Keyed, Lattice, NoMemory};
 
 /// A finite table from numbers to values of a lattice, as a keyed table is, whose copies share the entries: one counted
-/// pointer holds all of them, None where there was none yet. A copy takes constant time, and a change copies the
-/// entries once.
+/// pointer holds all of them, None where there was none yet. A copy takes constant time, a change copies the entries
+/// once, and a join shares those of the side that is above the other, if one is.
 #[derive(Drop)]
 pub struct SharedTable<V: Lattice> {
     alloc: Global,
@@ -169,7 +169,19 @@ impl<V: Lattice> Lattice for SharedTable<V> {
             (None, None) => None,
             (None, Some(other)) => Some(Arc::try_clone(other)?),
             (Some(one), None) => Some(Arc::try_clone(one)?),
-            (Some(one), Some(other)) => Some(Arc::new(alloc, one.join(alloc, &**other)?)?),
+            (Some(one), Some(other)) => {
+                let (left, right) = (&**one, &**other);
+                // The calls tell that the entries are values.
+                let _left = left.is_nothing();
+                let _right = right.is_nothing();
+                if Lattice::below(right, left) {
+                    Some(Arc::try_clone(one)?)
+                } else if Lattice::below(left, right) {
+                    Some(Arc::try_clone(other)?)
+                } else {
+                    Some(Arc::new(alloc, left.join(alloc, right)?)?)
+                }
+            }
         };
         Ok(SharedTable { alloc, entries })
     }

@@ -1,8 +1,8 @@
 -- What the tests on sets and spans decide.
-use Rattle.std.proofs.Common.{◌≡◌, ◌↔◌, ℕ, ◌%◌, ℤ, pos, ◌+ℤ◌, ◌-ℤ◌, ◌≤ℤ◌, nat_abs, Bool, true, false, IsTrue, eqb, refl, sym, subst, arith}
+use Rattle.std.proofs.Common.{◌≡◌, ◌≢◌, ◌↔◌, ℕ, ◌%◌, ℤ, pos, ◌+ℤ◌, ◌-ℤ◌, ◌≤ℤ◌, nat_abs, Bool, true, false, IsTrue, eqb, refl, sym, subst, arith}
 use Rattle.std.specs.Int.{◌∣◌}
-use Rattle.std.proofs.lemmas.Nat.Gcd.{dvd-zero, dvd_of_mod-eq-zero, mod-eq-zero_of_dvd}
-use Rattle.std.proofs.Math.Nat.{eq-zero_of_zero-dvd}
+use Rattle.std.proofs.lemmas.Nat.Gcd.{dvd_of_mod-eq-zero, mod-eq-zero_of_dvd}
+use Rattle.std.proofs.Math.Nat.{eq-zero_of_zero-dvd, one-dvd}
 use Rattle.std.proofs.lemmas.Int.{ints}
 use Rattle.std.proofs.lemmas.Bool.Decides.{nat_tests}
 use Rattle.strided_dom.specs.Progression.{Progression, empty, Has, IsSubset, IsSpaced, first_of, last_of, stride_of}
@@ -14,9 +14,11 @@ use Rattle.strided_dom.proofs.Members.{spaced_from, has_from, has_last, not_in_e
 test_zero : (n : ℕ) → (IsTrue (eqb n 0) ↔ (n ≡ 0))
 test_zero n = grind (arith, nat_tests)
 
-pub multiple_of_zero : (d n : ℕ) → d ≡ 0 → (IsTrue (eqb n 0) ↔ (d ∣ n))
-multiple_of_zero d n e =
-    (λ t. subst (λ x. d ∣ x) (sym ((test_zero n).0 t)) (dvd-zero d), λ h. (test_zero n).1 (eq-zero_of_zero-dvd (subst (λ x. x ∣ n) e h)))
+pub none_of_zero : (d n : ℕ) → d ≡ 0 → n ≢ 0 → (IsTrue false ↔ (d ∣ n))
+none_of_zero d n e some = ((λ t. cc), λ h. absurd (some (eq-zero_of_zero-dvd (subst (λ x. x ∣ n) e h))))
+
+pub each_of_one : (d n : ℕ) → d ≡ 1 → (IsTrue true ↔ (d ∣ n))
+each_of_one d n e = ((λ t. subst (λ x. x ∣ n) (sym e) (one-dvd n)), λ h. refl)
 
 pub multiple_by_rest : (d n : ℕ) → (IsTrue (eqb (n % d) 0) ↔ (d ∣ n))
 multiple_by_rest d n =

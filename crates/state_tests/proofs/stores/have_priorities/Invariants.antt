@@ -1,6 +1,4 @@
-use Rattle.std.proofs.Common.{◌<◌, ℕ, All, take}
-use Rattle.tm_lattice.specs.Tables.{Table}
-use Rattle.pointer_dom.specs.Values.{Values}
+use Rattle.std.proofs.Common.{◌<◌, All, take}
 use Rattle.state_tests.proofs.Writers.{Written}
 use Rattle.state_tests.proofs.stores.have_priorities.Given as goal
 
