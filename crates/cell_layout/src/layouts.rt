@@ -1,5 +1,6 @@
 //! The layout of a file.
-ghost use Rattle.std.specs.Prelude.{◌≡◌, IfOk, IfSome};
+ghost use Rattle.std.specs.Prelude.{◌≡◌, ◌≤◌, ◌^◌, IfOk, IfErr, IfSome, length};
+ghost use Rattle.tm_terms.specs.declared.refusals.Fail.TheVariants as Fails;
 ghost use Rattle.tm_terms.specs.declared.refusals.Limit.TheVariants as Limits;
 ghost use Rattle.tm_typed.specs.TypedFiles.{typed_file_tree};
 ghost use Rattle.tm_laid.specs.Paths.{bodies_of};
@@ -70,10 +71,25 @@ fn tables_of(
     })
 }
 
+// There are no more objects than numbers: an object of a structure without members has no cell, so that no limit counts
+// it, and where there are more there is no memory for them.
+fn numbered(tables: Tables) -> Result<Tables, Fail>
+    ensures same { IfOk result (λ t. t ≡ tables) }
+    ensures numbered { IfOk result (λ t. length t.objects.items ≤ 2 ^ 32) }
+    ensures refused { IfErr result (λ fail. fail ≡ Fails.NoMemory) }
+{
+    if tables.objects.len() <= 4_294_967_296 {
+        Ok(tables)
+    } else {
+        Err(Fail::NoMemory)
+    }
+}
+
 // The tables of a file, or the first limit that it exceeds.
 fn checked_tables(alloc: Global, file: &TypedFile) -> Result<Tables, Fail>
     requires layable { IsLayable (typed_file_tree file.now) file.now.order.items }
-    ensures { AreTables (typed_file_tree file.now) result }
+    ensures told { AreTables (typed_file_tree file.now) result }
+    ensures numbered { IfOk result (λ t. length t.objects.items ≤ 2 ^ 32) }
 {
     let bodies = match bodies(alloc, file) {
         Ok(bodies) => bodies,
@@ -84,7 +100,7 @@ fn checked_tables(alloc: Global, file: &TypedFile) -> Result<Tables, Fail>
         Err(fail) => return Err(fail),
     };
     match tables_of(alloc, file, bodies, &totals) {
-        Ok(tables) => Ok(tables),
+        Ok(tables) => numbered(tables),
         Err(NoMemory) => Err(Fail::NoMemory),
     }
 }
@@ -92,7 +108,9 @@ fn checked_tables(alloc: Global, file: &TypedFile) -> Result<Tables, Fail>
 // A file with what a layout adds to it.
 fn with_file(file: TypedFile, tables: Tables) -> Laid
     requires layout { IsLayoutOf (typed_file_tree file) tables }
-    ensures { laid_tree result ≡ layout_of (typed_file_tree file) }
+    ensures layout { laid_tree result ≡ layout_of (typed_file_tree file) }
+    ensures order { result.file.order.items ≡ file.order.items }
+    ensures objects { result.objects.items ≡ tables.objects.items }
 {
     let Tables {
         bodies,
@@ -132,6 +150,8 @@ fn with_file(file: TypedFile, tables: Tables) -> Laid
 pub fn lay(alloc: Global, typed: TypedFile) -> Result<Laid, Fail>
     requires layable { IsLayable (typed_file_tree typed) typed.order.items }
     ensures told { IfSome (answer_of result) (λ answer. laid_out (typed_file_tree typed) ≡ answer) }
+    ensures order { IfOk result (λ laid. laid.file.order.items ≡ typed.order.items) }
+    ensures numbered { IfOk result (λ laid. length laid.objects.items ≤ 2 ^ 32) }
 {
     match checked_tables(alloc, &typed) {
         Ok(tables) => Ok(with_file(typed, tables)),

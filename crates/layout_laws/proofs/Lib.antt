@@ -1,0 +1,3 @@
+-- How many cells types have, and layouts (Counted), and what keeps within its limits (Kept).
+pub mod Counted
+pub mod Kept

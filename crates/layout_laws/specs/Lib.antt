@@ -1,0 +1,2 @@
+-- The limits of layouts (Limited).
+pub mod Limited

@@ -1,0 +1,13 @@
+-- The limits of layouts.
+use Rattle.std.specs.Prelude.{◌≡◌, ◌≤◌, length}
+use Rattle.tm_typed.specs.Files.{TypedFileTree}
+use Rattle.tm_laid.specs.Layouts.{LaidTree, layout_of}
+
+-- the layout of this file, with as many tasks, mutexes, call paths, cells and abstract cells as the limits allow
+pub record IsLimited (file : TypedFileTree) (laid : LaidTree) : Type 0 where
+  pub whole : laid ≡ layout_of file
+  pub tasks : length laid.file.tasks ≤ 32
+  pub mutexes : length laid.file.mutexes ≤ 16
+  pub paths : length laid.paths ≤ 4096
+  pub cells : length laid.cells ≤ 65536
+  pub abstract_cells : length laid.abstract_cells ≤ 4096
