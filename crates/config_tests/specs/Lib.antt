@@ -1,0 +1,2 @@
+-- When a list of edges can be configured (Checks).
+pub mod Checks

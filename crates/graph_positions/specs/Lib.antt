@@ -1,0 +1,7 @@
+-- Layouts that serve (Layouts), what the code holds of operations (Outcomes) and memories (Memories), positions of a
+-- graph (Positions), and what the code keeps (reading).
+pub mod Layouts
+pub mod Outcomes
+pub mod Memories
+pub mod Positions
+pub mod reading

@@ -1,0 +1,5 @@
+pub mod Grouping
+pub mod Searching
+pub mod Ordered
+pub mod CopyLists
+pub mod Whole

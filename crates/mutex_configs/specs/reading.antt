@@ -1,0 +1,4 @@
+pub mod Groups
+pub mod Searches
+pub mod Copying
+pub mod Configuring

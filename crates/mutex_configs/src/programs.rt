@@ -1,0 +1,169 @@
+//! Configured programs.
+ghost use Rattle.std.specs.Prelude.{◌≡◌, ◌≤◌, ◌<◌, ◌^◌, ◌↔◌, length, All, IfOk, IsTrue, option_map};
+ghost use Rattle.std.specs.Result.{result_map_both};
+ghost use Rattle.tm_terms.specs.declared.refusals.Fail.TheVariants as Fails;
+ghost use Rattle.tm_terms.specs.declared.refusals.Limit.TheVariants as Limits;
+ghost use Rattle.tm_laid.specs.Layouts.{laid_tree, beyond};
+ghost use Rattle.flow_graph.specs.declared.graphs.Graph.{Graph as AGraph};
+ghost use Rattle.mutex_configs.specs.Graphs.{IsGraph};
+ghost use Rattle.mutex_configs.specs.Programs.{is_owned_by, is_seen, seen_cells, work_from, AreConfigured, IsAnswer};
+ghost use Rattle.mutex_configs.specs.declared.nodes.ConfiguredGraph.{ConfiguredGraph as AConfigured};
+ghost use Rattle.mutex_configs.specs.reading.Configuring.{IsOne, AreAll};
+
+use crate::copies::copies;
+use crate::nodes::ConfiguredGraph;
+use crate::reached::reached;
+use flow_graph::{Graph, Graphs};
+use std::alloc::Global;
+use strided_dom::Marks;
+use tm_laid::{AbstractCell, Laid};
+use tm_lattice::NoMemory;
+use tm_terms::{Fail, Kind, Limit, Place, Refusal};
+
+/// A program that can be analysed: its layout, the graphs of its bodies with their configured graphs, and the
+/// thresholds onto which its values are rounded.
+#[derive(Drop)]
+pub struct Program {
+    pub laid: Laid,
+    pub graphs: Graphs,
+    pub configured: Vec<ConfiguredGraph>,
+    pub marks: Marks,
+}
+
+// The refusal by a limit.
+fn refused(limit: Limit) -> Fail
+    ensures { result ≡ Fails.Refused (beyond limit) }
+{
+    Fail::Refused(Refusal {
+        kind: Kind::Limit,
+        place: Place { line: 0, col: 0 },
+        limit: Some(limit),
+    })
+}
+
+// The configured graph of a graph; none where it has too many nodes.
+fn configured_graph(alloc: Global, graph: &Graph) -> Result<Option<ConfiguredGraph>, NoMemory>
+    requires { IsGraph graph.now }
+    ensures { IfOk result (λ found. IsOne graph.now found) }
+{
+    let Some(nodes) = reached(alloc, graph, Limit::Nodes.number() as usize)? else {
+        return Ok(None);
+    };
+    let copies = copies(alloc, graph, &nodes)?;
+    Ok(Some(ConfiguredGraph { nodes, copies }))
+}
+
+// The configured graphs of graphs; none where one has too many nodes.
+fn configured_graphs(
+    alloc: Global,
+    graphs: &[Graph],
+) -> Result<Option<Vec<ConfiguredGraph>>, NoMemory>
+    requires { All IsGraph graphs.now }
+    ensures { IfOk result (λ found. AreAll graphs.now (option_map (λ v. v.items) found)) }
+{
+    let mut configured = Vec::new(alloc);
+    for graph in graphs {
+        let Some(one) = configured_graph(alloc, graph)? else {
+            return Ok(None);
+        };
+        configured.push(one)?;
+    }
+    Ok(Some(configured))
+}
+
+// Whether an object with this owner is static, or belongs to the body.
+fn is_own(laid: &Laid, body: u32, owner: Option<u32>) -> bool
+    ensures { result ≡ is_owned_by (laid_tree laid.now) body owner }
+{
+    match owner {
+        None => true,
+        Some(path) => match laid.paths.get(path as usize) {
+            Some(path) => path.body == body,
+            None => body == 0,
+        },
+    }
+}
+
+// Whether an abstract cell is static, or belongs to the body.
+fn is_cell_seen(laid: &Laid, body: u32, cell: AbstractCell) -> bool
+    ensures { result ≡ is_seen (laid_tree laid.now) body cell }
+{
+    match laid.objects.get(cell.object as usize) {
+        Some(object) => is_own(laid, body, object.owner),
+        None => true,
+    }
+}
+
+// How many abstract cells are static or the body's own.
+fn cells_seen(laid: &Laid, body: u32) -> u32
+    requires { length laid.now.abstract_cells.items ≤ 4096 }
+    ensures count { result ≡ seen_cells (laid_tree laid.now) body }
+    ensures most { result ≤ 4096 }
+{
+    let mut count = 0;
+    for cell in &laid.abstract_cells {
+        if is_cell_seen(laid, body, *cell) {
+            count += 1;
+        }
+    }
+    count
+}
+
+// Whether the work of the configured graphs is within the limit.
+fn is_within_work(laid: &Laid, configured: &[ConfiguredGraph]) -> bool
+    requires cells { length laid.now.abstract_cells.items ≤ 4096 }
+    requires nodes { All (λ (c : AConfigured). length c.nodes.keys ≤ 20000) configured.now }
+    requires bodies { length configured.now < 2 ^ 32 }
+    ensures { IsTrue result ↔ (work_from (laid_tree laid.now) 0 configured.now ≤ 8000000) }
+{
+    let mut work = 0u32;
+    for body in 0..configured.len() {
+        let nodes = configured[body].nodes.len() as u32;
+        work += nodes * cells_seen(laid, body as u32);
+        if work > Limit::Work.number() {
+            return false;
+        }
+    }
+    true
+}
+
+// The configured graphs of a layout's graphs, within the limits.
+fn within_limits(alloc: Global, laid: &Laid, graphs: &[Graph]) -> Result<Vec<ConfiguredGraph>, Fail>
+    requires graphs { All IsGraph graphs.now }
+    requires cells { length laid.now.abstract_cells.items ≤ 4096 }
+    requires bodies { length graphs.now < 2 ^ 32 }
+    ensures { IsAnswer (laid_tree laid.now) graphs.now (result_map_both (λ v. v.items) (λ e. e) result) }
+{
+    let Some(configured) = configured_graphs(alloc, graphs)? else {
+        return Err(refused(Limit::Nodes));
+    };
+    if is_within_work(laid, &configured) {
+        Ok(configured)
+    } else {
+        Err(refused(Limit::Work))
+    }
+}
+
+/// A program with its configured graphs. Refused: Limit nodes where more than 20,000 nodes are reached in the graph of
+/// some body; else Limit work where the nodes of each body, each times the abstract cells that are static or the body's
+/// own, are more than 8,000,000 in all.
+pub fn configured(alloc: Global, laid: Laid, graphs: Graphs, marks: Marks) -> Result<Program, Fail>
+    requires graphs { All IsGraph graphs.graphs.items }
+    requires cells { length laid.abstract_cells.items ≤ 4096 }
+    requires bodies { length graphs.graphs.items < 2 ^ 32 }
+    ensures answer { IsAnswer (laid_tree laid) graphs.graphs.items
+        (result_map_both (λ p. p.configured.items) (λ e. e) result) }
+    ensures laid { IfOk result (λ p. laid_tree p.laid ≡ laid_tree laid) }
+    ensures graphs { IfOk result (λ p. p.graphs ≡ graphs) }
+    ensures marks { IfOk result (λ p. p.marks ≡ marks) }
+{
+    match within_limits(alloc, &laid, &graphs.graphs) {
+        Ok(configured) => Ok(Program {
+            laid,
+            graphs,
+            configured,
+            marks,
+        }),
+        Err(fail) => Err(fail),
+    }
+}

@@ -1,0 +1,3 @@
+-- The cells that are written in regions (Written), and what the code keeps (reading).
+pub mod Written
+pub mod reading
