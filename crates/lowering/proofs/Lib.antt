@@ -14,7 +14,7 @@ mod Statements
 mod Loops
 mod Switches
 mod StatementLaw
-mod Bodies
+pub mod Bodies
 mod OwnSteps
-mod Own
+pub mod Own
 mod cases

@@ -1,0 +1,14 @@
+pub mod Orders
+pub mod Firsts
+pub mod Placed
+pub mod Founded
+pub mod PathNumbers
+pub mod Operands
+pub mod Statements
+pub mod Lowered
+pub mod Ranges
+pub mod MutexSteps
+pub mod MutexGraphs
+pub mod Configured
+pub mod GraphLaws
+mod Example

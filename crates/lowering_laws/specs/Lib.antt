@@ -1,0 +1,3 @@
+-- What the laws speak of.
+pub mod LaidFiles
+pub mod Mutexes
