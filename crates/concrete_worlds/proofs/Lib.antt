@@ -1,0 +1,5 @@
+pub mod Sets
+pub mod Lists
+pub mod StandingViews
+pub mod Cleared
+pub mod Racing

@@ -1,0 +1,4 @@
+pub mod Standings
+pub mod Turns
+pub mod Clearing
+pub mod Access

@@ -1,0 +1,148 @@
+//! Worlds.
+ghost use Rattle.std.specs.Prelude.{◌≡◌, ℕ, ◌<◌, ◌∷◌, ◌++◌, [], length, map, get_or, slice_get, slice_set, IsOk, OnOk};
+ghost use Rattle.std.specs.Prelude.{OnErr, option_map, vec_items, vec_len, vec_capacity};
+ghost use Rattle.tm_laid.specs.Layouts.{laid_tree};
+ghost use Rattle.concrete_steps.specs.NextAction.{next};
+ghost use Rattle.concrete_steps.specs.Worlds.{next_at, settled, did, tasks_may_run};
+ghost use Rattle.concrete_worlds.specs.Lawful.{HasWorlds};
+ghost use Rattle.concrete_worlds.specs.Views.{standing_of, laid_of, world_of, Leads, RoomAt, HasRoom};
+ghost use Rattle.concrete_worlds.specs.reading.Turns.{arrived};
+
+use crate::standings::{TaskStanding, is_done, settled, stand};
+use concrete_steps::{Content, Stepped};
+use concrete_values::{Answer, Next};
+use task_interpreter::next;
+use tm_laid::Laid;
+use tm_lattice::NoMemory;
+
+/// A world of a laid out program: what each cell holds, how each task stands and which answers it has had, and behind
+/// them the initial section where there is one; and whether an error has stopped the run.
+#[derive(Drop)]
+pub struct World<'a> {
+    pub(crate) laid: &'a Laid,
+    pub(crate) contents: Vec<Content>,
+    pub(crate) standings: Vec<TaskStanding>,
+    pub(crate) answers: Vec<Vec<Answer>>,
+    pub(crate) stopped: bool,
+}
+
+// Makes room for one more answer.
+fn reserve_one(list: &mut Vec<Answer>) -> Result<(), NoMemory>
+    ensures same { list.new.items ≡ list.old.items }
+    ensures room { OnOk result (vec_len list.new < vec_capacity list.new) }
+{
+    match list.reserve(1) {
+        Ok(()) => Ok(()),
+        Err(_) => Err(NoMemory),
+    }
+}
+
+// Makes room for one more answer in each list.
+fn reserve_all(lists: &mut [Vec<Answer>]) -> Result<(), NoMemory>
+    ensures same { map vec_items lists.new ≡ map vec_items lists.old }
+    ensures room { OnOk result ((i : ℕ) → RoomAt lists.new i) }
+{
+    for list in lists.iter_mut() {
+        match reserve_one(list) {
+            Ok(()) => {}
+            Err(NoMemory) => return Err(NoMemory),
+        }
+    }
+    Ok(())
+}
+
+/// The task takes an answer.
+pub(crate) fn tell(lists: &mut Vec<Vec<Answer>>, task: u32, answer: Answer) -> Result<(), NoMemory>
+    ensures told { OnOk result (map vec_items lists.new.items ≡ slice_set (map vec_items lists.old.items) task
+        (get_or (map vec_items lists.old.items) task [] ++ answer ∷ [])) }
+    ensures same { OnErr result (map vec_items lists.new.items ≡ map vec_items lists.old.items) }
+    ensures room { RoomAt lists.old.items task → IsOk result }
+{
+    match lists.get_mut(task as usize) {
+        Some(list) => match list.push(answer) {
+            Ok(()) => Ok(()),
+            Err(_) => Err(NoMemory),
+        },
+        None => Ok(()),
+    }
+}
+
+/// What a task, or the initial section, does next, where these are the answers of each.
+#[tactic(auto, using(crate::proofs::Lists::answers_there, crate::proofs::Lists::no_answers_there))]
+pub(crate) fn next_after(laid: &Laid, answers: &[Vec<Answer>], task: u32) -> Next
+    requires { HasWorlds laid.now }
+    ensures { result ≡ next (laid_tree laid.now) task (get_or (map vec_items answers.now) task []) }
+{
+    match answers.get(task as usize) {
+        Some(answers) => next(laid, task, answers),
+        None => next(laid, task, &[]),
+    }
+}
+
+impl World<'_> {
+    /// Makes room for one answer of each task, and of the initial section: a step takes no memory then.
+    pub fn reserve(&mut self) -> Result<(), NoMemory>
+        ensures laid { self.new.laid.now ≡ self.old.laid.now }
+        ensures same { world_of self.new ≡ world_of self.old }
+        ensures room { OnOk result (HasRoom self.new) }
+    {
+        reserve_all(&mut self.answers)
+    }
+
+    /// What a cell holds.
+    pub fn content(&self, cell: u32) -> Option<Content>
+        ensures { result ≡ slice_get (world_of self.now).contents cell }
+    {
+        self.contents.get(cell as usize).copied()
+    }
+
+    /// How a task, or the initial section, stands.
+    #[tactic(auto, using(crate::proofs::StandingViews::found_there))]
+    pub fn standing(&self, task: u32) -> Option<TaskStanding>
+        ensures { option_map (standing_of (length self.now.laid.now.file.mutexes.items)) result
+            ≡ slice_get (world_of self.now).standings task }
+    {
+        self.standings.get(task as usize).copied()
+    }
+
+    /// Whether an error has stopped the run.
+    pub fn is_stopped(&self) -> bool
+        ensures { result ≡ (world_of self.now).stopped }
+    {
+        self.stopped
+    }
+
+    /// What a task, or the initial section, does next.
+    #[tactic(auto, unfolding(concrete_steps::specs::Worlds::next_at))]
+    pub(crate) fn next_of(&self, task: u32) -> Next
+        requires { HasWorlds self.now.laid.now }
+        ensures { result ≡ next_at (laid_of self.now) (world_of self.now) task }
+    {
+        next_after(self.laid, &self.answers, task)
+    }
+
+    /// Whether there is no initial section, or it is done.
+    pub(crate) fn tasks_may_run(&self) -> bool
+        requires { HasWorlds self.now.laid.now }
+        ensures { result ≡ tasks_may_run (laid_of self.now) (world_of self.now) }
+    {
+        match self.standing(self.laid.file.tasks.len() as u32) {
+            None => true,
+            Some(section) => is_done(section.status),
+        }
+    }
+
+    /// The task, which has had its answer and stands so, comes to its next action.
+    #[tactic(auto, using(crate::proofs::StandingViews::stands_there))]
+    pub(crate) fn arrive(&mut self, task: u32, standing: TaskStanding) -> Stepped
+        requires { HasWorlds self.old.laid.now }
+        ensures laid { self.new.laid ≡ self.old.laid }
+        ensures leads { Leads (did (arrived (laid_of self.old) task (standing_of
+            (length self.old.laid.now.file.mutexes.items) standing) (world_of self.old))) result (world_of self.new) }
+    {
+        let action = self.next_of(task);
+        let standing = settled(self.laid, task, action, standing);
+        stand(&mut self.standings, task, standing);
+        Stepped::Done
+    }
+}

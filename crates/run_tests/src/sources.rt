@@ -1,0 +1,70 @@
+//! The layout of a source.
+ghost use Rattle.std.specs.Prelude.{IfOk};
+ghost use Rattle.concrete_worlds.specs.Lawful.{HasWorlds};
+
+use c_lexer::lex;
+use c_parser::parse;
+use c_typing::typed;
+use cell_layout::lay;
+use concrete_worlds::laws::laid_files_have_worlds;
+use std::alloc::Global;
+use tm_laid::Laid;
+use tm_terms::{Fail as Refused, Name, Shape, Token};
+use tm_trees::File;
+use typed_file_laws::typed_files_can_be_laid_out;
+
+// Whether the name is spelled `main`.
+fn is_main(source: &[u8], name: Name) -> bool {
+    match source.get(name.start as usize) {
+        Some(first) => name.length == 4 && *first == b'm' && ends_as_main(source, name.start),
+        None => false,
+    }
+}
+
+// Whether `ain` stands behind this byte.
+fn ends_as_main(source: &[u8], start: u32) -> bool {
+    let at = start as usize;
+    source.get(at + 1) == Some(&b'a')
+        && source.get(at + 2) == Some(&b'i')
+        && source.get(at + 3) == Some(&b'n')
+}
+
+// The name that is spelled `main`.
+fn main_in(source: &[u8], tokens: &[Token]) -> Option<Name> {
+    for token in tokens {
+        if let Shape::Name(name) = token.shape {
+            if is_main(source, name) {
+                return Some(name);
+            }
+        }
+    }
+    None
+}
+
+// The layout of a file: what it needs follows from its typing and from the limits.
+fn laid_in(alloc: Global, file: &File, main: Option<Name>) -> Result<Laid, Refused>
+    ensures { IfOk result (λ laid. HasWorlds laid) }
+{
+    typed_files_can_be_laid_out();
+    laid_files_have_worlds();
+    match typed(alloc, file, main) {
+        Ok(typed) => lay(alloc, typed),
+        Err(fail) => Err(fail),
+    }
+}
+
+/// The layout of a source, or its refusal.
+pub fn laid_out(alloc: Global, source: &[u8]) -> Result<Laid, Refused>
+    ensures { IfOk result (λ laid. HasWorlds laid) }
+{
+    if source.len() > 1_048_576 {
+        return Err(Refused::NoMemory);
+    }
+    match lex(alloc, source) {
+        Ok(tokens) => match parse(alloc, &tokens) {
+            Ok(file) => laid_in(alloc, &file, main_in(source, &tokens)),
+            Err(fail) => Err(fail),
+        },
+        Err(fail) => Err(fail),
+    }
+}
