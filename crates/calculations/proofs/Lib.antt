@@ -1,0 +1,2 @@
+pub mod Calculating
+pub mod StandingOffsets

@@ -1,0 +1,8 @@
+use Rattle.calculations.proofs.Calculating.{element_given}
+use Rattle.calculations.proofs.addresses.element.Goals as goal
+
+pub returns : goal.returns
+returns c =
+    let n = c.no_classes.ensures in
+    element_given c.args.state.now _ c.args.source c.pointers_of-pointers.result.now c.in_ok-reached.reached.pointers c.from_pointers.ensures c.pointers_of-pointers.ensures c.objects.ensures.within c.objects-2.ensures.within
+    c.args.count c.args.cells c.args.index c.in_ok-reached.reached.may_fail c.numbers_of-subscripts.result c.numbers_of-subscripts.ensures c.in_ok-reached.ensures.pointers c.in_ok-reached.ensures.class (λ i. record (n i) { index = c.in_ok-reached.reached.may_fail })

@@ -1,0 +1,2 @@
+-- What the code keeps while it goes through the offsets of an object (Ends).
+pub mod Ends

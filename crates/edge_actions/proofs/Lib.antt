@@ -1,0 +1,5 @@
+pub mod ActionForms
+pub mod Examples
+pub mod LeadingCells
+pub mod Lists
+pub mod Ranges

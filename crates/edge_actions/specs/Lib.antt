@@ -1,0 +1,3 @@
+pub mod Layouts
+pub mod Edges
+pub mod reading

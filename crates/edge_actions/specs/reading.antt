@@ -1,0 +1,2 @@
+-- What the code finds in one object (Spans).
+pub mod Spans

@@ -1,0 +1,3 @@
+pub mod Common
+pub mod Effects
+pub mod LiveTemps
