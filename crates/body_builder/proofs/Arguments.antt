@@ -15,7 +15,8 @@ use Rattle.lowering.specs.Built.{Building, temp_of}
 use Rattle.body_builder.specs.declared.fragments.Wanted.{Wanted}
 use Rattle.body_builder.specs.declared.fragments.Found.{Found}
 use Rattle.body_builder.specs.declared.fragments.Wanted.TheVariants as Want
-use Rattle.body_builder.specs.reading.Expressions.{Outcome, Listed, Lists, Finds, call_ends, value_at, values_at}
+use Rattle.body_builder.specs.reading.Expressions.{Listed, Lists, call_ends, value_at, values_at}
+use Rattle.body_builder.specs.Placing.{Outcome, Finds}
 
 module _ (laid : LaidTree) (depth path : ℕ) where
   -- the arguments from this one on are left, behind those with these temporaries

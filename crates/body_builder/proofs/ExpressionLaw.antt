@@ -33,7 +33,8 @@ use Rattle.lowering.specs.Built.{inputs_piece, code_piece, fork_piece}
 use Rattle.body_builder.specs.declared.fragments.Wanted.{Wanted}
 use Rattle.body_builder.specs.declared.fragments.Wanted.TheVariants as Want
 use Rattle.body_builder.specs.Fragments.{calls_on, IsPart, IsForked}
-use Rattle.body_builder.specs.reading.Expressions.{Outcome, Given, Listed, tested, ends, ends_fork, new_value, ends_new}
+use Rattle.body_builder.specs.reading.Expressions.{Listed, ends, ends_fork, ends_new}
+use Rattle.body_builder.specs.Placing.{Outcome, Given, tested, new_value}
 use Rattle.body_builder.specs.reading.Expressions.{converted, operator_ends, binary_ends, pointers_ends, loaded, stored}
 use Rattle.body_builder.specs.reading.Expressions.{changed, compound_ends, unit_step_ends, moved_stored}
 use Rattle.body_builder.specs.reading.Expressions.{compound_move_ends, pointer_step_ends, copied_if, choice_ends}

@@ -14,7 +14,8 @@ use Rattle.lowering.specs.Built.{path_piece}
 use Rattle.body_builder.specs.declared.fragments.Call.{Call}
 use Rattle.body_builder.specs.declared.fragments.Size.{Size}
 use Rattle.body_builder.specs.Fragments.{starting, called_edges, IsPart, IsSize, with_call}
-use Rattle.body_builder.specs.reading.Expressions.{new_value, argument_stored}
+use Rattle.body_builder.specs.reading.Expressions.{argument_stored}
+use Rattle.body_builder.specs.Placing.{new_value}
 use Rattle.body_builder.proofs.Prefixes.{before, path_before}
 use Rattle.body_builder.proofs.Sizes.{Further, PartFurther, path_further}
 

@@ -1,2 +1,3 @@
 pub mod Fragments
+pub mod Placing
 pub mod reading

@@ -3,7 +3,8 @@ ghost use Rattle.std.specs.Prelude.{◌≡◌, ◌+◌, IfOk, OnOk, option_map};
 ghost use Rattle.flow_graph.specs.declared.operations.Operation.TheVariants as Op;
 ghost use Rattle.lowering.specs.Built.{stores_piece, path_piece, function_end};
 ghost use Rattle.body_builder.specs.Fragments.{tree_in, so_far, IsSize, IsPart, with_call, calls_on};
-ghost use Rattle.body_builder.specs.reading.Expressions.{new_value, Gives, Finds, call_ends, argument_stored};
+ghost use Rattle.body_builder.specs.reading.Expressions.{call_ends, argument_stored};
+ghost use Rattle.body_builder.specs.Placing.{new_value, Gives, Finds};
 
 use crate::forms::{temp_if, temp_of};
 use crate::fragments::{Call, Found, Fragment, Item, Size, Wanted};
@@ -39,7 +40,7 @@ impl Here<'_> {
     }
 
     /// The address of an object.
-    pub(crate) fn base(&self, to: &mut Fragment, object: u32) -> Result<u32, NoMemory>
+    pub fn base(&self, to: &mut Fragment, object: u32) -> Result<u32, NoMemory>
         ensures { IfOk result (λ t. Gives (new_value (Op.Base (so_far (tree_in self.now.laid.now) to.old).temps object)
             (so_far (tree_in self.now.laid.now) to.old)) (so_far (tree_in self.now.laid.now) to.new) t) }
     {

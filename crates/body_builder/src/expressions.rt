@@ -2,7 +2,8 @@
 ghost use Rattle.std.specs.Prelude.{◌≡◌, IfOk};
 ghost use Rattle.tm_typed.specs.TypedTrees.{rvalue_tree, lvalue_tree, as_rvalues};
 ghost use Rattle.body_builder.specs.Fragments.{tree_in, so_far};
-ghost use Rattle.body_builder.specs.reading.Expressions.{value_at, address_at, values_at, Finds, Gives, Lists};
+ghost use Rattle.body_builder.specs.reading.Expressions.{value_at, address_at, values_at, Lists};
+ghost use Rattle.body_builder.specs.Placing.{Finds, Gives};
 
 use crate::forms::{Change, Moved, temp_if, temp_of};
 use crate::fragments::{Found, Fragment, Wanted};
@@ -87,9 +88,8 @@ pub(crate) fn build_value(
             here.ends(to, wanted, false, place, None)
         }
         Rvalue::Same { value, place } => {
-            let pointer = gives_pointer(here.laid, value);
             let found = build_value(here, to, value, Wanted::Value)?;
-            here.ends(to, wanted, pointer, *place, found.temp)
+            here.same_ends(to, wanted, value, *place, found.temp)
         }
         Rvalue::Call {
             function,

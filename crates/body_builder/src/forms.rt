@@ -1,26 +1,28 @@
 //! What the forms of expressions end with, once their parts are built.
 ghost use Rattle.std.specs.Prelude.{◌≡◌, IfOk, OnOk, pos};
+ghost use Rattle.tm_typed.specs.TypedTrees.{rvalue_tree};
+ghost use Rattle.concrete_steps.specs.Places.{gives_pointer};
 ghost use Rattle.lowering.specs.Built.{temp_of};
 ghost use Rattle.body_builder.specs.Fragments.{tree_in, so_far};
-ghost use Rattle.body_builder.specs.reading.Expressions.{Gives, Finds, ends, usable_if, ends_fork, converted};
+ghost use Rattle.body_builder.specs.reading.Expressions.{ends, usable_if, ends_fork, converted};
+ghost use Rattle.body_builder.specs.Placing.{new_value, Gives, Finds};
 ghost use Rattle.body_builder.specs.reading.Expressions.{operator_ends, binary_ends, pointers_ends, stored, changed};
 ghost use Rattle.body_builder.specs.reading.Expressions.{compound_ends, unit_step_ends, moved_stored, temp_if};
 ghost use Rattle.body_builder.specs.reading.Expressions.{compound_move_ends, pointer_step_ends, copied_if, truth_at};
 ghost use Rattle.body_builder.specs.reading.Expressions.{copied_to_if, choice_ends, both_meet, either_meet};
-ghost use Rattle.body_builder.specs.reading.Expressions.{conversion_ends, both_usable};
-ghost use Rattle.body_builder.specs.reading.Expressions.{loaded, new_value};
+ghost use Rattle.body_builder.specs.reading.Expressions.{conversion_ends, both_usable, loaded};
 ghost use Rattle.flow_graph.specs.declared.operations.Operation.TheVariants as Op;
 ghost use Rattle.concrete_values.specs.declared.values.Value.TheVariants.{Number};
 
 use crate::fragments::{Found, Fragment, Wanted};
 use crate::here::Here;
-use crate::lookups::{conversion, is_comparison, is_pointer_scalar};
+use crate::lookups::{conversion, gives_pointer, is_comparison, is_pointer_scalar};
 use concrete_values::{Value, truth_value};
 use flow_graph::{Into, Operation, Test};
 use tm_cint::{BinOp, IntType};
 use tm_lattice::NoMemory;
 use tm_terms::Place;
-use tm_typed::Scalar;
+use tm_typed::{Rvalue, Scalar};
 
 /// The temporary of a value that is used.
 pub(crate) fn temp_of(temp: Option<u32>) -> u32
@@ -108,8 +110,32 @@ impl Here<'_> {
         }
     }
 
+    /// A value is there, which is that of another expression. Whether this one is a pointer counts for a branch alone: it
+    /// is asked only there, since the question goes down the expression.
+    #[tactic(auto, unfolding(crate::specs::reading::Expressions::ends))]
+    pub(crate) fn same_ends(
+        &self,
+        to: &mut Fragment,
+        wanted: Wanted,
+        other: &Rvalue,
+        place: Place,
+        temp: Option<u32>,
+    ) -> Result<Found, NoMemory>
+        ensures { IfOk result (λ x. Finds (ends wanted (gives_pointer (tree_in self.now.laid.now) (rvalue_tree other.now))
+            place temp (so_far (tree_in self.now.laid.now) to.old)) (so_far (tree_in self.now.laid.now) to.new) x) }
+    {
+        match wanted {
+            Wanted::Value => Ok(Found { temp, other: 0 }),
+            Wanted::Bare => Ok(Found { temp, other: 0 }),
+            Wanted::Branch => {
+                let pointer = gives_pointer(self.laid, other);
+                self.ends(to, Wanted::Branch, pointer, place, temp)
+            }
+        }
+    }
+
     // 1 and 0 meet.
-    #[tactic(auto, unfolding(crate::specs::reading::Expressions::new_value))]
+    #[tactic(auto, unfolding(crate::specs::Placing::new_value))]
     fn truth_at(&self, to: &mut Fragment, other: u32) -> Result<u32, NoMemory>
         ensures { IfOk result (λ t. (t ≡ (so_far (tree_in self.now.laid.now) to.old).temps)
             × (so_far (tree_in self.now.laid.now) to.new

@@ -15,6 +15,8 @@ mod lookups;
 mod operands;
 mod placing;
 
-pub use fragments::{Call, Fragment, Item, Size};
+pub use fragments::{Call, Found, Fragment, Item, Size};
 pub use here::Here;
+pub use lookups::{callee, function_on, is_value_type, object_of, result_type, scalar_at, type_at};
 pub use operands::{build_condition, build_operand};
+pub use placing::more;

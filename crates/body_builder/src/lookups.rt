@@ -73,8 +73,8 @@ pub(crate) fn step_operator(step: Step) -> BinOp
     if step.minus { BinOp::Sub } else { BinOp::Add }
 }
 
-// Whether a function with a result of this type gives a value.
-pub(crate) fn is_value_type(ctype: CType) -> bool
+/// Whether a function with a result of this type gives a value.
+pub fn is_value_type(ctype: CType) -> bool
     ensures { result ≡ is_value_type ctype }
 {
     match ctype {
@@ -149,7 +149,7 @@ pub(crate) fn implied(value: &Rvalue) -> Option<(IntType, IntType)>
 
 /// The path that goes on from a path by one of its calls.
 #[tactic(auto, using(crate::proofs::FileTables::reads), unfolding(crate::specs::Fragments::tree_in))]
-pub(crate) fn callee(laid: &Laid, path: u32, site: u32) -> u32
+pub fn callee(laid: &Laid, path: u32, site: u32) -> u32
     ensures { result ≡ callee (tree_in laid.now) path site }
 {
     match laid.callees.get(path as usize) {
@@ -163,7 +163,7 @@ pub(crate) fn callee(laid: &Laid, path: u32, site: u32) -> u32
 
 /// The object that a number stands for on a path.
 #[tactic(auto, unfolding(crate::specs::Fragments::tree_in))]
-pub(crate) fn object_of(laid: &Laid, path: u32, object: ObjectNumber) -> Result<u32, NoMemory>
+pub fn object_of(laid: &Laid, path: u32, object: ObjectNumber) -> Result<u32, NoMemory>
     ensures { IfOk result (λ o. o ≡ object_of (tree_in laid.now) path object) }
 {
     match object {
@@ -201,16 +201,16 @@ fn scalar_of(laid: &Laid, cell: u32) -> Scalar
 }
 
 /// The type of a cell of an object.
-pub(crate) fn scalar_at(laid: &Laid, object: u32, cell: u32) -> Result<Scalar, NoMemory>
+pub fn scalar_at(laid: &Laid, object: u32, cell: u32) -> Result<Scalar, NoMemory>
     ensures { IfOk result (λ s. s ≡ scalar_at (tree_in laid.now) object cell) }
 {
     let number = more(first_cell(laid, object), cell)?;
     Ok(scalar_of(laid, number))
 }
 
-// What a type is.
+/// What a type is.
 #[tactic(auto, unfolding(crate::specs::Fragments::tree_in))]
-fn type_at(laid: &Laid, number: u32) -> CType
+pub fn type_at(laid: &Laid, number: u32) -> CType
     ensures { result ≡ (entry_of (tree_in laid.now).file number).ctype }
 {
     match laid.file.types.get(number as usize) {
@@ -232,7 +232,7 @@ fn result_number(laid: &Laid, function: u32) -> u32
 
 /// The function of a path.
 #[tactic(auto, unfolding(crate::specs::Fragments::tree_in))]
-pub(crate) fn function_on(laid: &Laid, path: u32) -> u32
+pub fn function_on(laid: &Laid, path: u32) -> u32
     ensures { result ≡ (path_at (tree_in laid.now) path).function }
 {
     match laid.paths.get(path as usize) {
@@ -242,7 +242,7 @@ pub(crate) fn function_on(laid: &Laid, path: u32) -> u32
 }
 
 /// The type of the result of the function of a path.
-pub(crate) fn result_type(laid: &Laid, path: u32) -> CType
+pub fn result_type(laid: &Laid, path: u32) -> CType
     ensures { result ≡ result_type (tree_in laid.now) (function_at (tree_in laid.now) path) }
 {
     type_at(laid, result_number(laid, function_on(laid, path)))

@@ -3,7 +3,7 @@ ghost use Rattle.std.specs.Prelude.{◌≡◌, ◌+◌, suc, [], ◌∷◌, OnOk
 ghost use Rattle.lowering.specs.Built.{edge, place, place_with, goto, meet};
 ghost use Rattle.flow_graph.specs.Operations.{negated, opposite};
 ghost use Rattle.body_builder.specs.Fragments.{tree_in, so_far};
-ghost use Rattle.body_builder.specs.reading.Expressions.{with_edge, new_value, Gives, tested, Finds};
+ghost use Rattle.body_builder.specs.Placing.{with_edge, new_value, Gives, tested, Finds};
 
 use crate::fragments::{Found, Fragment, Item};
 use crate::here::Here;
@@ -14,7 +14,7 @@ use tm_lattice::NoMemory;
 impl Here<'_> {
     /// The present node.
     #[tactic(auto, unfolding(crate::specs::Fragments::so_far))]
-    pub(crate) fn node(&self, to: &Fragment) -> u32
+    pub fn node(&self, to: &Fragment) -> u32
         ensures { result ≡ (so_far (tree_in self.now.laid.now) to.now).node }
     {
         to.node
@@ -22,7 +22,7 @@ impl Here<'_> {
 
     /// How many nodes there are.
     #[tactic(auto, unfolding(crate::specs::Fragments::so_far))]
-    pub(crate) fn nodes(&self, to: &Fragment) -> u32
+    pub fn nodes(&self, to: &Fragment) -> u32
         ensures { result ≡ (so_far (tree_in self.now.laid.now) to.now).nodes }
     {
         to.nodes
@@ -30,7 +30,7 @@ impl Here<'_> {
 
     /// How many temporaries there are.
     #[tactic(auto, unfolding(crate::specs::Fragments::so_far))]
-    pub(crate) fn temps(&self, to: &Fragment) -> u32
+    pub fn temps(&self, to: &Fragment) -> u32
         ensures { result ≡ (so_far (tree_in self.now.laid.now) to.now).temps }
     {
         to.temps
@@ -38,7 +38,7 @@ impl Here<'_> {
 
     /// An edge behind the others.
     #[tactic(auto, using(crate::proofs::Items::edge_behind), unfolding(crate::specs::Fragments::so_far))]
-    pub(crate) fn edge(
+    pub fn edge(
         &self,
         to: &mut Fragment,
         from: u32,
@@ -58,7 +58,7 @@ impl Here<'_> {
 
     /// Control goes on at a node, after which there are so many nodes and temporaries.
     #[tactic(auto, unfolding(crate::specs::Fragments::so_far))]
-    pub(crate) fn go_on(&self, to: &mut Fragment, node: u32, nodes: u32, temps: u32)
+    pub fn go_on(&self, to: &mut Fragment, node: u32, nodes: u32, temps: u32)
         ensures { so_far (tree_in self.now.laid.now) to.new ≡ record {
           edges = (so_far (tree_in self.now.laid.now) to.old).edges;
           node = node;
@@ -72,7 +72,7 @@ impl Here<'_> {
     }
 
     /// Control goes on at this node.
-    pub(crate) fn goto(&self, to: &mut Fragment, node: u32)
+    pub fn goto(&self, to: &mut Fragment, node: u32)
         ensures { so_far (tree_in self.now.laid.now) to.new ≡ goto node (so_far (tree_in self.now.laid.now) to.old) }
     {
         let nodes = self.nodes(to);
@@ -80,8 +80,8 @@ impl Here<'_> {
         self.go_on(to, node, nodes, temps);
     }
 
-    // An operation to a new node, after which there are so many temporaries.
-    fn place_with(&self, to: &mut Fragment, temps: u32, op: Operation) -> Result<(), NoMemory>
+    /// An operation to a new node, after which there are so many temporaries.
+    pub fn place_with(&self, to: &mut Fragment, temps: u32, op: Operation) -> Result<(), NoMemory>
         ensures { OnOk result (so_far (tree_in self.now.laid.now) to.new ≡ place_with temps op
             (so_far (tree_in self.now.laid.now) to.old)) }
     {
@@ -94,7 +94,7 @@ impl Here<'_> {
     }
 
     /// An operation to a new node.
-    pub(crate) fn place(&self, to: &mut Fragment, op: Operation) -> Result<(), NoMemory>
+    pub fn place(&self, to: &mut Fragment, op: Operation) -> Result<(), NoMemory>
         ensures { OnOk result (so_far (tree_in self.now.laid.now) to.new ≡ place op
             (so_far (tree_in self.now.laid.now) to.old)) }
     {
@@ -103,8 +103,8 @@ impl Here<'_> {
     }
 
     /// An operation that gives a new temporary.
-    #[tactic(auto, unfolding(crate::specs::reading::Expressions::new_value))]
-    pub(crate) fn new_value(&self, to: &mut Fragment, op: Operation) -> Result<u32, NoMemory>
+    #[tactic(auto, unfolding(crate::specs::Placing::new_value))]
+    pub fn new_value(&self, to: &mut Fragment, op: Operation) -> Result<u32, NoMemory>
         ensures { IfOk result (λ t. Gives (new_value op (so_far (tree_in self.now.laid.now) to.old))
             (so_far (tree_in self.now.laid.now) to.new) t) }
     {
@@ -115,8 +115,8 @@ impl Here<'_> {
     }
 
     /// A test and its opposite.
-    #[tactic(auto, using(std::proofs::lemmas::List::append_assoc), unfolding(crate::specs::reading::Expressions::tested))]
-    pub(crate) fn tested(&self, to: &mut Fragment, test: Test) -> Result<Found, NoMemory>
+    #[tactic(auto, using(std::proofs::lemmas::List::append_assoc), unfolding(crate::specs::Placing::tested))]
+    pub fn tested(&self, to: &mut Fragment, test: Test) -> Result<Found, NoMemory>
         ensures { IfOk result (λ x. Finds (tested test (so_far (tree_in self.now.laid.now) to.old))
             (so_far (tree_in self.now.laid.now) to.new) x) }
     {
@@ -140,7 +140,7 @@ impl Here<'_> {
 
     /// Control comes together from two nodes.
     #[tactic(auto, using(std::proofs::lemmas::List::append_assoc))]
-    pub(crate) fn meet_two(&self, to: &mut Fragment, one: u32, other: u32) -> Result<(), NoMemory>
+    pub fn meet_two(&self, to: &mut Fragment, one: u32, other: u32) -> Result<(), NoMemory>
         ensures { OnOk result (so_far (tree_in self.now.laid.now) to.new ≡ meet (one ∷ other ∷ [])
             (so_far (tree_in self.now.laid.now) to.old)) }
     {
@@ -155,7 +155,7 @@ impl Here<'_> {
 }
 
 /// A number and so many more.
-pub(crate) fn more(number: u32, by: u32) -> Result<u32, NoMemory>
+pub fn more(number: u32, by: u32) -> Result<u32, NoMemory>
     ensures { IfOk result (λ n. n ≡ number + by) }
 {
     match number.checked_add(by) {

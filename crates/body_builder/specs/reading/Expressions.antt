@@ -31,46 +31,21 @@ use Rattle.lowering.specs.Table.{Conversion, conversion, implied, is_same_place,
 use Rattle.lowering.specs.Built.{Building, place_with, place, place_new, branch, goto, meet, temp_of}
 use Rattle.body_builder.specs.declared.fragments.Wanted.{Wanted}
 use Rattle.body_builder.specs.declared.fragments.Wanted.TheVariants as Want
-use Rattle.body_builder.specs.declared.fragments.Found.{Found}
 use Rattle.body_builder.specs.Fragments.{calls_on}
+use Rattle.body_builder.specs.Placing.{Outcome, Given, tested, new_value}
 
--- after an expression: the temporary of its value, or as a branch the node of its other way
-pub record Outcome : Type 0 where
-  pub at : Building
-  pub temp : Option ℕ
-  pub other : ℕ
-
--- after what always has a value
-pub record Given : Type 0 where
-  pub at : Building
-  pub temp : ℕ
-
+-- after arguments: the temporaries of their values
 pub record Listed : Type 0 where
   pub at : Building
   pub temps : List ℕ
 
--- what the code answers is this outcome
-abbrev pub Finds : Outcome → Building → Found → Type 0
-Finds y b x = (b ≡ y.at) × (x.temp ≡ y.temp) × (x.other ≡ y.other)
-
-abbrev pub Gives : Given → Building → ℕ → Type 0
-Gives y b t = (b ≡ y.at) × (t ≡ y.temp)
-
 abbrev pub Lists : Listed → Building → List ℕ → Type 0
 Lists y b ts = (b ≡ y.at) × (ts ≡ y.temps)
-
--- an edge behind the others
-abbrev pub with_edge : Edge → Building → Building
-with_edge e b = record { edges = b.edges ++ e ∷ []; node = b.node; nodes = b.nodes; temps = b.temps }
 
 -- ## Ends of expressions
 
 abbrev pub with_temp : Option ℕ → Building → Outcome
 with_temp t b = record { at = b; temp = t; other = 0 }
-
--- a test
-unfoldable pub tested : Test → Building → Outcome
-tested test b = record { at = branch test b; temp = None; other = suc b.nodes }
 
 abbrev pub usable_if : Bool → Place → ℕ → Building → Building
 usable_if false p t b = b
@@ -94,10 +69,6 @@ unfoldable pub ends_fork : Wanted → ℕ → Building → Outcome
 ends_fork Want.Value other b = with_temp (Some b.temps) (truth_at other b)
 ends_fork Want.Bare other b = with_temp (Some b.temps) (truth_at other b)
 ends_fork Want.Branch other b = record { at = b; temp = None; other = other }
-
--- a new value by one operation, which gives the next temporary
-unfoldable pub new_value : Operation → Building → Given
-new_value op b = record { at = place_with (suc b.temps) op b; temp = b.temps }
 
 abbrev pub ends_new : Wanted → Bool → Place → Operation → Building → Outcome
 ends_new w pointer p op b = let v = new_value op b in ends w pointer p (Some v.temp) v.at

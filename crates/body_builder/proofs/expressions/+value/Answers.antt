@@ -4,7 +4,8 @@ use Rattle.tm_typed.specs.declared.expressions.Rvalue.TheVariants as Rvalues
 use Rattle.tm_typed.specs.TypedTrees.{RvalueTree, rvalue_tree, a_function_call, as_rvalues}
 use Rattle.tm_typed.proofs.CallTrees.{rvalue_tree-call}
 use Rattle.body_builder.specs.Fragments.{tree_in, so_far}
-use Rattle.body_builder.specs.reading.Expressions.{value_at, Finds}
+use Rattle.body_builder.specs.reading.Expressions.{value_at}
+use Rattle.body_builder.specs.Placing.{Finds}
 use Rattle.body_builder.proofs.Arguments.{call_found}
 use Rattle.body_builder.proofs.expressions.+value.Goals as goal
 
