@@ -1,0 +1,24 @@
+-- What is found body by body.
+use Rattle.std.specs.Prelude.{◌≡◌, ℕ, ◌<◌, ◌≤◌, List, length, get_or, Option, Some, None}
+use Rattle.tm_terms.specs.declared.refusals.Limit.TheVariants as Limits
+use Rattle.tm_terms.specs.Limits.{limit_number}
+use Rattle.tm_laid.specs.Layouts.{LaidTree}
+use Rattle.flow_graph.specs.declared.graphs.Graph.{Graph}
+use Rattle.lowering.specs.Built.{built}
+use Rattle.graph_builder.specs.Lowered.{IsGraphOf, AreGraphs, HasTooManyNodes}
+
+-- for one body: its graph, or that it has too many nodes
+abbrev pub IsOne : LaidTree → ℕ → Option Graph → Type 0
+IsOne laid body (Some g) = IsGraphOf laid body g × ((built laid body).nodes ≤ limit_number Limits.Nodes)
+IsOne laid body None = limit_number Limits.Nodes < (built laid body).nodes
+
+-- and for all
+abbrev pub AreAll : LaidTree → Option (List Graph) → Type 0
+AreAll laid (Some gs) = AreGraphs laid gs
+AreAll laid None = HasTooManyNodes laid
+
+-- the graphs of the first bodies
+pub record AreFirst (laid : LaidTree) (count : ℕ) (graphs : List Graph) : Type 0 where
+  pub are : length graphs ≡ count
+  pub each : (body : ℕ) (other : Graph) → body < length graphs → IsGraphOf laid body (get_or graphs body other)
+  pub few : (body : ℕ) → body < length graphs → (built laid body).nodes ≤ limit_number Limits.Nodes
