@@ -71,7 +71,7 @@ module _ (file : TypedFileTree) (order : List ℕ) (layable : IsLayable file ord
   abbrev calls : List ℕ
   calls = calls_in file.calls function'
 
-  calls_stand : (locals : List LocalEntry) → AreCalled laid path (file_context file locals) calls
+  pub calls_stand : (locals : List LocalEntry) → AreCalled laid path (file_context file locals) calls
   unfolding layout_of
   calls_stand locals = record {
     call = λ site f g e q.

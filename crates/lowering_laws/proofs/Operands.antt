@@ -22,7 +22,7 @@ use Rattle.lowering.specs.Table.{is_value_type, call_has_value, has_value}
 use Rattle.lowering.specs.Lowerable.{Valued, ValuedAt, AllValued, Used}
 
 -- a number or a pointer
-abbrev is_value : ValueKind → Bool
+abbrev pub is_value : ValueKind → Bool
 is_value (a_number t) = true
 is_value a_pointer = true
 is_value no_value = false
@@ -51,7 +51,7 @@ pub record AreCalled (laid : LaidTree) (path : ℕ) (w : Context) (calls : List 
 module _ (laid : LaidTree) (path : ℕ) (w : Context) (defined : ℕ → Bool) (calls : List ℕ)
     (called : AreCalled laid path w calls) where
   -- an expression has a value exactly where its kind is that of a value
-  gives : (k : ValueKind) (e : RvalueTree) → IsRvalue w k e → Mentions defined calls e
+  pub gives : (k : ValueKind) (e : RvalueTree) → IsRvalue w k e → Mentions defined calls e
       → has_value laid path e ≡ is_value k
   gives k (a_constant t z p) h m = sym (ap is_value h.0)
   gives k (a_folded z e) h m = sym (ap is_value h.0)

@@ -20,7 +20,7 @@ use Rattle.tm_typed.specs.declared.scopes.ObjectNumber.TheVariants as Objects
 use Rattle.tm_typed.specs.declared.files.LocalEntry.{LocalEntry}
 use Rattle.tm_typed.specs.Types.{int_index}
 use Rattle.tm_typed.specs.Scopes.{Scope, Function, ctype_of, cells_of}
-use Rattle.tm_typed.specs.Operands.{kept_sort}
+use Rattle.tm_typed.specs.Operands.{scalar_of, kept_sort}
 use Rattle.tm_typed.specs.Initialisers.{part}
 use Rattle.tm_typed.specs.States.{Static}
 use Rattle.tm_typed.specs.CallGraph.{calls_in}
@@ -55,7 +55,7 @@ use Rattle.typed_file_laws.specs.Mentions.{StatementsMention}
 use Rattle.typed_file_laws.specs.TypedBodies.{called, IsBodyOf}
 use Rattle.typed_file_laws.specs.Sites.{is_defined_object, function_of_file, is_defined_function}
 use Rattle.next_action_laws.specs.Actions.{Fit, IsBodyPath, MayUse, IsCell, IsOwn, IsProper, IsPlace}
-use Rattle.next_action_laws.specs.Regular.{PartBegins, whole, inner, AreParameters, AreRegularBodies}
+use Rattle.next_action_laws.specs.Regular.{PartBegins, whole, inner, HasScalar, AreParameters, AreRegularBodies}
 use Rattle.next_action_laws.proofs.Keeping.{HasKind, to_scalar, Fits, Keeps, act_keeps, ended_keeps}
 use Rattle.next_action_laws.proofs.GivenValues.{low_in, high_in, between_is, nothing_is}
 use Rattle.next_action_laws.proofs.Addresses.{at, base_is, store_keeps}
@@ -94,8 +94,7 @@ found_type f None n e = absurd (none-some n e)
 -- ## The layout
 
 module _ (file : TypedFileTree) (order : List ℕ) (h : IsLayable file order)
-    (within : is_exceeded file Limits.Cells ≡ false)
-    (few : length (layout_along file (paths_of file)).objects ≤ 4294967296) (body : ℕ) where
+    (within : is_exceeded file Limits.Cells ≡ false) (body : ℕ) where
   abbrev pub L : LaidTree
   L = layout_along file (paths_of file)
 
@@ -161,18 +160,27 @@ module _ (file : TypedFileTree) (order : List ℕ) (h : IsLayable file order)
       (subst (λ z. IsPlace L body o (k + x.member.part.cell) z) x.type
       (member_place L order h body small o k m j y.number x.member p t y.is))
 
-  pub tables : AreTables L body
-  tables = record {
+  -- a cell of a scalar type that stands at a place, and one that an initialiser gives to a whole object
+  pub scalar_there : (o k n : ℕ) (s : Scalar) → IsPlace L body o k n → scalar_of (scope_in L) n ≡ Some s
+      → IsCell L body o k s
+  scalar_there o k n s p e = scalar_cell L order h body small o k n s p e
+
+  pub given_there : (o n c : ℕ) (s : Scalar) → IsPlace L body o 0 n → HasScalar (scope_in L) n c s → IsCell L body o c s
+  given_there o n c s p x =
+      given_cell L order h body small o n c s p
+      (record {
+        type = x.type;
+        begins = retabled file (scope_in L) refl refl n c x.type x.begins;
+        scalar = x.scalar;
+      })
+
+  tables : length L.objects ≤ 4294967296 → AreTables L body
+  tables few = record {
     few = few;
     parts = parts;
     elements = λ o k m n l i p t lt. element_place L order h body small o k m n l i p t lt;
-    scalars = λ o k n s p e. scalar_cell L order h body small o k n s p e;
-    cells = λ o n c s p x. given_cell L order h body small o n c s p
-        (record {
-          type = x.type;
-          begins = retabled file (scope_in L) refl refl n c x.type x.begins;
-          scalar = x.scalar;
-        });
+    scalars = scalar_there;
+    cells = given_there;
   }
 
   -- ## Call paths
@@ -229,10 +237,10 @@ module _ (file : TypedFileTree) (order : List ℕ) (h : IsLayable file order)
         stands = more.1;
       }
 
-  abbrev function_on : ℕ → ℕ
+  abbrev pub function_on : ℕ → ℕ
   function_on path = (path_at L path).function
 
-  local_place : (path : ℕ) → IsBodyPath L body path → (k n : ℕ)
+  pub local_place : (path : ℕ) → IsBodyPath L body path → (k n : ℕ)
       → option_map (λ (o : LocalEntry). o.of.number) (slice_get (locals_of file (function_on path)) k) ≡ Some n
       → IsPlace L body (object_of L path (Objects.Local k)) 0 n × IsOwn L body (object_of L path (Objects.Local k))
   local_place path u k n e =
@@ -244,7 +252,7 @@ module _ (file : TypedFileTree) (order : List ℕ) (h : IsLayable file order)
         local_own o l.of.number path d u,
       )
 
-  static_place : (k n : ℕ) → option_map (λ (o : Static). o.of.number) (slice_get file.statics k) ≡ Some n
+  pub static_place : (k n : ℕ) → option_map (λ (o : Static). o.of.number) (slice_get file.statics k) ≡ Some n
       → is_defined_object file k ≡ true → (path : ℕ) → IsPlace L body (object_of L path (Objects.Static k)) 0 n
   static_place k n e f path =
       let x = found_type (λ (o : Static). o.of.number) (slice_get file.statics k) n e in
@@ -253,7 +261,8 @@ module _ (file : TypedFileTree) (order : List ℕ) (h : IsLayable file order)
       let o : ℕ = object_of L path (Objects.Static k) in
       subst (λ y. IsPlace L body o 0 y) x.2 (object_place o s.of.number None d tt)
 
-  module _ (formed : All (λ (f : TypedFunctionTree). IsBodyOf file f f.body) file.functions)
+  module _ (few : length L.objects ≤ 4294967296)
+      (formed : All (λ (f : TypedFunctionTree). IsBodyOf file f f.body) file.functions)
       (sites : (k : ℕ) (b : TypedBodyTree) → (function_of_file file k).body ≡ Some b
       → StatementsMention (is_defined_object file) (calls_in file.calls k) b.statements
       × All (λ g. is_defined_function file g ≡ true) (calls_in file.calls k))
@@ -292,7 +301,7 @@ module _ (file : TypedFileTree) (order : List ℕ) (h : IsLayable file order)
         ap (slice_get (locals_of file (function_on c))) (sym z) ∙ at' 0 l refl in
         let place : IsPlace L body o 0 l.of.number =
         (local_place c u k l.of.number (ap (option_map (λ (y : LocalEntry). y.of.number)) is)).0 in
-        let cell : IsCell L body o 0 g.0 = tables.scalars o 0 l.of.number g.0 place (q.0 ∙ g.1) in
+        let cell : IsCell L body o 0 g.0 = scalar_there o 0 l.of.number g.0 place (q.0 ∙ g.1) in
         let same : scalar_at L o 0 ≡ g.0 = cell.scalar in
         let rest : K m (passed_then L c (suc k) vs p go) (passed_then L c (suc k) vs p to) =
         passed m c u p (suc k) ns ls vs
@@ -375,7 +384,7 @@ module _ (file : TypedFileTree) (order : List ℕ) (h : IsLayable file order)
         → IsStage L body a path b.locals (is_defined_object file) (calls_in file.calls (function_on path))
         (λ site vs p go. passed_then L (callee L path site) 0 vs p (body_then L depth (callee L path site) go))
     stage depth ih path u b e deep = record {
-      tables = tables;
+      tables = tables few;
       objects = named;
       own = λ k n q. (local_place path u k n (locals_are k ∙ q)).1;
       targets = target path u;
@@ -476,8 +485,8 @@ unfolding layout_of
 always_proper file order h within few formed sites regular body lt answers fit =
     let N : After = next (layout_along file (paths_of file)) body in
     after_all (layout_along file (paths_of file)) body N
-    (next_keeps file order h within few body formed sites regular Done lt 0).first
-    (λ a l f. (next_keeps file order h within few body formed sites regular a lt (length l)).more l (omega arith) f)
+    (next_keeps file order h within body few formed sites regular Done lt 0).first
+    (λ a l f. (next_keeps file order h within body few formed sites regular a lt (length l)).more l (omega arith) f)
     answers fit
 
 -- ## Places
@@ -492,7 +501,7 @@ part_place file order h within few body o k n j c m p t x =
     let laid : LaidTree = layout_along file (paths_of file) in
     subst (λ z. IsPlace laid body o (k + z) m) x.cell
     (subst (λ z. IsPlace laid body o (k + x.member.part.cell) z) x.type
-    (member_place laid order h body (small file order h within few body) o k n j y.number x.member p t y.is))
+    (member_place laid order h body (small file order h within body) o k n j y.number x.member p t y.is))
 
 pub element_there : (file : TypedFileTree) (order : List ℕ) → IsLayable file order
     → is_exceeded file Limits.Cells ≡ false → length (layout_of file).objects ≤ 4294967296
@@ -501,5 +510,5 @@ pub element_there : (file : TypedFileTree) (order : List ℕ) → IsLayable file
     → IsPlace (layout_of file) body o (k + i * cells_of (tables_of file) e) e
 unfolding layout_of
 element_there file order h within few body o k n e l i p t lt =
-    element_place (layout_along file (paths_of file)) order h body (small file order h within few body) o k n e l i p t
+    element_place (layout_along file (paths_of file)) order h body (small file order h within body) o k n e l i p t
     lt

@@ -1,0 +1,87 @@
+-- The graphs of a file that is typed and laid out have sorts.
+use Rattle.std.proofs.Common.{◌≡◌, refl, sym, subst, ℕ, ◌<◌, ◌≤◌, Bool, true, false, List, length, arith}
+use Rattle.std.specs.Prelude.{cond, find, Option, Some, None, Ok}
+use Rattle.std.proofs.lemmas.Option.{none-some, slice_get_within}
+use Rattle.tm_terms.specs.declared.refusals.Limit.{Limit}
+use Rattle.tm_terms.specs.declared.refusals.Limit.TheVariants as Limits
+use Rattle.tm_terms.specs.declared.tokens.Name.{Name}
+use Rattle.tm_trees.specs.FileTrees.{ItemTree}
+use Rattle.tm_typed.specs.Files.{TypedFileTree, IsTyped}
+use Rattle.tm_typed.specs.WellTyped.{OnAnswer}
+use Rattle.tm_laid.specs.Layouts.{LaidTree, layout_of, laid_limits, is_exceeded, unless_beyond, laid_out}
+use Rattle.typing_laws.proofs.Steps.{from_answer}
+use Rattle.typed_file_laws.proofs.TypedBodies.{bodies_are_well_formed}
+use Rattle.typed_file_laws.proofs.MentionFiles.{sites_stand}
+use Rattle.lowering.specs.Built.{built, graph_of}
+use Rattle.next_action_laws.proofs.RegularFiles.{bodies_are_regular}
+use Rattle.lowering_laws.specs.LaidFiles.{IsLaidFile}
+use Rattle.lowering_laws.proofs.Founded.{file_layable}
+use Rattle.lowering_laws.proofs.Lowered.{is_layout}
+use Rattle.lowering_laws.proofs.MutexGraphs.{few_mutexes}
+use Rattle.temporary_types.specs.PointerMarks.{pointer_marks, Tells}
+use Rattle.temporary_types.proofs.Telling.{told}
+use Rattle.operation_laws.specs.SortedGraphs.{HasSorts}
+use Rattle.operation_laws.proofs.Following.{Follows}
+use Rattle.operation_laws.proofs.BodySorts.{graph_sorts}
+
+-- ## A layout does not exceed its limit of cells
+
+none_found : {A : Type 0} (b : Bool) (x : A) (rest : Option A) → cond b (Some x) rest ≡ None
+    → (b ≡ false) × (rest ≡ None)
+none_found true x rest e = absurd (none-some x (sym e))
+none_found false x rest e = (refl, e)
+
+abbrev HasFewCells : TypedFileTree → LaidTree → Type 0
+HasFewCells file laid = is_exceeded file Limits.Cells ≡ false
+
+unless_many : (file : TypedFileTree) (o : Option Limit) → find (is_exceeded file) laid_limits ≡ o
+    → OnAnswer (HasFewCells file) (unless_beyond file o)
+unless_many file (Some l) e = tt
+unless_many file None e =
+    let p : Limit → Bool = is_exceeded file in
+    let a = none_found (p Limits.Tasks) Limits.Tasks _ e in
+    let b = none_found (p Limits.Mutexes) Limits.Mutexes _ a.1 in
+    let c = none_found (p Limits.Paths) Limits.Paths _ b.1 in
+    let d = none_found (p Limits.Cells) Limits.Cells _ c.1 in
+    d.0
+
+few_cells : (laid : LaidTree) → (h : IsLaidFile laid) → is_exceeded h.file Limits.Cells ≡ false
+few_cells laid h =
+    from_answer (HasFewCells h.file) (laid_out h.file) laid
+    (unless_many h.file (find (is_exceeded h.file) laid_limits) refl) h.answered
+
+-- ## Files
+
+-- the temporaries of the graph of a body have sorts and are given, and copies follow what gives their sources
+abbrev IsSorted : LaidTree → ℕ → Type 0
+IsSorted laid body = HasSorts laid (built laid body).temps (graph_of laid body)
+    × Follows (built laid body).temps (graph_of laid body)
+
+layout_sorts : (main : Option Name) (items : List ItemTree) (file : TypedFileTree) → IsTyped main items (Ok file)
+    → is_exceeded file Limits.Cells ≡ false → length (layout_of file).file.mutexes ≤ 16 → (body : ℕ)
+    → body < length (layout_of file).bodies → IsSorted (layout_of file) body
+unfolding layout_of
+layout_sorts main items file typed within few body lt =
+    let o = file_layable main items file typed in
+    let x = graph_sorts file o.0 o.1 within body few (bodies_are_well_formed main items file typed)
+    (sites_stand main items file typed) (bodies_are_regular main items file typed) lt in
+    (record { sorts = x.0; each = x.1; fit = x.2 }, x.3)
+
+pub file_sorts : (laid : LaidTree) → IsLaidFile laid → (body : ℕ) → body < length laid.bodies → IsSorted laid body
+file_sorts laid h body =
+    let is : layout_of h.file ≡ laid = is_layout h.file laid h.answered in
+    let few : length (layout_of h.file).file.mutexes ≤ 16 =
+    subst (λ (x : LaidTree). length x.file.mutexes ≤ 16) (sym is) (few_mutexes laid h) in
+    subst (λ (x : LaidTree). body < length x.bodies → IsSorted x body) is
+    (layout_sorts h.main h.items h.file h.typed (few_cells laid h) few body)
+
+-- each temporary of such a graph is given, so that its mark tells what it holds
+pub file_told : (laid : LaidTree) → IsLaidFile laid → (body : ℕ) → body < length laid.bodies
+    → (h : HasSorts laid (built laid body).temps (graph_of laid body)) → (temp : ℕ)
+    → Tells h.sorts (pointer_marks (graph_of laid body) (built laid body).temps) temp
+file_told laid is body lt h temp s at =
+    let f : Follows (built laid body).temps (graph_of laid body) = (file_sorts laid is body lt).1 in
+    let own = slice_get_within h.sorts temp s at in
+    let few : length h.sorts ≤ (built laid body).temps = omega (arith, h.each) in
+    told laid h.sorts (graph_of laid body) (built laid body).temps h.fit f.copies few temp
+    (f.given temp (omega (arith, own, few))) s at

@@ -1,0 +1,11 @@
+pub mod Within
+pub mod StepSorts
+pub mod Following
+pub mod BuiltSorts
+pub mod BuiltPlans
+pub mod Conversions
+pub mod ValueSorts
+pub mod ExpressionSorts
+pub mod StatementSorts
+pub mod BodySorts
+pub mod FileSorts

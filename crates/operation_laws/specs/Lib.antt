@@ -1,0 +1,2 @@
+-- What the law speaks of.
+pub mod SortedGraphs

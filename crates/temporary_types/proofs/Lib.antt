@@ -1,0 +1,3 @@
+mod MarkSteps
+pub mod Telling
+mod Tried
