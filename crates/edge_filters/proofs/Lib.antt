@@ -1,0 +1,4 @@
+pub mod FilterEdges
+pub mod MetCells
+pub mod Refined
+pub mod Sides

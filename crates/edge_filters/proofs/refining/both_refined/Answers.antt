@@ -1,0 +1,14 @@
+use Rattle.std.proofs.Common.{◌∙◌, sym, ap}
+use Rattle.transfer_rows.specs.Actions.{temporary}
+use Rattle.transfer_rows.specs.Rows.{then_refined}
+use Rattle.edge_actions.specs.Edges.{around_of}
+use Rattle.edge_filters.proofs.refining.both_refined.Goals as goal
+
+pub returns-in_default : goal.returns-in_default
+returns-in_default c =
+    ap (then_refined (around_of c.args.view.now) (temporary c.args.right) c.args.sides.1) (sym c.in_default.is ∙ c.in_ok-before.ensures)
+
+pub returns : goal.returns
+returns c =
+    c.in_ok-after.ensures
+    ∙ ap (then_refined (around_of c.args.view.now) (temporary c.args.right) c.args.sides.1) (sym c.in-Some.is ∙ c.in_ok-before.ensures)

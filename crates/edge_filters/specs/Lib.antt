@@ -1,0 +1,2 @@
+-- Which tests an edge may ask (Tests).
+pub mod Tests

@@ -1,0 +1,5 @@
+pub mod Changing
+pub mod Joining
+pub mod Contributing
+pub mod Effects
+pub mod States

@@ -1,0 +1,2 @@
+-- What the code makes of each cell (Changes).
+pub mod Changes

@@ -1,0 +1,6 @@
+use Rattle.std.proofs.Common.{refl}
+use Rattle.edge_effects.proofs.Effects.{constant_given}
+use Rattle.transfer_mem.proofs.giving.constant.Goals as goal
+
+pub returns : goal.returns
+returns c = λ s. constant_given s c.args.value _ refl c.no_classes.ensures

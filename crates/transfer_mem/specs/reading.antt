@@ -1,0 +1,2 @@
+-- The families of operations, and what those give that calculate (Givings).
+pub mod Givings
