@@ -1,0 +1,22 @@
+-- Edges that fit: between places with their live temporaries.
+use Rattle.std.specs.Prelude.{◌≡◌, ℕ, true, List, Some}
+use Rattle.tm_laid.specs.Layouts.{LaidTree}
+use Rattle.flow_graph.specs.declared.operations.Operation.{Operation}
+use Rattle.flow_graph.specs.Operations.{given}
+use Rattle.cell_env.specs.Cells.{IsWithin}
+use Rattle.transfer_rows.specs.Actions.{Around}
+use Rattle.transfer_rows.specs.Accesses.{is_among}
+use Rattle.temporary_types.specs.Sorts.{Sort, FitsSorts}
+use Rattle.state_fits.specs.Typed.{SpotsAgree, NamesObjects}
+
+-- An edge of a body leads from a place where some temporaries are live to one where others are: its operation fits the
+-- sorts of temporaries; what is live where it leads is live before, or is what it gives; and what the task holds is a set
+-- of mutexes.
+pub record FitsEdge (laid : LaidTree) (task : ℕ) (sorts : List Sort) (around : Around) (op : Operation)
+    (live live' : List ℕ) : Type 0 where
+  pub operation : FitsSorts laid sorts op
+  pub objects : NamesObjects laid op
+  pub spots : SpotsAgree laid task
+  pub held : IsWithin around.reader.held 65535
+  pub arrives : (t : ℕ) → around.is_live t ≡ is_among live' t
+  pub flow : (t : ℕ) → is_among live' t ≡ true → (given op ≡ Some t → ⊥) → is_among live t ≡ true

@@ -1,0 +1,10 @@
+pub mod StoresFit
+pub mod EffectsFit
+pub mod ActionsFit
+pub mod ExactTypes
+pub mod OperationsFit
+pub mod Exact
+pub mod Given
+pub mod AfterFits
+pub mod PlacesFit
+pub mod TopStates

@@ -1,0 +1,244 @@
+-- An action that fits leads from a state that fits to states that fit.
+use Rattle.std.specs.Prelude.{◌≡◌, ℕ, Bool, true, false, cond, ◌-◌, ◌^◌, bit_and, List, [], ◌∷◌, Option, Some, None, pos, refl}
+use Rattle.std.proofs.Common.{sym, subst, ◌∙◌, inl, inr, arith}
+use Rattle.std.specs.FinMap.{get}
+use Rattle.std.proofs.lemmas.Bool.{true≢false}
+use Rattle.std.proofs.lemmas.Nat.Bits.{bit_at_and, bit_at_or, same_from_bits}
+use Rattle.strided_dom.specs.Progression.{Progression, single, IsSubset}
+use Rattle.tm_typed.specs.declared.types.Scalar.{Scalar}
+use Rattle.tm_laid.specs.Layouts.{LaidTree, abstract_at}
+use Rattle.pointer_dom.specs.PointerSets.{Pointers, no_pointer, IsPointersBelow}
+use Rattle.pointer_dom.specs.Values.{Values, IsValues, IsValuesBelow}
+use Rattle.pointer_dom.specs.laws.PointerLaws.{pointers_order, pointers_nothing}
+use Rattle.filters.proofs.PointerLaws.{none_added}
+use Rattle.cell_env.specs.Cells.{IsWithin}
+use Rattle.cell_env.specs.laws.Bits.{within_trans}
+use Rattle.interfere_set.specs.Stores.{Interferences}
+use Rattle.interfere_set.specs.laws.Joins.{none_is, IsOf}
+use Rattle.operator_values.specs.Integers as I
+use Rattle.operator_values.specs.Integers.{assumed_is}
+use Rattle.operator_values.specs.SetsOfPointers.{left_pointers, right_pointers, pointers_are_assumed, left_pointers_fit, right_pointers_fit}
+use Rattle.transfer_rows.specs.StateForms.{Temp, Cell, State, IsStateForm, only_numbers, only_pointers, value_of}
+use Rattle.transfer_rows.specs.Actions.{Around, Side, temporary, fixed, Filter, usable, numbers_compare, pointers_compare}
+use Rattle.transfer_rows.specs.Actions.{Action, skips, gives, refines, loads, loads_any, stores, clears, locks, unlocks, yields, probes}
+use Rattle.transfer_rows.specs.Calculations.{calculated, usable_values, side_value, left_numbers, right_numbers, left_addresses, right_addresses}
+use Rattle.transfer_rows.specs.Accesses.{is_among, targets_at, single_of}
+use Rattle.transfer_rows.specs.Rows.{aged, released, is_cleared, cleared_to, found_in, loaded, new_copy, after_load_any, stored_cell, after_store}
+use Rattle.transfer_rows.specs.Rows.{taken, after_lock, after_free, after_unlock, holds, side_refined, then_refined, after_filter, effect, arrived, after, without}
+use Rattle.transfer_rows.proofs.TableChanges.{get-kept}
+use Rattle.transfer_rows.proofs.Steps.{among_here, among_there, single_is}
+use Rattle.typed_values.specs.Types.{AreObjects, IsOfType}
+use Rattle.typed_values.specs.laws.TypeLaws.{typed_values, typed_objects, less_of_type}
+use Rattle.typed_values.specs.laws.ObjectsKept.{none_objects, left_objects, right_objects}
+use Rattle.state_fits.specs.Fits.{FitsTemp, IsCellOf, FitsPlace}
+use Rattle.state_fits.specs.laws.StoresFit.{all_typed, AreTyped}
+use Rattle.state_fits.specs.laws.EffectsFit as E
+use Rattle.state_fits.specs.laws.EffectsFit.{IsNext, NextTemp, MayBeNext}
+
+-- the temporary that an action gives
+unfoldable pub target_of : Action → Option ℕ
+target_of (gives target calculation) = Some target
+target_of (loads spots target address) = Some target
+target_of (loads_any spots target address range) = Some target
+target_of (probes m target answer) = Some target
+target_of action = None
+
+among_of : (xs : List ℕ) (x : ℕ) → IsOf xs x → is_among xs x ≡ true
+among_of [] x h = absurd h
+among_of (y ∷ xs) x (inl here) = among_here x y xs here
+among_of (y ∷ xs) x (inr there) = among_there x y xs (among_of xs x there)
+
+and_within : (p k : ℕ) → IsWithin (bit_and p k) p
+and_within p k = same_from_bits _ _ (λ i. omega (arith, bit_at_or (bit_and p k) p i, bit_at_and p k i))
+
+module _ (laid : LaidTree) (types : ℕ → Scalar) where
+  -- a side that stands for itself is a set of values of the program
+  abbrev pub SideFits : Side → Type 0
+  SideFits (temporary number) = Unit {0}
+  SideFits (fixed value) = IsValues value × AreObjects laid value.pointers
+
+  abbrev pub FilterFits : Filter → Type 0
+  FilterFits (usable source) = Unit {0}
+  FilterFits (numbers_compare op left right) = Unit {0}
+  FilterFits (pointers_compare equal left right) = SideFits left × SideFits right
+
+  -- what the action gives in the state is of the types of temporaries and cells
+  unfoldable pub ActionFits : State → Action → Type 0
+  ActionFits s (gives target calculation) = IsOfType laid (types target) (calculated calculation s)
+  ActionFits s (refines filter) = FilterFits filter
+  ActionFits s (loads spots target address) = (x : ℕ) (v : Values)
+      → is_among (targets_at spots (value_of s address).pointers) x ≡ true
+      → (let a = abstract_at laid x in IsOfType laid a.scalar v) → IsOfType laid (types target) v
+  ActionFits s (loads_any spots target address range) = IsOfType laid (types target) range
+  ActionFits s (stores spots address source) = (x : ℕ) (v : Values)
+      → is_among (targets_at spots (value_of s address).pointers) x ≡ true
+      → IsOfType laid (types source) v → (let a = abstract_at laid x in IsOfType laid a.scalar v)
+  ActionFits s (clears cleared) = (x : ℕ) (v : Values) → cleared x ≡ Some v
+      → (let a = abstract_at laid x in IsOfType laid a.scalar v)
+  ActionFits s (probes m target answer) =
+      IsOfType laid (types target) (only_numbers (single (pos 1))) × IsOfType laid (types target) (only_numbers (single (pos 0)))
+  ActionFits s action = Unit {0}
+
+module _ (laid : LaidTree) (task : ℕ) (types : ℕ → Scalar) (around : Around) where
+  abbrev Next : Option ℕ → State → Type 0
+  Next target s = IsNext laid task types around.is_live target s
+
+  abbrev May : Option State → Type 0
+  May a = MayBeNext laid task types around.is_live a
+
+  -- ## Filters
+
+  side_is : (side : Side) (s : State) → Next None s → SideFits laid types side → IsValues (side_value side s) × AreObjects laid (side_value side s).pointers
+  side_is (temporary t) s h fits =
+      let typed = E.value_typed laid task types around.is_live None s h t in
+      (typed_values laid (types t) (value_of s t) typed, typed_objects laid (types t) (value_of s t) typed)
+  side_is (fixed value) s h fits = fits
+
+  -- what is left of a side is of the type of its temporary
+  abbrev SideTyped : Side → Values → Type 0
+  SideTyped (temporary t) v = IsOfType laid (types t) v
+  SideTyped (fixed value) v = Unit {0}
+
+  side_less : (side : Side) (s : State) (v : Values) → Next None s → IsValues v → AreObjects laid v.pointers → IsValuesBelow v (side_value side s) → SideTyped side v
+  side_less (temporary t) s v h v-is v-are le = less_of_type laid (types t) v (value_of s t) (E.value_typed laid task types around.is_live None s h t) v-is v-are le
+  side_less (fixed value) s v h v-is v-are le = tt
+
+  side_next : (side : Side) (v : Values) (s : State) → Next None s → SideTyped side v → May (side_refined around side v s)
+  side_next (temporary t) v s h typed = E.refine_next laid task types around.is_live around s t v h typed
+  side_next (fixed value) v s h typed = E.cond_next laid task types around.is_live (Rattle.transfer_rows.specs.StateForms.is_no_value v) s h
+
+  then_next : (side : Side) (v : Values) (a : Option State) → May a → SideTyped side v → May (then_refined around side v a)
+  then_next side v None h typed = E.none_next laid task types around.is_live
+  then_next side v (Some s) h typed = side_next side v s (h s refl) typed
+
+  -- some of the numbers of a value, and no pointer
+  numbers_less : (n : Progression) (v : Values) → IsValues v → IsSubset n v.numbers → IsValuesBelow (only_numbers n) v
+  numbers_less n v v-is le = record { numbers = le; pointers = pointers_nothing.below no_pointer v.pointers none_is v-is refl }
+
+  pointers_less : (p : Pointers) (v : Values) → IsPointersBelow p v.pointers → IsValuesBelow (only_pointers p) v
+  pointers_less p v le = record { numbers = record { within = λ n h. absurd (Rattle.strided_dom.proofs.Members.not_in_empty n h) }; pointers = le }
+
+  filter_next : (s : State) → Next None s → (filter : Filter) → FilterFits laid types filter → May (after_filter around s filter)
+  filter_next s h (usable source) fits =
+      let typed = E.value_typed laid task types around.is_live None s h source in
+      let v = value_of s source in
+      E.refine_next laid task types around.is_live around s source (usable_values v) h
+      (less_of_type laid (types source) (usable_values v) v typed (typed_values laid (types source) v typed) (typed_objects laid (types source) v typed)
+      record {
+        numbers = record { within = λ n k. k };
+        pointers = record { null = λ k. k; invalid = λ k. absurd (let e : false ≡ true = k in cc); objects = (pointers_order.reflexive v.pointers (typed_values laid (types source) v typed)).objects };
+      })
+  filter_next s h (numbers_compare op left right) fits = sides left right
+    where
+      sides : (left right : Side) → May (then_refined around right (right_numbers op (side_value left s) (side_value right s)) (side_refined around left (left_numbers op (side_value left s) (side_value right s)) s))
+      sides left right =
+          let v = side_value left s in
+          let w = side_value right s in
+          let a = assumed_is op v.numbers w.numbers in
+          then_next right (right_numbers op v w) (side_refined around left (left_numbers op v w) s)
+          (side_next left (left_numbers op v w) s h (numbers_typed left (I.left_assumed op v.numbers w.numbers) (a.of_left.least v.numbers (λ k x. x.member))))
+          (numbers_typed right (I.right_assumed op v.numbers w.numbers) (a.of_right.least w.numbers (λ k x. x.member)))
+        where
+          numbers_typed : (side : Side) (n : Progression) → (let v = side_value side s in IsSubset n v.numbers) → SideTyped side (only_numbers n)
+          numbers_typed (temporary t) n le =
+              let typed = E.value_typed laid task types around.is_live None s h t in
+              less_of_type laid (types t) (only_numbers n) (value_of s t) typed none_is (none_objects laid) (numbers_less n (value_of s t) (typed_values laid (types t) (value_of s t) typed) le)
+          numbers_typed (fixed value) n le = tt
+  filter_next s h (pointers_compare equal left right) fits =
+      let v = side_value left s in
+      let w = side_value right s in
+      let l = side_is left s h fits.0 in
+      let r = side_is right s h fits.1 in
+      let l-is = left_pointers_fit equal v.pointers w.pointers l.0 r.0 in
+      let r-is = right_pointers_fit equal v.pointers w.pointers l.0 r.0 in
+      let less = none_added equal v.pointers w.pointers (left_pointers equal v.pointers w.pointers) (right_pointers equal v.pointers w.pointers) l.0 r.0 l-is r-is (pointers_are_assumed equal v.pointers w.pointers) in
+      then_next right (right_addresses equal v w) (side_refined around left (left_addresses equal v w) s)
+      (side_next left (left_addresses equal v w) s h (side_less left s (left_addresses equal v w) h l-is (left_objects laid equal v.pointers w.pointers l.0 r.0 l.1 r.1) (pointers_less (left_pointers equal v.pointers w.pointers) v less.0)))
+      (side_less right s (right_addresses equal v w) h r-is (right_objects laid equal v.pointers w.pointers l.0 r.0 l.1 r.1) (pointers_less (right_pointers equal v.pointers w.pointers) w less.1))
+
+  -- ## Effects
+
+  released_cell : (m x : ℕ) (c : Cell) → IsCellOf laid x c → IsCellOf laid x (released m c)
+  released_cell m x c h = record {
+    value = h.value;
+    pending = within_trans (without c.pending m) c.pending 65535 (and_within c.pending (65535 - 2 ^ m)) h.pending;
+  }
+
+  module _ (store : Interferences) (weak : (x : ℕ) → (let a = abstract_at laid x in AreTyped laid a.scalar x store.weak))
+      (sync : (x : ℕ) → (let a = abstract_at laid x in AreTyped laid a.scalar x store.sync)) (held_in : IsWithin around.reader.held 65535) where
+    any_next : (s : State) (target : ℕ) (xs : List ℕ) (range : Values) → Next (Some target) s → IsOfType laid (types target) range → May (after_load_any around s target xs range)
+    any_next s target [] range h typed = E.none_next laid task types around.is_live
+    any_next s target (x ∷ xs) range h typed = E.given_next laid task types around.is_live s target range None h typed
+
+    load_next : (s : State) (target : ℕ) (xs : List ℕ) → Next (Some target) s
+        → ((x : ℕ) (v : Values) → is_among xs x ≡ true → (let a = abstract_at laid x in IsOfType laid a.scalar v) → IsOfType laid (types target) v)
+        → May (Rattle.transfer_rows.specs.Rows.after_load around s store target xs)
+    load_next s target xs h same =
+        E.given_next laid task types around.is_live s target (loaded around s store xs) (new_copy around s (single_of around.is_smashed xs)) h
+        (all_typed laid (types target) (λ x. found_in around store x (get s.cells x)) xs (λ x k.
+        same x (found_in around store x (get s.cells x)) (among_of xs x k)
+        (E.found_typed laid task types around.is_live around store weak sync held_in x (get s.cells x) (h.cells x))))
+
+    store_next : (s : State) (v : Values) (xs : List ℕ) → Next None s
+        → ((x : ℕ) → is_among xs x ≡ true → (let a = abstract_at laid x in IsOfType laid a.scalar v)) → May (after_store around s v xs)
+    store_next s v [] h typed = E.none_next laid task types around.is_live
+    store_next s v (x ∷ xs) h typed =
+        E.some_next laid task types around.is_live
+        record {
+          temps = Rattle.transfer_rows.specs.Rows.dropped (is_among (x ∷ xs)) s.temps;
+          cells = Rattle.tm_lattice.specs.Tables.changed_table (stored_cell around v (x ∷ xs) (single_of around.is_smashed (x ∷ xs))) s.cells;
+        }
+        (E.ended_next laid task types around.is_live s (is_among (x ∷ xs)) (stored_cell around v (x ∷ xs) (single_of around.is_smashed (x ∷ xs))) h (λ y c k.
+        E.stored_fits laid task types around.is_live around store weak sync held_in v (x ∷ xs) (single_of around.is_smashed (x ∷ xs)) y c
+        (λ b e z at. (single_is around (x ∷ xs) z (e ∙ at)).2) (typed y) k))
+
+    pub effect_next : (s : State) (action : Action) → ActionFits laid types s action → Next (target_of action) s → May (effect around action s store)
+    unfolding effect ActionFits target_of
+    effect_next s skips fits h = E.some_next laid task types around.is_live s h
+    effect_next s (gives target calculation) fits h = E.given_next laid task types around.is_live s target (calculated calculation s) None h fits
+    effect_next s (refines filter) fits h = filter_next s h filter fits
+    effect_next s (loads spots target address) fits h = load_next s target (targets_at spots (value_of s address).pointers) h fits
+    effect_next s (loads_any spots target address range) fits h = any_next s target (targets_at spots (value_of s address).pointers) range h fits
+    effect_next s (stores spots address source) fits h =
+        store_next s (value_of s source) (targets_at spots (value_of s address).pointers) h (λ x k. fits x (value_of s source) k (E.value_typed laid task types around.is_live None s h source))
+    effect_next s (clears cleared) fits h =
+        E.some_next laid task types around.is_live
+        record { temps = Rattle.transfer_rows.specs.Rows.dropped (λ x. is_cleared (cleared x)) s.temps; cells = Rattle.tm_lattice.specs.Tables.changed_table (λ x. cleared_to (cleared x)) s.cells }
+        (E.ended_next laid task types around.is_live s (λ x. is_cleared (cleared x)) (λ x. cleared_to (cleared x)) h (λ x c k. E.cleared_cell laid task types around.is_live (cleared x) x c (fits x) k))
+    effect_next s (locks m) fits h =
+        E.cond_next laid task types around.is_live (holds around m) (after_lock around s store m)
+        (E.ended_next laid task types around.is_live s (λ x. true) (λ x c. aged (taken around store m x c)) h (λ x c k.
+        E.aged_cell laid task types around.is_live around store weak sync held_in x (taken around store m x c) (E.taken_cell laid task types around.is_live around store weak sync held_in m x c k)))
+    effect_next s (unlocks m) fits h =
+        E.where_next laid task types around.is_live (holds around m) (after_unlock s m) (E.cells_next laid task types around.is_live s (λ x c. released m c) h (released_cell m))
+    effect_next s yields fits h =
+        E.some_next laid task types around.is_live (Rattle.transfer_rows.specs.Rows.after_yield s)
+        (E.cells_next laid task types around.is_live s (λ x c. aged c) h (E.aged_cell laid task types around.is_live around store weak sync held_in))
+    effect_next s (probes m target true) fits h = E.given_next laid task types around.is_live s target (only_numbers (single (pos 1))) None h fits.0
+    effect_next s (probes m target false) fits h =
+        E.cond_next laid task types around.is_live (holds around m) (after_free around s store m target)
+        (E.ended_with laid task types around.is_live s target record { value = only_numbers (single (pos 0)); copy = None } (λ x. true) (taken around store m) h fits.1
+        (E.taken_cell laid task types around.is_live around store weak sync held_in m))
+
+  -- ## Arrival
+
+  module _ (live : List ℕ) (lives : (t : ℕ) → around.is_live t ≡ is_among live t) where
+    entry_fits : (t : ℕ) (a : Option Temp) → is_among live t ≡ true → NextTemp laid task types around.is_live t a → FitsTemp laid types live t a
+    entry_fits t None is h = absurd (true≢false (sym is ∙ (sym (lives t) ∙ h)))
+    entry_fits t (Some e) is h = (is, h)
+
+    temp_fits : (t : ℕ) (a : Option Temp) → NextTemp laid task types around.is_live t a → FitsTemp laid types live t (cond (around.is_live t) a None)
+    temp_fits t a h = by_live (is_among live t) refl
+      where
+        by_live : (b : Bool) → is_among live t ≡ b → FitsTemp laid types live t (cond (around.is_live t) a None)
+        by_live true is = subst (λ b. FitsTemp laid types live t (cond b a None)) (sym (lives t ∙ is)) (entry_fits t a is h)
+        by_live false is = subst (λ b. FitsTemp laid types live t (cond b a None)) (sym (lives t ∙ is)) is
+
+    -- the state that arrives fits the place at which these temporaries are live
+    pub arrived_fits : (s : State) → Next None s → IsStateForm (arrived around s) → FitsPlace laid task types live (arrived around s)
+    arrived_fits s h form = record {
+      form = form;
+      temps = λ t. subst (FitsTemp laid types live t) (sym (get-kept s.temps around.is_live t))
+          (temp_fits t (get s.temps t) (h.temps t (λ e. absurd (let k : (let a : Option ℕ = None in a ≡ Some t) = e in cc))));
+      cells = h.cells;
+    }

@@ -1,0 +1,51 @@
+//! The laws of what fits. Each speaks of definitions alone, so its function does nothing.
+ghost use Rattle.std.specs.Prelude.{◌≡◌, ◌≤◌, ℕ, ℤ, Bool, List, Some};
+ghost use Rattle.tm_lattice.specs.Heights.{IsHeight};
+ghost use Rattle.tm_typed.specs.declared.types.Scalar.{Scalar};
+ghost use Rattle.tm_laid.specs.Layouts.{LaidTree};
+ghost use Rattle.flow_graph.specs.declared.operations.Operation.{Operation};
+ghost use Rattle.pointer_dom.specs.Values.{joined_values, rounded_values};
+ghost use Rattle.cell_env.specs.States.{joined_state, rounded_state_at, state_height};
+ghost use Rattle.interfere_set.specs.Stores.{Interferences};
+ghost use Rattle.transfer_rows.specs.StateForms.{State, IsStateForm, IsStateUnder};
+ghost use Rattle.transfer_rows.specs.Actions.{Around};
+ghost use Rattle.transfer_rows.specs.Rows.{after};
+ghost use Rattle.edge_actions.specs.Edges.{action_of};
+ghost use Rattle.value_heights.specs.Heights.{value_height};
+ghost use Rattle.temporary_types.specs.Sorts.{Sort};
+ghost use Rattle.typed_values.specs.Types.{HaveEnds};
+ghost use Rattle.state_fits.specs.Fits.{FitsPlace, FitsStore};
+ghost use Rattle.state_fits.specs.Edges.{FitsEdge};
+ghost use Rattle.state_fits.specs.Typed.{types_of};
+ghost use Rattle.state_fits.specs.Tops.{top_state};
+
+/// What an edge that fits brings from a state that fits, over a store that fits, fits the place to which it leads.
+pub fn edges_keep_fitting()
+    ensures { (laid : LaidTree) (task tasks : ℕ) (sorts : List Sort) (around : Around) (op : Operation)
+        (live live' : List ℕ) → FitsEdge laid task sorts around op live live' → (store : Interferences)
+        → FitsStore laid tasks store → (pointers answer : Bool) (s : State)
+        → FitsPlace laid task (types_of sorts) live s → (t : State)
+        → after around (action_of laid task pointers answer op) s store ≡ Some t
+        → FitsPlace laid task (types_of sorts) live' t }
+{}
+
+/// States that fit a place are joined to one that fits it, and so rounded onto thresholds with the ends of the types.
+pub fn places_are_closed()
+    ensures joined { (laid : LaidTree) (task : ℕ) (types : ℕ → Scalar) (live : List ℕ) (s t : State)
+        → FitsPlace laid task types live s → FitsPlace laid task types live t
+        → FitsPlace laid task types live (joined_state joined_values s t) }
+    ensures rounded { (laid : LaidTree) (task : ℕ) (types : ℕ → Scalar) (live : List ℕ) (marks : List ℤ)
+        (cells : List ℕ) (s : State) → HaveEnds marks → FitsPlace laid task types live s
+        → FitsPlace laid task types live (rounded_state_at (rounded_values marks) cells s) }
+{}
+
+/// A state that fits a place lies below the greatest one there, and is at most as high; and a state that is as high as one
+/// above it is that one.
+pub fn places_have_tops()
+    ensures below { (laid : LaidTree) (task : ℕ) (types : ℕ → Scalar) (live : List ℕ) (s : State)
+        → FitsPlace laid task types live s → IsStateUnder s (top_state laid live) }
+    ensures within { (laid : LaidTree) (task : ℕ) (types : ℕ → Scalar) (live : List ℕ) (s : State)
+        → FitsPlace laid task types live s
+        → state_height value_height s ≤ state_height value_height (top_state laid live) }
+    ensures heights { IsHeight IsStateForm IsStateUnder (state_height value_height) }
+{}

@@ -1,0 +1,3 @@
+pub mod NumbersInTypes
+pub mod ObjectsKept
+pub mod TypeLaws
