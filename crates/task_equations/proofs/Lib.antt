@@ -2,6 +2,6 @@
 -- bodies of configured graphs (ConfiguredBodies), and a body with two nodes (Examples).
 mod HeldSets
 mod CopiesOfEdges
-mod PlacesOfBodies
-mod ConfiguredBodies
+pub mod PlacesOfBodies
+pub mod ConfiguredBodies
 mod Examples

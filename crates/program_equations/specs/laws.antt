@@ -1,0 +1,12 @@
+pub mod ReadAlike
+pub mod StoresFit
+pub mod Fitting
+pub mod EntryStates
+pub mod Endings
+pub mod TaskEntries
+pub mod Alike
+pub mod Sections
+pub mod Lawful
+pub mod Passing
+pub mod Tables
+pub mod WholeTables
