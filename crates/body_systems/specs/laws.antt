@@ -1,0 +1,5 @@
+pub mod Lawful
+pub mod Applicable
+pub mod Bodies
+pub mod Codes
+pub mod States

@@ -1,0 +1,4 @@
+mod Examples
+pub mod Joins
+pub mod Marks
+pub mod States
