@@ -12,7 +12,7 @@ use Rattle.mutex_configs.specs.Graphs.{IsGraph}
 use Rattle.lowering_laws.specs.LaidFiles.{IsLaidFile}
 use Rattle.lowering_laws.specs.Mutexes.{HasMutex}
 use Rattle.lowering_laws.proofs.Ranges.{joins_nodes, has_entry}
-use Rattle.lowering_laws.proofs.MutexGraphs.{mutexes_of_file, few_mutexes}
+use Rattle.lowering_laws.proofs.TableGraphs.{mutexes_of_file, few_mutexes}
 
 -- a mutex of so many is one of sixteen
 of_sixteen : (n : ℕ) → n ≤ 16 → (op : Operation) → HasMutex n op → IsOfSixteen op

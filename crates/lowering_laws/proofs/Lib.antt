@@ -7,8 +7,8 @@ pub mod Operands
 pub mod Statements
 pub mod Lowered
 pub mod Ranges
-pub mod MutexSteps
-pub mod MutexGraphs
+pub mod TableSteps
+pub mod TableGraphs
 pub mod Configured
 pub mod GraphLaws
 mod Example

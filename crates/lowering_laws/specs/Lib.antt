@@ -1,3 +1,4 @@
 -- What the laws speak of.
 pub mod LaidFiles
 pub mod Mutexes
+pub mod Operations

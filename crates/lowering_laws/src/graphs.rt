@@ -15,6 +15,7 @@ ghost use Rattle.lowering.specs.Owned.{IsOwnObject};
 ghost use Rattle.mutex_configs.specs.Graphs.{IsGraph};
 ghost use Rattle.lowering_laws.specs.LaidFiles.{IsLaidFile};
 ghost use Rattle.lowering_laws.specs.Mutexes.{HasMutex};
+ghost use Rattle.lowering_laws.specs.Operations.{HasPlainConstant, HasPlainTest};
 
 /// After each list of answers the run of a body's graph is followed by the next action of the body, and by no other
 /// one.
@@ -56,6 +57,19 @@ pub fn no_edge_leads_to_entry()
 pub fn graphs_name_mutexes()
     ensures { (laid : LaidTree) → IsLaidFile laid → (body : ℕ)
         → All (λ e. HasMutex (length laid.file.mutexes) e.op) (graph_of laid body) × (length laid.file.mutexes ≤ 16) }
+{}
+
+/// Each constant of a graph is a number, or null, or the invalid pointer: the address of an object is given by an
+/// operation of its own.
+pub fn constants_lead_nowhere()
+    ensures { (laid : LaidTree) → IsLaidFile laid → (body : ℕ)
+        → All (λ e. HasPlainConstant e.op) (graph_of laid body) }
+{}
+
+/// Each test of two numbers is one of the six comparisons, and each label is a number of an integer type.
+pub fn graphs_test_comparisons()
+    ensures { (laid : LaidTree) → IsLaidFile laid → (body : ℕ)
+        → All (λ e. HasPlainTest e.op) (graph_of laid body) }
 {}
 
 /// So each graph that is that of a body can be configured: it has an entry node, its edges join its nodes, and its

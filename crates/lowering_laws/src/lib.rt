@@ -10,7 +10,7 @@ mod graphs;
 
 pub use files::typed_files_can_be_lowered;
 pub use graphs::{
-    edges_join_nodes, graphs_are_plain, graphs_can_be_configured, graphs_clear_own,
-    graphs_name_mutexes, graphs_run_along_next, graphs_run_as_next, no_edge_leads_to_entry,
-    nothing_live_at_entry,
+    constants_lead_nowhere, edges_join_nodes, graphs_are_plain, graphs_can_be_configured,
+    graphs_clear_own, graphs_name_mutexes, graphs_run_along_next, graphs_run_as_next,
+    graphs_test_comparisons, no_edge_leads_to_entry, nothing_live_at_entry,
 };

@@ -154,6 +154,7 @@ pub fn configured(alloc: Global, laid: Laid, graphs: Graphs, marks: Marks) -> Re
     ensures answer { IsAnswer (laid_tree laid) graphs.graphs.items
         (result_map_both (λ p. p.configured.items) (λ e. e) result) }
     ensures laid { IfOk result (λ p. laid_tree p.laid ≡ laid_tree laid) }
+    ensures order { IfOk result (λ p. p.laid.file.order.items ≡ laid.file.order.items) }
     ensures graphs { IfOk result (λ p. p.graphs ≡ graphs) }
     ensures marks { IfOk result (λ p. p.marks ≡ marks) }
 {

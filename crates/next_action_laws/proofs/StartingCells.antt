@@ -151,7 +151,7 @@ module _ (file : TypedFileTree) (order : List ℕ) (h : IsLayable file order) wh
         first_is xs c s
         (subst (λ ys. begins_with (drop c xs) ys ≡ true) (scalar_part file order h x.type s x.scalar) b.begins)
 
-  given_scalar : (n c : ℕ) (s : Scalar) → length (scalars_of_type file n) ≤ 65536
+  pub given_scalar : (n c : ℕ) (s : Scalar) → length (scalars_of_type file n) ≤ 65536
       → HasScalar (tables_of file) n c s → slice_get (scalars_of_type file n) c ≡ Some s
   given_scalar n c s small x =
       scalar_of_cell (scalars_of_type file n) small n c s

@@ -17,7 +17,7 @@ use Rattle.next_action_laws.proofs.RegularFiles.{bodies_are_regular}
 use Rattle.lowering_laws.specs.LaidFiles.{IsLaidFile}
 use Rattle.lowering_laws.proofs.Founded.{file_layable}
 use Rattle.lowering_laws.proofs.Lowered.{is_layout}
-use Rattle.lowering_laws.proofs.MutexGraphs.{few_mutexes}
+use Rattle.lowering_laws.proofs.TableGraphs.{few_mutexes}
 use Rattle.temporary_types.specs.PointerMarks.{pointer_marks, Tells}
 use Rattle.temporary_types.proofs.Telling.{told}
 use Rattle.operation_laws.specs.SortedGraphs.{HasSorts}
@@ -45,7 +45,7 @@ unless_many file None e =
     let d = none_found (p Limits.Cells) Limits.Cells _ c.1 in
     d.0
 
-few_cells : (laid : LaidTree) → (h : IsLaidFile laid) → is_exceeded h.file Limits.Cells ≡ false
+pub few_cells : (laid : LaidTree) → (h : IsLaidFile laid) → is_exceeded h.file Limits.Cells ≡ false
 few_cells laid h =
     from_answer (HasFewCells h.file) (laid_out h.file) laid
     (unless_many h.file (find (is_exceeded h.file) laid_limits) refl) h.answered

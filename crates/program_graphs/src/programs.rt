@@ -18,6 +18,7 @@ pub fn program(alloc: Global, laid: Laid, marks: Marks) -> Result<Program, Fail>
     requires { IsLaidFile (laid_tree laid) }
     ensures answer { IsPrepared (laid_tree laid) (answer_of result) }
     ensures laid { IfOk result (λ p. laid_tree p.laid ≡ laid_tree laid) }
+    ensures order { IfOk result (λ p. p.laid.file.order.items ≡ laid.file.order.items) }
     ensures marks { IfOk result (λ p. p.marks ≡ marks) }
 {
     let graphs = lower(alloc, &laid)?;

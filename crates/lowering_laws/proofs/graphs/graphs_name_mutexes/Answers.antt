@@ -1,4 +1,4 @@
-use Rattle.lowering_laws.proofs.MutexGraphs.{mutexes_of_file, few_mutexes}
+use Rattle.lowering_laws.proofs.TableGraphs.{mutexes_of_file, few_mutexes}
 use Rattle.lowering_laws.proofs.graphs.graphs_name_mutexes.Goals as goal
 
 pub returns : goal.returns

@@ -1,10 +1,13 @@
--- The table names mutexes of the file alone.
-use Rattle.std.proofs.Common.{◌≡◌, subst, ℕ, zero, suc, ◌<◌, Bool, true, false, List, [], ◌∷◌}
+-- The operations of the table: mutexes are those of the file, constants lead to no object, and tests compare.
+use Rattle.std.proofs.Common.{◌≡◌, refl, subst, ℕ, zero, suc, ◌<◌, Bool, true, false, List, [], ◌∷◌}
 use Rattle.std.specs.Prelude.{if◌then◌else◌, All, Option, Some, None}
+use Rattle.std.proofs.lemmas.Bool.{false≢true}
 use Rattle.std.proofs.lemmas.List.Elements.{All-head, All-tail}
 use Rattle.tm_cint.specs.declared.int_types.IntType.{IntType}
 use Rattle.tm_cint.specs.declared.int_types.IntType.TheVariants as Ints
 use Rattle.tm_cint.specs.declared.operators.BinOp.{BinOp}
+use Rattle.tm_cint.specs.declared.operators.BinOp.TheVariants as Bins
+use Rattle.tm_cint.specs.Operators.{IsComparison}
 use Rattle.tm_terms.specs.declared.places.Place.{Place}
 use Rattle.tm_typed.specs.declared.types.Scalar.{Scalar}
 use Rattle.tm_typed.specs.declared.types.Scalar.TheVariants as Scalars
@@ -18,15 +21,18 @@ use Rattle.tm_typed.specs.TypedTrees.{an_arrow, a_part, RvalueTrees, no_rvalues,
 use Rattle.tm_typed.specs.TypedStatements.{GivenTree, LocalInitialiserTree, LocalTree, TypedTree, evaluates, declares}
 use Rattle.tm_typed.specs.TypedStatements.{runs_block, branches, branches_else, loops_while, loops_do, loops_for}
 use Rattle.tm_typed.specs.TypedStatements.{selects, breaks, continues, returns, locks, unlocks, yields, TypedTrees}
-use Rattle.tm_typed.specs.TypedStatements.{no_statements, and_statement, TypedCase, a_label, a_default_label}
+use Rattle.tm_typed.specs.TypedStatements.{no_statements, and_statement, a_label, a_default_label}
 use Rattle.tm_typed.specs.TypedStatements.{a_labelled_step, TypedCases, no_typed_cases, and_typed_case}
 use Rattle.tm_typed.specs.Rules.{is_comparison}
+use Rattle.tm_typed.specs.StatementRules.{Labels, no_labels, with_label}
 use Rattle.tm_typed.specs.WellTyped.{ValueKind, a_number, a_pointer, kind_of_scalar, Context, IsRvalue, IsLvalue}
 use Rattle.tm_typed.specs.WellTyped.{AreArguments}
 use Rattle.tm_laid.specs.Layouts.{LaidTree, object_of, object_at}
 use Rattle.concrete_steps.specs.Places.{rvalue_place, is_pointer_scalar, gives_pointer}
 use Rattle.concrete_steps.specs.NextAction.{scalar_at, is_given, rest_of}
 use Rattle.flow_graph.specs.declared.operations.Into.{Into}
+use Rattle.flow_graph.specs.declared.operations.Operation.{Operation}
+use Rattle.flow_graph.specs.declared.operations.Operation.TheVariants as Op
 use Rattle.lowering.specs.Steps.{Steps, no_more, first_then, Step, operate, value_of, only_do, truth_of, choose}
 use Rattle.lowering.specs.Steps.{choose_only, call_of, Inputs, no_inputs, and_input, Code, code, Fork, fork_by}
 use Rattle.lowering.specs.Steps.{converse}
@@ -34,8 +40,39 @@ use Rattle.lowering.specs.Steps.{both_of, either_of, Plan, nothing_more, in_turn
 use Rattle.lowering.specs.Steps.{loop_stepping, loop_until, select, break_off, go_on, give_back, Parts, no_parts}
 use Rattle.lowering.specs.Steps.{labelled, by_default, and_plan}
 use Rattle.lowering.specs.Table as Table
+use Rattle.typing_laws.specs.Placement.{AreDifferent, HaveLabels, HaveAllLabels, HaveCaseLabels}
+use Rattle.typed_file_laws.specs.Lawful.{IsNumber}
 use Rattle.typed_file_laws.specs.Bodies as Typed
-use Rattle.lowering_laws.specs.Mutexes.{HasMutex}
+use Rattle.lowering_laws.specs.Operations.{IsPlainValue, IsPlainTest}
+use Rattle.lowering_laws.proofs.Firsts.{IsFirst, HaveFirsts, HaveAllFirsts, HaveCaseFirsts}
+
+-- An operation that the table places: a mutex is one of so many, a constant leads to no object, and a test compares.
+abbrev pub IsPlaced : ℕ → Operation → Type 0
+IsPlaced count (Op.Const to value) = IsPlainValue value
+IsPlaced count (Op.Assume test) = IsPlainTest test
+IsPlaced count (Op.Lock mutex place) = mutex < count
+IsPlaced count (Op.Unlock mutex place) = mutex < count
+IsPlaced count (Op.Probe to mutex place) = mutex < count
+IsPlaced count _ = Unit {0}
+
+-- a comparison
+compares : (op : BinOp) → is_comparison op ≡ true → IsComparison op
+compares Bins.Lt e = tt
+compares Bins.Le e = tt
+compares Bins.Gt e = tt
+compares Bins.Ge e = tt
+compares Bins.Eq e = tt
+compares Bins.Ne e = tt
+compares Bins.Add e = absurd (false≢true e)
+compares Bins.Sub e = absurd (false≢true e)
+compares Bins.Mul e = absurd (false≢true e)
+compares Bins.Div e = absurd (false≢true e)
+compares Bins.Rem e = absurd (false≢true e)
+compares Bins.Shl e = absurd (false≢true e)
+compares Bins.Shr e = absurd (false≢true e)
+compares Bins.And e = absurd (false≢true e)
+compares Bins.Or e = absurd (false≢true e)
+compares Bins.Xor e = absurd (false≢true e)
 
 module _ (count : ℕ) where
   abbrev mutual
@@ -44,7 +81,7 @@ module _ (count : ℕ) where
     StepsHave (first_then s rest) = StepHas s × StepsHave rest
 
     pub StepHas : Step → Type 0
-    StepHas (operate op) = HasMutex count op
+    StepHas (operate op) = IsPlaced count op
     StepHas (value_of c) = CodeHas c
     StepHas (only_do c) = CodeHas c
     StepHas (truth_of f) = ForkHas f
@@ -60,7 +97,7 @@ module _ (count : ℕ) where
     CodeHas (code steps result) = StepsHave steps
 
     pub ForkHas : Fork → Type 0
-    ForkHas (fork_by steps test) = StepsHave steps
+    ForkHas (fork_by steps test) = StepsHave steps × IsPlainTest test
     ForkHas (converse f) = ForkHas f
     ForkHas (both_of f g) = ForkHas f × ForkHas g
     ForkHas (either_of f g) = ForkHas f × ForkHas g
@@ -89,7 +126,7 @@ module _ (count : ℕ) where
 
     pub PartsHave : Parts → Type 0
     PartsHave no_parts = Unit {0}
-    PartsHave (labelled z rest) = PartsHave rest
+    PartsHave (labelled z rest) = IsNumber z × PartsHave rest
     PartsHave (by_default rest) = PartsHave rest
     PartsHave (and_plan s rest) = PlanHas s × PartsHave rest
 
@@ -103,20 +140,25 @@ module _ (count : ℕ) where
   convert_has (Some c) v rest h = (tt, h)
 
   valued_has : (pointer : Bool) (p : Place) (c : Code) → CodeHas c → CodesHave (Table.valued pointer p c)
-  valued_has false p c h = record { value = h; bare = h; fork = (h, tt) }
-  valued_has true p c h = record { value = h; bare = h; fork = (h, (tt, tt)) }
+  valued_has false p c h = record { value = h; bare = h; fork = ((h, tt), tt) }
+  valued_has true p c h = record { value = h; bare = h; fork = ((h, (tt, tt)), tt) }
 
   decided_has : (f : Fork) → ForkHas f → CodesHave (Table.decided f)
   decided_has f h = record { value = (h, tt); bare = (h, tt); fork = h }
 
   binary_has : (comparison : Bool) (op : BinOp) (t : IntType) (p : Place) (l : Code) (cl : Table.Conversion) (r : Code)
       (cr : Table.Conversion)
-      → CodeHas l → CodeHas r → CodesHave (Table.binary_codes comparison op t p l cl r cr)
-  binary_has true op t p l cl r cr hl hr =
+      → is_comparison op ≡ comparison → CodeHas l → CodeHas r
+      → CodesHave (Table.binary_codes comparison op t p l cl r cr)
+  binary_has true op t p l cl r cr is hl hr =
       let b : CodeHas (Table.binary_code op t p l cl r cr) =
       (hl, (hr, convert_has cl 0 _ (convert_has cr 1 _ (tt, tt)))) in
-      record { value = b; bare = b; fork = (hl, (hr, convert_has cl 0 _ (convert_has cr 1 _ tt))) }
-  binary_has false op t p l cl r cr hl hr =
+      record {
+        value = b;
+        bare = b;
+        fork = ((hl, (hr, convert_has cl 0 _ (convert_has cr 1 _ tt))), compares op is);
+      }
+  binary_has false op t p l cl r cr is hl hr =
       valued_has false p _ (hl, (hr, convert_has cl 0 _ (convert_has cr 1 _ (tt, tt))))
 
   move_has : (minus : Bool) (cells : ℕ) (first : Bool) (p : Place) (e i : Code) → CodeHas e → CodeHas i
@@ -124,7 +166,7 @@ module _ (count : ℕ) where
   move_has minus cells false p e i he hi = (he, (hi, (tt, tt)))
   move_has minus cells true p e i he hi = (hi, (he, (tt, tt)))
 
-  loading_has : (volatile : Bool) (s : Scalar) (a : ℕ) (p : Place) → HasMutex count (Table.loading volatile s a p)
+  loading_has : (volatile : Bool) (s : Scalar) (a : ℕ) (p : Place) → IsPlaced count (Table.loading volatile s a p)
   loading_has false s a p = tt
   loading_has true s a p = tt
 
@@ -163,7 +205,7 @@ module _ (count : ℕ) where
       codes_have k (the_same e p) h = valued_has (gives_pointer laid e) p _ (codes_have k e h).value
       codes_have k (a_unary o t e p) h = valued_has false p _ ((codes_have (a_number t) e h.1).value, (tt, tt))
       codes_have k (a_binary op t l r p) h =
-          binary_has (is_comparison op) op t p _ (Table.implied l) _ (Table.implied r)
+          binary_has (is_comparison op) op t p _ (Table.implied l) _ (Table.implied r) refl
           (codes_have (a_number t) l h.3).bare (codes_have (a_number h.0) r h.4).bare
       codes_have k (a_comparison_of_pointers equal l r p) h =
           let l' = (codes_have a_pointer l h.1).value in
@@ -171,7 +213,7 @@ module _ (count : ℕ) where
           record {
             value = (l', (r', (tt, (tt, (tt, tt)))));
             bare = (l', (r', (tt, (tt, (tt, tt)))));
-            fork = (l', (r', (tt, (tt, tt))));
+            fork = ((l', (r', (tt, (tt, tt)))), tt);
           }
       codes_have k (a_move minus cells first e i p) h =
           valued_has true p _ (move_has minus cells first p _ _ (codes_have a_pointer e h.2).value
@@ -219,7 +261,7 @@ module _ (count : ℕ) where
           record {
             value = c;
             bare = bare_has (Table.is_same_place p (rvalue_place e)) _ _ (codes_have (a_number from) e h.1).value c;
-            fork = (c, tt);
+            fork = ((c, tt), tt);
           }
       codes_have k (a_discard e p) h = valued_has false p _ ((codes_have h.0 e h.2).value, tt)
 
@@ -298,36 +340,59 @@ module _ (count : ℕ) where
           (locals_have ls (All-tail (Typed.IsLocal w) l ls h)),
     )
 
+    -- what stands first in a `for` has no labels
+    first_has : (s : TypedTree) → IsFirst s → HaveLabels s × HaveFirsts s
+    first_has (evaluates e) f = (tt, tt)
+    first_has (declares ls) f = (tt, tt)
+    first_has (runs_block ss) f = absurd f
+    first_has (branches c s) f = absurd f
+    first_has (branches_else c s r) f = absurd f
+    first_has (loops_while c s) f = absurd f
+    first_has (loops_do s c) f = absurd f
+    first_has (loops_for first c step s) f = absurd f
+    first_has (selects t e cs) f = absurd f
+    first_has breaks f = absurd f
+    first_has continues f = absurd f
+    first_has (returns e) f = absurd f
+    first_has (locks m p) f = absurd f
+    first_has (unlocks m p) f = absurd f
+    first_has yields f = absurd f
+
     module _ (result : ℕ) where
       mutual
-        plan_has : (s : TypedTree) → Typed.IsStatement w result s → PlanHas (Table.plan laid path s)
-        plan_has (evaluates e) h = effect_has e h
-        plan_has (declares ls) h = locals_have ls h
-        plan_has (runs_block ss) h = plans_have ss h
-        plan_has (branches c s) h = ((codes_have h.0.0 c h.0.2).fork, plan_has s h.1, tt)
-        plan_has (branches_else c s r) h = ((codes_have h.0.0 c h.0.2).fork, plan_has s h.1, plan_has r h.2)
-        plan_has (loops_while c s) h = ((codes_have h.0.0 c h.0.2).fork, plan_has s h.1)
-        plan_has (loops_do s c) h = (plan_has s h.1, (codes_have h.0.0 c h.0.2).fork)
-        plan_has (loops_for first c step s) h =
-            (plan_has first h.0, (test_has c h.1, effect_has step h.2, plan_has s h.3))
-        plan_has (selects t e cs) h = ((codes_have (a_number t) e h.0).value, parts_have cs h.1)
-        plan_has breaks h = tt
-        plan_has continues h = tt
-        plan_has (returns e) h = returned_has result e h
-        plan_has (locks m p) h = (subst (λ n. m < n) same h, tt)
-        plan_has (unlocks m p) h = (subst (λ n. m < n) same h, tt)
-        plan_has yields h = (tt, tt)
+        plan_has : (s : TypedTree) → Typed.IsStatement w result s → HaveLabels s → HaveFirsts s
+            → PlanHas (Table.plan laid path s)
+        plan_has (evaluates e) h l f = effect_has e h
+        plan_has (declares ls) h l f = locals_have ls h
+        plan_has (runs_block ss) h l f = plans_have ss h l f
+        plan_has (branches c s) h l f = ((codes_have h.0.0 c h.0.2).fork, plan_has s h.1 l f, tt)
+        plan_has (branches_else c s r) h l f =
+            ((codes_have h.0.0 c h.0.2).fork, plan_has s h.1 l.0 f.0, plan_has r h.2 l.1 f.1)
+        plan_has (loops_while c s) h l f = ((codes_have h.0.0 c h.0.2).fork, plan_has s h.1 l f)
+        plan_has (loops_do s c) h l f = (plan_has s h.1 l f, (codes_have h.0.0 c h.0.2).fork)
+        plan_has (loops_for first c step s) h l f =
+            let x = first_has first f.0 in
+            (plan_has first h.0 x.0 x.1, (test_has c h.1, effect_has step h.2, plan_has s h.3 l f.1))
+        plan_has (selects t e cs) h l f =
+            ((codes_have (a_number t) e h.0).value, parts_have t no_labels cs h.1 l.0 l.1 f)
+        plan_has breaks h l f = tt
+        plan_has continues h l f = tt
+        plan_has (returns e) h l f = returned_has result e h
+        plan_has (locks m p) h l f = (subst (λ n. m < n) same h, tt)
+        plan_has (unlocks m p) h l f = (subst (λ n. m < n) same h, tt)
+        plan_has yields h l f = (tt, tt)
 
-        pub plans_have : (ss : TypedTrees) → Typed.AreStatements w result ss → PlanHas (Table.plans laid path ss)
-        plans_have no_statements h = tt
-        plans_have (and_statement s ss) h = (plan_has s h.0, plans_have ss h.1)
+        pub plans_have : (ss : TypedTrees) → Typed.AreStatements w result ss → HaveAllLabels ss → HaveAllFirsts ss
+            → PlanHas (Table.plans laid path ss)
+        plans_have no_statements h l f = tt
+        plans_have (and_statement s ss) h l f = (plan_has s h.0 l.0 f.0, plans_have ss h.1 l.1 f.1)
 
-        part_has : (c : TypedCase) → Typed.IsPart w result c → (rest : Parts) → PartsHave rest
-            → PartsHave (Table.part_then laid path c rest)
-        part_has (a_label z p) h rest k = k
-        part_has (a_default_label p) h rest k = k
-        part_has (a_labelled_step s) h rest k = (plan_has s h, k)
-
-        parts_have : (cs : TypedCases) → Typed.AreParts w result cs → PartsHave (Table.parts laid path cs)
-        parts_have no_typed_cases h = tt
-        parts_have (and_typed_case c cs) h = part_has c h.0 _ (parts_have cs h.1)
+        parts_have : (t : IntType) (before : Labels) (cs : TypedCases) → Typed.AreParts w result cs
+            → AreDifferent t before cs → HaveCaseLabels cs → HaveCaseFirsts cs → PartsHave (Table.parts laid path cs)
+        parts_have t before no_typed_cases h d l f = tt
+        parts_have t before (and_typed_case (a_label z p) cs) h d l f =
+            (record { type = t; within = d.0 }, parts_have t (with_label before z) cs h.1 d.2 l f.1)
+        parts_have t before (and_typed_case (a_default_label p) cs) h d l f =
+            parts_have t (record before { has_default = true }) cs h.1 d.1 l f.1
+        parts_have t before (and_typed_case (a_labelled_step s) cs) h d l f =
+            (plan_has s h.0 l.0 f.0, parts_have t before cs h.1 d l.1 f.1)

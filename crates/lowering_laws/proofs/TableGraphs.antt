@@ -1,4 +1,4 @@
--- What is built names mutexes of the file alone.
+-- The operations that are built: mutexes are those of the file, constants lead to no object, and tests compare.
 use Rattle.std.proofs.Common.{◌≡◌, refl, sym, ap, subst, inl, inr, ℕ, zero, suc, ◌≤◌, Bool, true, false, List}
 use Rattle.std.proofs.Common.{[], ◌∷◌, ◌++◌, length, get_or}
 use Rattle.std.specs.Prelude.{if◌then◌else◌, cond, nat_lt, All, find, Option, Some, None}
@@ -6,6 +6,9 @@ use Rattle.std.proofs.lemmas.Bool.{cases_lt, ltb-false}
 use Rattle.std.proofs.lemmas.Option.{none-some}
 use Rattle.std.proofs.lemmas.List.{get_or_past}
 use Rattle.std.proofs.lemmas.List.Elements.{All-nil, All-cons, All-get_or}
+use Rattle.tm_cint.specs.declared.operators.BinOp.{BinOp}
+use Rattle.tm_cint.specs.declared.operators.BinOp.TheVariants as Bins
+use Rattle.tm_cint.specs.Operators.{IsComparison}
 use Rattle.tm_terms.specs.declared.places.Place.{Place}
 use Rattle.tm_terms.specs.declared.refusals.Limit.{Limit}
 use Rattle.tm_terms.specs.declared.refusals.Limit.TheVariants as Limits
@@ -23,8 +26,9 @@ use Rattle.concrete_steps.specs.NextAction.{function_at}
 use Rattle.flow_graph.specs.declared.graphs.Edge.{Edge}
 use Rattle.flow_graph.specs.declared.operations.Operation.{Operation}
 use Rattle.flow_graph.specs.declared.operations.Operation.TheVariants as Op
+use Rattle.flow_graph.specs.declared.operations.Test.{Test}
 use Rattle.flow_graph.specs.declared.operations.Test.TheVariants as Tests
-use Rattle.flow_graph.specs.Operations.{given}
+use Rattle.flow_graph.specs.Operations.{given, negated, opposite}
 use Rattle.flow_graph.specs.Graphs.{Edges}
 use Rattle.typing_laws.proofs.Steps.{from_answer}
 use Rattle.typed_file_laws.specs.TypedBodies.{file_context, IsBodyOf}
@@ -35,7 +39,8 @@ use Rattle.lowering.specs.Steps.{converse, both_of, either_of, Plan, nothing_mor
 use Rattle.lowering.specs.Steps.{loop_while, loop_stepping, loop_until, select, break_off, go_on, give_back, Parts}
 use Rattle.lowering.specs.Steps.{no_parts, labelled, by_default, and_plan}
 use Rattle.lowering.specs.Table.{plans}
-use Rattle.lowering.specs.Built.{edge, at, renamed, Building, place_with, place, place_new, branch, goto, skips, meet}
+use Rattle.lowering.specs.Built.{edge, at, renamed_test, renamed, Building, place_with, place, place_new, branch}
+use Rattle.lowering.specs.Built.{goto, skips, meet}
 use Rattle.lowering.specs.Built.{nowhere, close_loop, temp_of, operated, copied, copied_to, Sites, call_given}
 use Rattle.lowering.specs.Built.{steps_piece, step_piece, inputs_piece, code_piece, fork_piece, is_break, is_continue}
 use Rattle.lowering.specs.Built.{is_return, nodes_by, Onward, ToHead, Later, continued_at, place_result, tests_piece}
@@ -44,14 +49,37 @@ use Rattle.lowering.specs.Built.{stores_piece, fallen_piece, function_end, task_
 use Rattle.lowering.specs.Built.{path_piece, entry, AfterPart, graph_of}
 use Rattle.lowering_laws.specs.LaidFiles.{IsLaidFile}
 use Rattle.lowering_laws.specs.Mutexes.{HasMutex}
-use Rattle.lowering_laws.proofs.MutexSteps.{StepsHave, StepHas, InputsHave, CodeHas, ForkHas, MaybeFork, MaybeCode}
-use Rattle.lowering_laws.proofs.MutexSteps.{PlanHas, PartsHave, plans_have}
+use Rattle.lowering_laws.specs.Operations.{IsPlainTest, HasPlainConstant, HasPlainTest}
+use Rattle.lowering_laws.proofs.Placed.{IsPlacedIn, IsPlacedFunction}
+use Rattle.lowering_laws.proofs.Founded.{bodies_placed}
+use Rattle.lowering_laws.proofs.TableSteps.{IsPlaced, StepsHave, StepHas, InputsHave, CodeHas, ForkHas, MaybeFork}
+use Rattle.lowering_laws.proofs.TableSteps.{MaybeCode}
+use Rattle.lowering_laws.proofs.TableSteps.{PlanHas, PartsHave, plans_have}
 use Rattle.lowering_laws.proofs.Lowered.{is_layout}
+
+-- the opposite of a comparison is one
+negated_compares : (op : BinOp) → IsComparison op → IsComparison (negated op)
+negated_compares Bins.Lt h = tt
+negated_compares Bins.Le h = tt
+negated_compares Bins.Gt h = tt
+negated_compares Bins.Ge h = tt
+negated_compares Bins.Eq h = tt
+negated_compares Bins.Ne h = tt
+negated_compares Bins.Add h = absurd h
+negated_compares Bins.Sub h = absurd h
+negated_compares Bins.Mul h = absurd h
+negated_compares Bins.Div h = absurd h
+negated_compares Bins.Rem h = absurd h
+negated_compares Bins.Shl h = absurd h
+negated_compares Bins.Shr h = absurd h
+negated_compares Bins.And h = absurd h
+negated_compares Bins.Or h = absurd h
+negated_compares Bins.Xor h = absurd h
 
 module _ (count : ℕ) where
   abbrev AllHave : Edges → Type 0
   AllHave [] = Unit {0}
-  AllHave (e ∷ es) = HasMutex count e.op × AllHave es
+  AllHave (e ∷ es) = IsPlaced count e.op × AllHave es
 
   abbrev Has : Building → Type 0
   Has b = AllHave b.edges
@@ -64,13 +92,25 @@ module _ (count : ℕ) where
   all_skips [] j = tt
   all_skips (n ∷ ns) j = (tt, all_skips ns j)
 
-  all_listed : (g : Edges) → AllHave g → All (λ e. HasMutex count e.op) g
-  all_listed [] h = All-nil (λ (e : Edge). HasMutex count e.op)
-  all_listed (e ∷ g) h = All-cons (λ (e : Edge). HasMutex count e.op) e g h.0 (all_listed g h.1)
+  all_listed : (g : Edges) → AllHave g → All (λ e. IsPlaced count e.op) g
+  all_listed [] h = All-nil (λ (e : Edge). IsPlaced count e.op)
+  all_listed (e ∷ g) h = All-cons (λ (e : Edge). IsPlaced count e.op) e g h.0 (all_listed g h.1)
 
-  has_renamed : (f : ℕ → ℕ) (to : ℕ) (op : Operation) → HasMutex count op → HasMutex count (renamed f to op)
+  test_renamed : (f : ℕ → ℕ) (test : Test) → IsPlainTest test → IsPlainTest (renamed_test f test)
+  test_renamed f (Tests.Numbers operator of left right) h = h
+  test_renamed f (Tests.Pointers equal left right) h = tt
+  test_renamed f (Tests.Truth holds value) h = tt
+  test_renamed f (Tests.Case holds label value) h = h
+
+  test_opposite : (test : Test) → IsPlainTest test → IsPlainTest (opposite test)
+  test_opposite (Tests.Numbers operator of left right) h = negated_compares operator h
+  test_opposite (Tests.Pointers equal left right) h = tt
+  test_opposite (Tests.Truth holds value) h = tt
+  test_opposite (Tests.Case holds label value) h = h
+
+  has_renamed : (f : ℕ → ℕ) (to : ℕ) (op : Operation) → IsPlaced count op → IsPlaced count (renamed f to op)
   has_renamed f to Op.Skip h = tt
-  has_renamed f to (Op.Const t value) h = tt
+  has_renamed f to (Op.Const t value) h = h
   has_renamed f to (Op.Copy t from) h = tt
   has_renamed f to (Op.Un t operator of from place) h = tt
   has_renamed f to (Op.Bin t operator of left right place) h = tt
@@ -87,13 +127,13 @@ module _ (count : ℕ) where
   has_renamed f to (Op.Any t low high) h = tt
   has_renamed f to (Op.Clear object) h = tt
   has_renamed f to (Op.Usable pointer place) h = tt
-  has_renamed f to (Op.Assume test) h = tt
+  has_renamed f to (Op.Assume test) h = test_renamed f test h
   has_renamed f to (Op.Lock mutex place) h = h
   has_renamed f to (Op.Unlock mutex place) h = h
   has_renamed f to Op.Yield h = tt
   has_renamed f to (Op.Probe t mutex place) h = h
 
-  place_has : (t : ℕ) (op : Operation) (b : Building) → HasMutex count op → Has b → Has (place_with t op b)
+  place_has : (t : ℕ) (op : Operation) (b : Building) → IsPlaced count op → Has b → Has (place_with t op b)
   place_has t op b o h = all_append b.edges (edge b.node b.nodes op ∷ []) h (o, tt)
 
   meet_has : (ns : List ℕ) (b : Building) → Has b → Has (meet ns b)
@@ -103,7 +143,7 @@ module _ (count : ℕ) where
   close_has head outs b h = all_append b.edges (edge b.node head Op.Skip ∷ skips outs b.nodes) h
       (tt, all_skips outs b.nodes)
 
-  operated_has : (ts : List ℕ) (op : Operation) (o : Option ℕ) (b : Building) → HasMutex count op → Has b
+  operated_has : (ts : List ℕ) (op : Operation) (o : Option ℕ) (b : Building) → IsPlaced count op → Has b
       → Has (operated ts op o b).at
   operated_has ts op (Some v) b w h = place_has (suc b.temps) (renamed (at ts) b.temps op) b
       (has_renamed (at ts) b.temps op w) h
@@ -113,7 +153,7 @@ module _ (count : ℕ) where
   continued_has [] b h = h
   continued_has (n ∷ ns) b h = meet_has ((n ∷ ns) ++ b.node ∷ []) b h
 
-  result_has : (res : Option ℕ) (op : ℕ → Operation) (b : Building) → ((r : ℕ) → HasMutex count (op r)) → Has b
+  result_has : (res : Option ℕ) (op : ℕ → Operation) (b : Building) → ((r : ℕ) → IsPlaced count (op r)) → Has b
       → Has (place_result res op b)
   result_has None op b o h = place_has (suc b.temps) (op b.temps) b (o b.temps) h
   result_has (Some r) op b o h = place_has b.temps (op r) b (o r) h
@@ -122,15 +162,15 @@ module _ (count : ℕ) where
   given_has true ts x h = h
   given_has false ts x h = h
 
-  branch_has : (test : _) (b : Building) → Has b → Has (branch test b)
-  branch_has test b h = all_append b.edges _ h (tt, (tt, tt))
+  branch_has : (test : Test) (b : Building) → IsPlainTest test → Has b → Has (branch test b)
+  branch_has test b w h = all_append b.edges _ h (w, (test_opposite test w, tt))
 
-  tests_has : (ps : Parts) (t : ℕ) (b : Building) → Has b → Has (tests_piece ps t b).at
-  tests_has no_parts t b h = h
-  tests_has (labelled z rest) t b h = tests_has rest t (goto (suc b.nodes) (branch (Tests.Case true z t) b))
-      (branch_has (Tests.Case true z t) b h)
-  tests_has (by_default rest) t b h = tests_has rest t b h
-  tests_has (and_plan s rest) t b h = tests_has rest t b h
+  tests_has : (ps : Parts) → PartsHave count ps → (t : ℕ) (b : Building) → Has b → Has (tests_piece ps t b).at
+  tests_has no_parts w t b h = h
+  tests_has (labelled z rest) w t b h = tests_has rest w.1 t (goto (suc b.nodes) (branch (Tests.Case true z t) b))
+      (branch_has (Tests.Case true z t) b w.0 h)
+  tests_has (by_default rest) w t b h = tests_has rest w t b h
+  tests_has (and_plan s rest) w t b h = tests_has rest w.1 t b h
 
   module _ (call : Sites) (call_has : (site : ℕ) (ts : List ℕ) (p : Place) (b : Building) → Has b
       → Has (call site ts p b).at) where
@@ -182,7 +222,10 @@ module _ (count : ℕ) where
       code_has (code steps result) w b h = steps_has steps w [] b h
 
       fork_has : (f : Fork) → ForkHas count f → (b : Building) → Has b → Has (fork_piece call f b).at
-      fork_has (fork_by steps test) w b h = branch_has _ (steps_piece call steps [] b).at (steps_has steps w [] b h)
+      fork_has (fork_by steps test) w b h =
+          let x = steps_piece call steps [] b in
+          branch_has (renamed_test (at x.temps) test) x.at (test_renamed (at x.temps) test w.1)
+          (steps_has steps w.0 [] b h)
       fork_has (converse f) w b h = fork_has f w b h
       fork_has (both_of f g) w b h =
           let o = fork_piece call f b in
@@ -248,7 +291,7 @@ module _ (count : ℕ) where
           let x = parts_piece call ps ls.nodes ls.at.node onward res (nowhere ls.at) in
           meet_has (unless_default ps ls.at.node ++ nodes_by is_break x.pending ++ x.at.node ∷ []) x.at
           (parts_has ps w.1 ls.nodes ls.at.node onward res (nowhere ls.at)
-          (tests_has ps (temp_of v.temp) v.at (code_has c w.0 b h)))
+          (tests_has ps w.1 (temp_of v.temp) v.at (code_has c w.0 b h)))
       plan_has break_off w onward res b h = h
       plan_has go_on w (ToHead n) res b h = all_append b.edges (edge b.node n Op.Skip ∷ []) h (tt, tt)
       plan_has go_on w Later res b h = h
@@ -258,7 +301,7 @@ module _ (count : ℕ) where
           (b : Building) → Has b → Has (parts_piece call ps ls none onward res b).at
       parts_has no_parts w ls none onward res b h = h
       parts_has (labelled z rest) w ls none onward res b h =
-          parts_has rest w (behind_first ls) none onward res (meet (first_of ls b.node) b)
+          parts_has rest w.1 (behind_first ls) none onward res (meet (first_of ls b.node) b)
           (meet_has (first_of ls b.node) b h)
       parts_has (by_default rest) w ls none onward res b h =
           parts_has rest w ls none onward res (meet (none ∷ b.node ∷ []) b) (meet_has (none ∷ b.node ∷ []) b h)
@@ -266,7 +309,8 @@ module _ (count : ℕ) where
           let x = plan_piece call s onward res b in
           parts_has rest w.1 ls none onward x.result x.at (plan_has s w.0 onward res b h)
 
-module _ (laid : LaidTree) (typed : All (λ f. IsBodyOf laid.file f f.body) laid.file.functions) where
+module _ (laid : LaidTree) (typed : All (λ f. IsBodyOf laid.file f f.body) laid.file.functions)
+    (placed : All IsPlacedFunction laid.file.functions) where
   abbrev HasIts : Building → Type 0
   HasIts b = Has (length laid.file.mutexes) b
 
@@ -293,11 +337,11 @@ module _ (laid : LaidTree) (typed : All (λ f. IsBodyOf laid.file f f.body) laid
   function_has : (path : ℕ) (inner : ℕ → Building → AfterPart)
       → ((path : ℕ) (b : Building) → HasIts b → HasIts (inner path b).at)
       → (close : List ℕ → Building → Building) → Closes close → (t : CType) (f : TypedFunctionTree)
-      (body : Option TypedBodyTree) → IsBodyOf laid.file f body → (b : Building) → HasIts b
+      (body : Option TypedBodyTree) → IsBodyOf laid.file f body → IsPlacedIn body → (b : Building) → HasIts b
       → HasIts (function_piece (sites_of laid inner path) laid path close t body b).at
-  function_has path inner inside close closes t f None w b h =
+  function_has path inner inside close closes t f None w q b h =
       place_has (length laid.file.mutexes) (suc b.temps) _ b tt h
-  function_has path inner inside close closes t f (Some body) w b h =
+  function_has path inner inside close closes t f (Some body) w q b h =
       let call = sites_of laid inner path in
       let x = plan_piece call (plans laid path body.statements) Later None b in
       closes (nodes_by is_return x.pending) (fallen_piece t x.result x.at) (fallen_has t x.result x.at
@@ -306,7 +350,7 @@ module _ (laid : LaidTree) (typed : All (λ f. IsBodyOf laid.file f f.body) laid
       (stores_has (callee laid path site) 0 ts p c k))
       (plans laid path body.statements)
       (plans_have (length laid.file.mutexes) laid path (file_context laid.file body.locals) refl f.result
-      body.statements w) Later None b h))
+      body.statements w q.labels q.firsts) Later None b h))
 
   function_typed : (k : ℕ) → let f : TypedFunctionTree = get_or laid.file.functions k no_typed_function in
       IsBodyOf laid.file f f.body
@@ -319,6 +363,15 @@ module _ (laid : LaidTree) (typed : All (λ f. IsBodyOf laid.file f f.body) laid
         (sym (get_or_past laid.file.functions k no_typed_function past)) tt
   ]
 
+  function_placed : (k : ℕ) → let f : TypedFunctionTree = get_or laid.file.functions k no_typed_function in
+      IsPlacedIn f.body
+  function_placed k = elim (cases_lt k (length laid.file.functions)) [
+    | inl l ↦ All-get_or IsPlacedFunction laid.file.functions k no_typed_function l placed
+    | inr past ↦
+        subst (λ (f : TypedFunctionTree). IsPlacedIn f.body)
+        (sym (get_or_past laid.file.functions k no_typed_function past)) tt
+  ]
+
   path_has : (close : List ℕ → Building → Building) → Closes close → (depth path : ℕ) (b : Building) → HasIts b
       → HasIts (path_piece close laid depth path b).at
   path_has close closes zero path b h = place_has (length laid.file.mutexes) (suc b.temps) _ b tt h
@@ -327,13 +380,13 @@ module _ (laid : LaidTree) (typed : All (λ f. IsBodyOf laid.file f f.body) laid
       (λ path' b' h'. path_has function_end
       (λ ns b2 h2. meet_has (length laid.file.mutexes) (ns ++ b2.node ∷ []) b2 h2) depth path' b' h') close closes
       (result_type laid (function_at laid path)) (function_at laid path) (function_at laid path).body
-      (function_typed (path_at laid path).function) b h
+      (function_typed (path_at laid path).function) (function_placed (path_at laid path).function) b h
 
   ends_by : (t : Bool) → Closes (if t then task_end else function_end)
   ends_by true ns b h = continued_has (length laid.file.mutexes) ns b h
   ends_by false ns b h = meet_has (length laid.file.mutexes) (ns ++ b.node ∷ []) b h
 
-  graph_has : (body : ℕ) → All (λ e. HasMutex (length laid.file.mutexes) e.op) (graph_of laid body)
+  graph_has : (body : ℕ) → All (λ e. IsPlaced (length laid.file.mutexes) e.op) (graph_of laid body)
   graph_has body =
       all_listed (length laid.file.mutexes) (graph_of laid body)
       (path_has (if nat_lt body (length laid.file.tasks) then task_end else function_end)
@@ -345,12 +398,106 @@ layout_file : (file : TypedFileTree) (laid : LaidTree) → layout_of file ≡ la
 unfolding layout_of
 layout_file file laid e = ap (λ (x : LaidTree). x.file) e
 
+-- the operations of the graph of a body
+operations_of : (laid : LaidTree) → IsLaidFile laid → (body : ℕ)
+    → All (λ e. IsPlaced (length laid.file.mutexes) e.op) (graph_of laid body)
+operations_of laid h body =
+    let same : h.file ≡ laid.file = layout_file h.file laid (is_layout h.file laid h.answered) in
+    graph_has laid
+    (subst (λ (x : TypedFileTree). All (λ f. IsBodyOf x f f.body) x.functions) same
+    (bodies_are_well_formed h.main h.items h.file h.typed))
+    (subst (λ (x : TypedFileTree). All IsPlacedFunction x.functions) same (bodies_placed h.main h.items h.file h.typed))
+    body
+
+placed_mutex : (count : ℕ) (op : Operation) → IsPlaced count op → HasMutex count op
+placed_mutex count Op.Skip h = tt
+placed_mutex count (Op.Const to value) h = tt
+placed_mutex count (Op.Copy to from) h = tt
+placed_mutex count (Op.Un to operator of from place) h = tt
+placed_mutex count (Op.Bin to operator of left right place) h = tt
+placed_mutex count (Op.BinPointers to equal left right) h = tt
+placed_mutex count (Op.Convert to was of from) h = tt
+placed_mutex count (Op.Base to object) h = tt
+placed_mutex count (Op.Offset to from cells) h = tt
+placed_mutex count (Op.Index to from count' cells by place) h = tt
+placed_mutex count (Op.Move to from cells minus by place) h = tt
+placed_mutex count (Op.Deref to from target path place) h = tt
+placed_mutex count (Op.Load to address scalar place) h = tt
+placed_mutex count (Op.LoadAny to address scalar place) h = tt
+placed_mutex count (Op.Store address value scalar into place) h = tt
+placed_mutex count (Op.Any to low high) h = tt
+placed_mutex count (Op.Clear object) h = tt
+placed_mutex count (Op.Usable pointer place) h = tt
+placed_mutex count (Op.Assume test) h = tt
+placed_mutex count (Op.Lock mutex place) h = h
+placed_mutex count (Op.Unlock mutex place) h = h
+placed_mutex count Op.Yield h = tt
+placed_mutex count (Op.Probe to mutex place) h = h
+
+placed_constant : (count : ℕ) (op : Operation) → IsPlaced count op → HasPlainConstant op
+placed_constant count Op.Skip h = tt
+placed_constant count (Op.Const to value) h = h
+placed_constant count (Op.Copy to from) h = tt
+placed_constant count (Op.Un to operator of from place) h = tt
+placed_constant count (Op.Bin to operator of left right place) h = tt
+placed_constant count (Op.BinPointers to equal left right) h = tt
+placed_constant count (Op.Convert to was of from) h = tt
+placed_constant count (Op.Base to object) h = tt
+placed_constant count (Op.Offset to from cells) h = tt
+placed_constant count (Op.Index to from count' cells by place) h = tt
+placed_constant count (Op.Move to from cells minus by place) h = tt
+placed_constant count (Op.Deref to from target path place) h = tt
+placed_constant count (Op.Load to address scalar place) h = tt
+placed_constant count (Op.LoadAny to address scalar place) h = tt
+placed_constant count (Op.Store address value scalar into place) h = tt
+placed_constant count (Op.Any to low high) h = tt
+placed_constant count (Op.Clear object) h = tt
+placed_constant count (Op.Usable pointer place) h = tt
+placed_constant count (Op.Assume test) h = tt
+placed_constant count (Op.Lock mutex place) h = tt
+placed_constant count (Op.Unlock mutex place) h = tt
+placed_constant count Op.Yield h = tt
+placed_constant count (Op.Probe to mutex place) h = tt
+
+placed_test : (count : ℕ) (op : Operation) → IsPlaced count op → HasPlainTest op
+placed_test count Op.Skip h = tt
+placed_test count (Op.Const to value) h = tt
+placed_test count (Op.Copy to from) h = tt
+placed_test count (Op.Un to operator of from place) h = tt
+placed_test count (Op.Bin to operator of left right place) h = tt
+placed_test count (Op.BinPointers to equal left right) h = tt
+placed_test count (Op.Convert to was of from) h = tt
+placed_test count (Op.Base to object) h = tt
+placed_test count (Op.Offset to from cells) h = tt
+placed_test count (Op.Index to from count' cells by place) h = tt
+placed_test count (Op.Move to from cells minus by place) h = tt
+placed_test count (Op.Deref to from target path place) h = tt
+placed_test count (Op.Load to address scalar place) h = tt
+placed_test count (Op.LoadAny to address scalar place) h = tt
+placed_test count (Op.Store address value scalar into place) h = tt
+placed_test count (Op.Any to low high) h = tt
+placed_test count (Op.Clear object) h = tt
+placed_test count (Op.Usable pointer place) h = tt
+placed_test count (Op.Assume test) h = h
+placed_test count (Op.Lock mutex place) h = tt
+placed_test count (Op.Unlock mutex place) h = tt
+placed_test count Op.Yield h = tt
+placed_test count (Op.Probe to mutex place) h = tt
+
 pub mutexes_of_file : (laid : LaidTree) → IsLaidFile laid → (body : ℕ)
     → All (λ e. HasMutex (length laid.file.mutexes) e.op) (graph_of laid body)
-mutexes_of_file laid h body =
-    graph_has laid (subst (λ (x : TypedFileTree). All (λ f. IsBodyOf x f f.body) x.functions)
-    (layout_file h.file laid (is_layout h.file laid h.answered))
-    (bodies_are_well_formed h.main h.items h.file h.typed)) body
+mutexes_of_file laid h body k d lt =
+    placed_mutex (length laid.file.mutexes) (get_or (graph_of laid body) k d).op (operations_of laid h body k d lt)
+
+pub constants_of_file : (laid : LaidTree) → IsLaidFile laid → (body : ℕ)
+    → All (λ e. HasPlainConstant e.op) (graph_of laid body)
+constants_of_file laid h body k d lt =
+    placed_constant (length laid.file.mutexes) (get_or (graph_of laid body) k d).op (operations_of laid h body k d lt)
+
+pub tests_of_file : (laid : LaidTree) → IsLaidFile laid → (body : ℕ)
+    → All (λ e. HasPlainTest e.op) (graph_of laid body)
+tests_of_file laid h body k d lt =
+    placed_test (length laid.file.mutexes) (get_or (graph_of laid body) k d).op (operations_of laid h body k d lt)
 
 -- ## At most sixteen
 
