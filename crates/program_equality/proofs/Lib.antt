@@ -1,0 +1,2 @@
+-- Lists that are the same (SameLists).
+pub mod SameLists

@@ -1,0 +1,10 @@
+use Rattle.std.proofs.Common.{◌≡◌, ◌<◌, ℕ, length, get_or, None}
+use Rattle.std.specs.Option.{option_copied}
+use Rattle.tm_laid.specs.Layouts.{laid_tree}
+use Rattle.program_equations.specs.Readings.{read_layout}
+use Rattle.program_equations.specs.Entries.{later_state}
+use Rattle.program_systems.proofs.beginnings.later_entries.Given as goal
+
+abbrev pub invariant-loop-task : goal.invariant-loop-task
+invariant-loop-task l = (length l.entries.items ≡ l.task)
+    × ((t : ℕ) → t < l.task → get_or l.entries.items t None ≡ later_state (read_layout (laid_tree l.program.laid)) t (option_copied l.ended))

@@ -1,0 +1,58 @@
+-- The table of a task.
+use Rattle.std.specs.Prelude.{◌≡◌, ℕ, ◌<◌, List, length, map, Option, IfSome}
+use Rattle.std.proofs.Common.{sym, ap, subst, ◌∙◌, arith}
+use Rattle.interfere_set.specs.Stores.{Interferences, no_interference, joined_store}
+use Rattle.transfer_rows.specs.StateForms.{State}
+use Rattle.least_tables.specs.Solutions.{at, least_of, IsLeastSolution}
+use Rattle.least_tables.specs.Passes.{added_below}
+use Rattle.task_equations.specs.Bodies.{Body, copy_at}
+use Rattle.task_equations.specs.Equations.{equations_of, link_of, added_along}
+use Rattle.program_equations.specs.Programs.{ProgramBodies, body_at, IsProgram}
+use Rattle.program_equations.specs.Systems.{states, FitsBody, FitsProgram, task_entry, least_section}
+use Rattle.program_equations.specs.Systems.{pass_of}
+use Rattle.program_equations.specs.laws.Sections.{section_is, section_is_least, entry_is_one}
+use Rattle.program_equations.specs.laws.TaskEntries.{task_entry_fits}
+use Rattle.program_equations.specs.laws.Tables.{least_pass_is}
+use Rattle.thread_pass.specs.Analyses.{IsSectionTable, IsLeastTable}
+
+module _ (p : ProgramBodies) (is : IsProgram p) where
+  pub in_bodies : (t : ℕ) → t < p.tasks → t < length p.bodies
+  in_bodies t lt = (let le = is.tasks in omega (arith, lt, le))
+
+  -- the state at the entry of a task fits
+  pub entry_fits : (t : ℕ) → t < p.tasks → (entry : Option State) → entry ≡ task_entry p (least_section p) t
+      → IfSome entry (FitsBody (body_at p t) 0)
+  entry_fits t lt entry e =
+      subst (λ o. IfSome o (FitsBody (body_at p t) 0)) (sym e)
+      (task_entry_fits p is (least_section p) (section_is p is) t (in_bodies t lt))
+
+  -- a table of the initial section tells where tasks begin
+  pub entry_from : (section : List (Option State)) → IsSectionTable p section → (t : ℕ)
+      → task_entry p section t ≡ task_entry p (least_section p) t
+  entry_from section table t = entry_is_one p is section table.least t
+
+  module _ (t : ℕ) (lt : t < p.tasks) (b : Body) (entry : Option State) (store given : Interferences)
+      (b-is : b ≡ body_at p t) (entry-is : entry ≡ task_entry p (least_section p) t) (store-is : given ≡ store)
+      (fits : FitsProgram p store) where
+    -- what the equations of the task's body give
+    pub table_is : (table : List (Option State)) → length table ≡ length b.nodes
+        → IsLeastSolution states (FitsBody b) (equations_of b entry given) (at table) → IsLeastTable p t store table
+    table_is table count least = record {
+      count = count ∙ ap (λ (x : Body). length x.nodes) b-is;
+      least = subst (λ s. IsLeastSolution states (FitsBody (body_at p t))
+          (equations_of (body_at p t) (task_entry p (least_section p) t) s) (at table)) store-is
+          (subst (λ o. IsLeastSolution states (FitsBody (body_at p t)) (equations_of (body_at p t) o given) (at table))
+          entry-is
+          (subst (λ x. IsLeastSolution states (FitsBody x) (equations_of x entry given) (at table)) b-is least));
+    }
+
+    abbrev added_by : Body → Option State → Interferences → Interferences
+    added_by x o s = added_below (map link_of x.copies) no_interference (λ k v. added_along x (copy_at x k) v) joined_store
+        (length (map link_of x.copies)) (least_of states (FitsBody x) (equations_of x o s))
+
+    -- what its edges add is the pass
+    pub added_is : (added : Interferences) → added ≡ added_by b entry given → added ≡ pass_of p t store
+    added_is added e =
+        e ∙ ap (λ x. added_by x entry given) b-is ∙ ap (λ o. added_by (body_at p t) o given) entry-is
+        ∙ ap (λ s. added_by (body_at p t) (task_entry p (least_section p) t) s) store-is
+        ∙ least_pass_is p is (least_section p) (section_is_least p is) t lt store fits

@@ -1,0 +1,30 @@
+-- Programs whose initial section is analysed.
+use Rattle.std.specs.Prelude.{◌≡◌, ℕ, ◌<◌, List, [], length, get_or, Option, None}
+use Rattle.transfer_rows.specs.StateForms.{State}
+use Rattle.interfere_set.specs.Stores.{Interferences}
+use Rattle.mutex_configs.specs.declared.programs.Program.{Program}
+use Rattle.least_tables.specs.Solutions.{at, IsLeastSolution}
+use Rattle.program_equations.specs.Programs.{ProgramBodies, body_at, HasSection}
+use Rattle.program_equations.specs.Systems.{states, FitsBody, section_system, task_system, task_entry, least_section}
+use Rattle.program_systems.specs.Analysable.{IsAnalysable}
+use Rattle.program_systems.specs.ProgramFacts.{AllFacts, AreProgramFacts, program_with}
+
+-- a state or none for each node of the initial section: its least table; and no table where there is no such section
+pub record IsSectionTable (p : ProgramBodies) (section : List (Option State)) : Type 0 where
+  pub none : (HasSection p → ⊥) → section ≡ []
+  pub count : HasSection p → (let b = body_at p p.tasks in length section ≡ length b.nodes)
+  pub least : HasSection p → IsLeastSolution states (FitsBody (body_at p p.tasks)) (section_system p) (at section)
+
+-- a state or none for each node of a task: its least table over a store, after the initial section
+pub record IsLeastTable (p : ProgramBodies) (t : ℕ) (store : Interferences) (table : List (Option State)) : Type 0 where
+  pub count : (let b = body_at p t in length table ≡ length b.nodes)
+  pub least : IsLeastSolution states (FitsBody (body_at p t)) (task_system p (least_section p) store t) (at table)
+
+-- the facts of a program, the least table of its initial section, and the states in which its tasks begin
+pub record IsAnalysis (program : Program) (all : AllFacts) (table states : List (Option State)) : Type 0 where
+  pub analysable : IsAnalysable program
+  pub facts : AreProgramFacts program all
+  pub section : IsSectionTable (program_with program all) table
+  pub count : (let p = program_with program all in length states ≡ p.tasks)
+  pub entries : (t : ℕ) → t < length states → (let p = program_with program all in
+      get_or states t None ≡ task_entry p (least_section p) t)

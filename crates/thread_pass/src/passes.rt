@@ -1,0 +1,122 @@
+//! The pass of a task over a store.
+ghost use Rattle.std.specs.Prelude.{◌≡◌, ◌<◌, IfOk};
+ghost use Rattle.program_equations.specs.Systems.{FitsProgram, pass_of};
+ghost use Rattle.program_systems.specs.ReadPrograms.{program_of};
+ghost use Rattle.thread_pass.specs.Analyses.{IsLeastTable};
+
+use crate::analyses::Analysis;
+use crate::equality::is_same_program;
+use crate::kept::Kept;
+use body_systems::{BodyState, BodySystem};
+use interfere_set::Store;
+use least_tables::{Pass, least_pass};
+use program_systems::body_over_store;
+use std::alloc::Global;
+use std::sync::Arc;
+use strided_dom::Marks;
+use tm_lattice::{Lattice, NoMemory, Passer, Warm};
+
+/// The least table of a task over a store, and the join of what its edges contribute there. Condition: there is such a
+/// task, and the store fits the program.
+pub fn local(
+    alloc: Global,
+    analysis: &Analysis,
+    task: u32,
+    store: &Store,
+) -> Result<Pass<BodyState, Store>, NoMemory>
+    requires task { task < analysis.now.tasks }
+    requires fits { FitsProgram (program_of analysis.now) store.now }
+    ensures table { IfOk result (λ pass. IsLeastTable (program_of analysis.now) task store.now pass.table.items) }
+    ensures added { IfOk result (λ pass. pass.added ≡ pass_of (program_of analysis.now) task store.now) }
+{
+    let entry = analysis.entries[task as usize].as_ref();
+    let body = body_over_store(&analysis.program, &analysis.facts, task, entry, store);
+    let pass = least_pass(alloc, &BodySystem { body: &body })?;
+    Ok(pass)
+}
+
+impl Passer for Analysis {
+    ghost use Rattle.interfere_set.specs.Stores.{no_interference};
+    ghost use Rattle.program_equations.specs.Programs.{IsProgram};
+    ghost use Rattle.program_equations.specs.Systems.{FitsProgram, pass_of};
+    ghost use Rattle.program_equations.specs.laws.Passing.{fitting, passes_rise};
+    ghost use Rattle.program_equations.specs.laws.StoresFit.{bottom};
+    ghost use Rattle.program_systems.specs.ReadPrograms.{program_of};
+
+    type Store = Store;
+
+    ghost is_program = { λ p. IsProgram (program_of p) };
+
+    ghost task_count = { λ p. p.tasks };
+
+    ghost marks_of = { λ p. p.marks };
+
+    ghost least = { λ p. no_interference };
+
+    ghost passed = { λ p. pass_of (program_of p) };
+
+    ghost fits = { λ p. FitsProgram (program_of p) };
+
+    fn tasks(&self) -> u32 {
+        self.program.laid.file.tasks.len() as u32
+    }
+
+    fn same(&self, other: &Self) -> bool {
+        is_same_program(self, other)
+    }
+
+    fn marks(&self) -> &Marks {
+        &self.program.marks
+    }
+
+    fn bottom(&self, alloc: Global) -> Result<Store, NoMemory> {
+        Ok(Store::new(alloc))
+    }
+
+    fn pass(&self, alloc: Global, task: u32, store: &Store) -> Result<Store, NoMemory> {
+        let Pass {
+            table: _table,
+            added,
+        } = local(alloc, self, task, store)?;
+        Ok(added)
+    }
+
+    ghost fitting = { λ p is. fitting (program_of p) is };
+
+    ghost bottom_laws = { λ p is. bottom p.marks };
+
+    ghost monotone = { λ p is. passes_rise (program_of p) is };
+}
+
+impl Warm for Analysis {
+    ghost use Rattle.program_systems.specs.ReadPrograms.{program_of};
+    ghost use Rattle.thread_pass.specs.Kept.{IsKeptOf};
+
+    type Kept = Kept;
+
+    ghost made = { λ p. IsKeptOf (program_of p) };
+
+    ghost made_over = { λ kept. kept.store };
+
+    fn cold(
+        &self,
+        alloc: Global,
+        task: u32,
+        store: &Arc<Store>,
+    ) -> Result<(Kept, Store), NoMemory> {
+        let Pass { table, added } = local(alloc, self, task, store)?;
+        let store = store.clone()?;
+        Ok((Kept { table, store }, added))
+    }
+
+    fn warm(
+        &self,
+        alloc: Global,
+        task: u32,
+        kept: Kept,
+        store: &Arc<Store>,
+    ) -> Result<(Kept, Store), NoMemory> {
+        drop(kept);
+        self.cold(alloc, task, store)
+    }
+}
