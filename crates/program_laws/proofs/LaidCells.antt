@@ -1,0 +1,81 @@
+-- The cells of a file that is typed and laid out.
+use Rattle.std.proofs.Common.{sym, subst, ℕ, zero, suc, ◌+◌, ◌<◌, ◌≤◌, List, [], ◌∷◌, length, get_or}
+use Rattle.std.proofs.Common.{arith}
+use Rattle.tm_typed.specs.declared.types.Scalar.{Scalar}
+use Rattle.tm_typed.specs.Files.{TypedFileTree}
+use Rattle.tm_laid.specs.declared.objects.DeclaredObject.{DeclaredObject}
+use Rattle.tm_laid.specs.declared.objects.LaidObject.{LaidObject}
+use Rattle.tm_laid.specs.TypeCells.{cells_of_type, abstract_cells_of_type}
+use Rattle.tm_laid.specs.Objects.{objects_from}
+use Rattle.tm_laid.specs.Paths.{paths_of}
+use Rattle.tm_laid.specs.Layouts.{LaidTree, no_object, abstract_at, cell_at, summed_types, declared_objects, layout_of}
+use Rattle.cell_layout.proofs.CellPairs.{cells_of_objects}
+use Rattle.layout_laws.specs.Limited.{IsLimited}
+use Rattle.layout_laws.proofs.Counted.{abstracts_counted}
+use Rattle.layout_laws.proofs.Kept.{limits_kept}
+use Rattle.transfer_rows.specs.Actions.{Spot}
+use Rattle.transfer_rows.specs.Meanings.{IsSpotOf}
+use Rattle.edge_actions.specs.Layouts.{spots_of}
+use Rattle.typed_values.specs.Types.{IsOfType}
+use Rattle.state_fits.specs.Typed.{SpotsAgree}
+use Rattle.lowering_laws.specs.LaidFiles.{IsLaidFile}
+use Rattle.lowering_laws.proofs.Founded.{file_layable}
+use Rattle.next_action_laws.proofs.RegularFiles.{initial_values_fit}
+use Rattle.operation_laws.proofs.FileSorts.{few_cells}
+use Rattle.program_equations.specs.Entries.{initial_at}
+use Rattle.program_laws.proofs.SpotsOfCells.{AreCells, AreAmong, spots_agree, spots_within}
+use Rattle.program_laws.proofs.InitialCells.{initial_fits}
+
+-- the abstract cells of objects stand one behind the other
+abstracts_behind : (file : TypedFileTree) (cell abstract : ℕ) (ds : List DeclaredObject) (o : ℕ)
+    → o < length (objects_from file cell abstract ds)
+    → (let x : LaidObject = get_or (objects_from file cell abstract ds) o no_object in
+    x.first_abstract + x.abstract_cells ≤ abstract + summed_types (abstract_cells_of_type file) ds)
+abstracts_behind file cell abstract [] o lt = absurd (omega (arith, lt))
+abstracts_behind file cell abstract (d ∷ ds) zero lt = omega arith
+abstracts_behind file cell abstract (d ∷ ds) (suc o) lt =
+    let r = abstracts_behind file (cell + cells_of_type file d.of.number)
+    (abstract + abstract_cells_of_type file d.of.number) ds o (omega (arith, lt)) in
+    omega (arith, r)
+
+abstracts_among : (file : TypedFileTree) → AreAmong (layout_of file)
+unfolding layout_of
+abstracts_among file o lt =
+    let ds = declared_objects file (paths_of file) in
+    let behind = abstracts_behind file 0 0 ds o lt in
+    let counted = abstracts_counted file 0 0 0 ds in
+    omega (arith, behind, counted)
+
+-- ## Files
+
+module _ (laid : LaidTree) (is : IsLaidFile laid) where
+  pub limited : IsLimited is.file laid
+  limited = limits_kept is.file laid is.answered
+
+  -- what holds of the layout of the file holds of this one
+  pub of_layout : (P : LaidTree → Type 0) → P (layout_of is.file) → P laid
+  of_layout P h = let l = limited in subst P (sym l.whole) h
+
+  cells_are : AreCells laid
+  cells_are =
+      let order = file_layable is.main is.items is.file is.typed in
+      of_layout AreCells (cells_of_objects is.file order.0 order.1)
+
+  pub cells_agree : (task : ℕ) → SpotsAgree laid task
+  cells_agree task = spots_agree laid cells_are task
+
+  pub cells_within : (task : ℕ) (scalar : Scalar) (spot : Spot) → IsSpotOf (spots_of laid task scalar) spot
+      → spot.cell < length laid.abstract_cells
+  cells_within task scalar spot there =
+      spots_within laid cells_are (of_layout AreAmong (abstracts_among is.file)) task scalar spot there
+
+  -- cells hold values of their types at first
+  abbrev HoldsAtFirst : LaidTree → Type 0
+  HoldsAtFirst l = (cell : ℕ) → cell < length l.initial
+      → IsOfType l (abstract_at l (cell_at l cell).abstract_cell).scalar (initial_at l cell)
+
+  pub holds_at_first : HoldsAtFirst laid
+  holds_at_first =
+      let order = file_layable is.main is.items is.file is.typed in
+      of_layout HoldsAtFirst (initial_fits is.file order.0 order.1 (few_cells laid is)
+      (initial_values_fit is.main is.items is.file is.typed))

@@ -1,0 +1,9 @@
+pub mod ThresholdEnds
+pub mod SpotsOfCells
+pub mod InitialValues
+pub mod InitialCells
+pub mod LaidCells
+pub mod LaidBodies
+pub mod LaidPrograms
+pub mod LayableFiles
+pub mod AnalysablePrograms

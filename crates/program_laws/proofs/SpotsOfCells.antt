@@ -1,0 +1,98 @@
+-- The cells that an access reaches are of abstract cells that there are, whose types have the same values.
+use Rattle.std.specs.Prelude.{◌≡◌, ◌⊎◌, ℕ, zero, suc, ◌+◌, ◌<◌, ◌≤◌, Bool, true, false, cond, List, [], ◌∷◌, ◌++◌}
+use Rattle.std.specs.Prelude.{length}
+use Rattle.std.specs.Prelude.{refl}
+use Rattle.std.proofs.Common.{sym, subst, ◌∙◌, inl, inr, arith}
+use Rattle.tm_typed.specs.declared.types.Scalar.{Scalar}
+use Rattle.tm_typed.specs.declared.types.Scalar.TheVariants as Scalars
+use Rattle.tm_laid.specs.Layouts.{LaidTree, object_at, cell_at, abstract_at, cell_of, abstract_of, is_same_scalar}
+use Rattle.cell_layout.specs.Laws.{IsCellOf}
+use Rattle.transfer_rows.specs.Actions.{Spot}
+use Rattle.transfer_rows.specs.Meanings.{IsSpotOf}
+use Rattle.edge_actions.specs.Layouts.{is_reachable, spot_at, spots_in, spots_before, spots_of}
+use Rattle.typed_values.specs.Types.{HaveSameValues}
+use Rattle.state_fits.specs.Typed.{SpotsAgree}
+use Rattle.next_action_laws.proofs.TypePlaces.{same_scalar}
+
+spot_cases : (xs ys : List Spot) (spot : Spot) → IsSpotOf (xs ++ ys) spot → IsSpotOf xs spot ⊎ IsSpotOf ys spot
+spot_cases [] ys spot h = inr h
+spot_cases (x ∷ xs) ys spot (inl here) = inl (inl here)
+spot_cases (x ∷ xs) ys spot (inr more) = elim (spot_cases xs ys spot more) [
+  | inl left ↦ inl (inr left)
+  | inr right ↦ inr right
+]
+
+-- ## What is said of each cell of the type
+
+module _ (laid : LaidTree) (scalar : Scalar) (P : Spot → Type 0) (each : (o k : ℕ) → o < length laid.objects
+    → k < (object_at laid o).cells → is_same_scalar (cell_at laid (cell_of laid o k)).scalar scalar ≡ true
+    → P (record { object = o; offset = k; cell = abstract_of laid o k })) where
+  -- one that is taken where this holds
+  one_has : (x : Spot) (b : Bool) → (b ≡ true → P x) → (spot : Spot) → IsSpotOf (cond b (x ∷ []) []) spot → P spot
+  one_has x true h spot (inl here) = subst P (sym here) (h refl)
+  one_has x true h spot (inr more) = absurd more
+  one_has x false h spot there = absurd there
+
+  object_has : (o n : ℕ) → o < length laid.objects → n ≤ (object_at laid o).cells → (spot : Spot)
+      → IsSpotOf (spots_in laid scalar o n) spot → P spot
+  object_has o zero lo le spot there = absurd there
+  object_has o (suc n) lo le spot there =
+      elim (spot_cases (spots_in laid scalar o n) (spot_at laid scalar o n) spot there) [
+        | inl before ↦ object_has o n lo (omega (arith, le)) spot before
+        | inr here ↦
+            one_has (record { object = o; offset = n; cell = abstract_of laid o n })
+            (is_same_scalar (cell_at laid (cell_of laid o n)).scalar scalar) (each o n lo (omega (arith, le))) spot here
+      ]
+
+  reached_has : (o : ℕ) (b : Bool) → o < length laid.objects → (spot : Spot)
+      → IsSpotOf (cond b (spots_in laid scalar o (object_at laid o).cells) []) spot → P spot
+  reached_has o true lo spot there = object_has o (object_at laid o).cells lo (omega arith) spot there
+  reached_has o false lo spot there = absurd there
+
+  before_has : (task n : ℕ) → n ≤ length laid.objects → (spot : Spot) → IsSpotOf (spots_before laid task scalar n) spot
+      → P spot
+  before_has task zero le spot there = absurd there
+  before_has task (suc n) le spot there =
+      elim (spot_cases (spots_before laid task scalar n)
+      (cond (is_reachable laid task n) (spots_in laid scalar n (object_at laid n).cells) []) spot there) [
+        | inl before ↦ before_has task n (omega (arith, le)) spot before
+        | inr here ↦ reached_has n (is_reachable laid task n) (omega (arith, le)) spot here
+      ]
+
+  spots_have : (task : ℕ) (spot : Spot) → IsSpotOf (spots_of laid task scalar) spot → P spot
+  unfolding spots_of
+  spots_have task spot there = before_has task (length laid.objects) (omega arith) spot there
+
+-- ## Types and abstract cells
+
+-- every cell of every object has an abstract cell of its type
+abbrev pub AreCells : LaidTree → Type 0
+AreCells laid = (o k : ℕ) → o < length laid.objects → k < (object_at laid o).cells → IsCellOf laid o k
+
+-- the abstract cells of every object are among those of the layout
+abbrev pub AreAmong : LaidTree → Type 0
+AreAmong laid = (o : ℕ) → o < length laid.objects
+    → (object_at laid o).first_abstract + (object_at laid o).abstract_cells ≤ length laid.abstract_cells
+
+own_values : (s : Scalar) → HaveSameValues s s
+own_values (Scalars.Int t) = refl
+own_values (Scalars.Pointer c) = tt
+
+pub spots_agree : (laid : LaidTree) → AreCells laid → (task : ℕ) → SpotsAgree laid task
+spots_agree laid are task scalar spot there =
+    spots_have laid scalar (λ x. HaveSameValues (abstract_at laid x.cell).scalar scalar)
+    (λ o k lo lk same.
+    let c : IsCellOf laid o k = are o k lo lk in
+    subst (λ s. HaveSameValues (abstract_at laid (abstract_of laid o k)).scalar s)
+    (c.scalar ∙ same_scalar (cell_at laid (cell_of laid o k)).scalar scalar same)
+    (own_values (abstract_at laid (abstract_of laid o k)).scalar)) task spot there
+
+pub spots_within : (laid : LaidTree) → AreCells laid → AreAmong laid → (task : ℕ) (scalar : Scalar) (spot : Spot)
+    → IsSpotOf (spots_of laid task scalar) spot → spot.cell < length laid.abstract_cells
+spots_within laid are among task scalar spot there =
+    spots_have laid scalar (λ x. x.cell < length laid.abstract_cells)
+    (λ o k lo lk same.
+    let c : IsCellOf laid o k = are o k lo lk in
+    let most = c.most in
+    let le = among o lo in
+    omega (arith, most, le)) task spot there
