@@ -1,0 +1,2 @@
+pub mod EmptyFiles
+pub mod Writers

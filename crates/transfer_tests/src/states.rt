@@ -1,0 +1,110 @@
+//! States and stores by hand.
+use cell_env::{CellState, State, TempState};
+use edge_actions::object_at;
+use interfere_set::Store;
+use pointer_dom::{AbsValue, PointerSet};
+use state_tree::Tree;
+use std::alloc::Global;
+use strided_dom::Strided;
+use tm_laid::Laid;
+use tm_lattice::{Keyed, Lattice, NoMemory};
+
+/// The numbers from the first to the last.
+pub type Numbers = (i32, i32);
+
+/// A temporary with numbers, and the cell of which it is a copy.
+pub type Temp = (u32, Numbers, Option<u32>);
+
+/// A cell: its own value, its pending mutexes, and whether it is fresh and stored.
+pub type Cell = (u32, Numbers, u16, bool, bool);
+
+/// A number that a task wrote to a cell with a set of mutexes held, or left there under a mutex.
+pub type Entry = (u32, u16, u32, i32);
+
+fn numbers(row: Numbers) -> AbsValue {
+    AbsValue::from_numbers(Strided::range(i128::from(row.0), i128::from(row.1), 1))
+}
+
+// The address of one of these objects, at an offset.
+fn address(alloc: Global, laid: &Laid, places: &[(u32, u32)]) -> Result<AbsValue, NoMemory> {
+    let mut all = PointerSet::new(alloc);
+    for (object, offset) in places {
+        let size = object_at(laid, *object).cells;
+        if *offset <= size {
+            let one = PointerSet::to(alloc, *object, size, *offset)?;
+            all = all.join(alloc, &one)?;
+        }
+    }
+    Ok(AbsValue::from_pointers(all))
+}
+
+fn temps(
+    alloc: Global,
+    address: AbsValue,
+    rows: &[Temp],
+) -> Result<Keyed<TempState<AbsValue>>, NoMemory> {
+    let mut temps = Keyed::new(alloc);
+    temps.put(
+        0,
+        TempState {
+            value: address,
+            copy: None,
+        },
+    )?;
+    for (temp, row, copy) in rows {
+        let entry = TempState {
+            value: numbers(*row),
+            copy: *copy,
+        };
+        temps.put(*temp, entry)?;
+    }
+    Ok(temps)
+}
+
+fn cells(alloc: Global, rows: &[Cell]) -> Result<Tree<CellState<AbsValue>>, NoMemory> {
+    let mut cells = Tree::new(alloc);
+    for (cell, row, pending, fresh, stored) in rows {
+        let entry = CellState {
+            value: numbers(*row),
+            pending: *pending,
+            fresh: *fresh,
+            stored: *stored,
+        };
+        cells.put(*cell, entry)?;
+    }
+    Ok(cells)
+}
+
+/// The state with these temporaries and cells, where the temporary 0 is the address of the places.
+pub fn state(
+    alloc: Global,
+    laid: &Laid,
+    places: &[(u32, u32)],
+    temp_rows: &[Temp],
+    cell_rows: &[Cell],
+) -> Result<State<AbsValue>, NoMemory> {
+    let address = address(alloc, laid, places)?;
+    let temps = temps(alloc, address, temp_rows)?;
+    let cells = cells(alloc, cell_rows)?;
+    Ok(State::new(temps, cells))
+}
+
+/// The store of what was written, and of what was left.
+pub fn store(alloc: Global, written: &[Entry], left: &[Entry]) -> Result<Store, NoMemory> {
+    let mut all = Store::new(alloc);
+    for (task, held, cell, number) in written {
+        let one = Store::written(alloc, *task, *held, *cell, numbers((*number, *number)))?;
+        all = all.join(alloc, &one)?;
+    }
+    for (task, mutex, cell, number) in left {
+        let one = Store::left(
+            alloc,
+            *task,
+            u32::from(*mutex),
+            *cell,
+            numbers((*number, *number)),
+        )?;
+        all = all.join(alloc, &one)?;
+    }
+    Ok(all)
+}
