@@ -8,6 +8,7 @@ use Rattle.tm_laid.specs.Layouts.{laid_tree}
 use Rattle.flow_graph.specs.declared.operations.Operation.{Operation}
 use Rattle.interfere_set.specs.Stores.{reader_of}
 use Rattle.transfer_rows.specs.StateForms.{State}
+use Rattle.transfer_rows.specs.Actions.{Action, Around}
 use Rattle.transfer_rows.specs.Accesses.{is_among}
 use Rattle.transfer_rows.specs.Rows.{after}
 use Rattle.transfer_rows.specs.Contributions.{added}
@@ -55,6 +56,11 @@ module _ (v : SystemOf) (c : EdgeCopy) (view : EdgeView) (is : IsViewOf v c view
 
     pub shown_added : given.added ≡ added_along body c s
     shown_added = gives.added ∙ (λ i. added (shown_around i) (shown_action i) s)
+
+    pub shown_after : IsAfter (around_along body c) (action_along body c) s v.store given
+    shown_after =
+        subst (λ (around : Around). IsAfter around (action_along body c) s v.store given) shown_around
+        (subst (λ (action : Action). IsAfter (around_of view) action s v.store given) shown_action gives)
 
   -- ## When a copy may be applied
 

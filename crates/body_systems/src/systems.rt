@@ -1,7 +1,10 @@
 //! The equations of a body over a store.
-ghost use Rattle.std.specs.Prelude.{◌≡◌, ◌<◌, length, option_map};
-ghost use Rattle.task_equations.specs.Equations.{cells_at};
+ghost use Rattle.std.specs.Prelude.{◌≡◌, ◌<◌, length, option_map, IfOk};
+ghost use Rattle.edge_effects.specs.Effects.{IsAfter};
+ghost use Rattle.task_equations.specs.Bodies.{copy_at};
+ghost use Rattle.task_equations.specs.Equations.{cells_at, around_along, action_along};
 ghost use Rattle.task_equations.specs.Premises.{IsCopyOf};
+ghost use Rattle.program_equations.specs.Systems.{FitsBody};
 ghost use Rattle.body_systems.specs.Systems.{SystemOf, system_with, body_of, IsSystemOf};
 ghost use Rattle.body_systems.specs.reading.Views.{IsViewOf};
 
@@ -90,6 +93,28 @@ impl<'a> BodyOverStore<'a> {
             entry,
             store,
         }
+    }
+
+    /// What a copy of an edge, by its number, does to a state over the store: the state where it leads, what it adds,
+    /// the abstract cells that it reaches, and the classes of errors that it does not exclude. Condition: there is such
+    /// a copy, and the state fits the node that it leaves.
+    pub fn applied(
+        &self,
+        alloc: Global,
+        copy: usize,
+        state: &State<AbsValue>,
+    ) -> Result<After, NoMemory>
+        requires copy { copy < length self.now.configured.copies.items }
+        requires fits { (let b = body_of self.now in let c = copy_at b copy in FitsBody b c.from state.now) }
+        ensures { IfOk result (λ after. (let b = body_of self.now in let c = copy_at b copy in
+            IsAfter (around_along b c) (action_along b c) state.now self.now.store after)) }
+    {
+        apply(
+            alloc,
+            &self.view(self.configured.copies[copy]),
+            state,
+            self.store,
+        )
     }
 
     // The abstract cells that are rounded at a node.

@@ -3,5 +3,7 @@ pub mod Covers
 pub mod One
 pub mod Answering
 pub mod Found
+pub mod Ranges
 pub mod LeastPairs
 pub mod Given
+pub mod Shared

@@ -10,6 +10,7 @@ ghost use Rattle.post_recheck.specs.Checks.{IsAnswer};
 
 use crate::answers::answered;
 use crate::bodies::{BodyCheck, checked_body};
+use crate::side_by_side::{Given, checks_of};
 use crate::solutions::{Checked, Table};
 use body_systems::BodyState;
 use cell_env::State;
@@ -19,6 +20,7 @@ use pointer_dom::AbsValue;
 use program_systems::{ProgramFacts, task_entries};
 use std::alloc::Global;
 use std::sync::Arc;
+use std::thread::Threads;
 use tm_lattice::NoMemory;
 
 // The table of the initial section; an empty one where there is none.
@@ -48,6 +50,32 @@ fn entries_after(
     task_entries(alloc, program, facts, section_table(program, tables))
 }
 
+// The checks of all bodies, side by side.
+fn checks_by_threads<R: Threads + Sync>(
+    rt: &R,
+    alloc: Global,
+    program: &Program,
+    facts: &ProgramFacts,
+    tables: &[Table],
+    store: &Store,
+    entries: &[Option<State<AbsValue>>],
+) -> Result<Vec<Result<BodyCheck, NoMemory>>, NoMemory>
+    requires { IsGiven program.now facts.now (pair_of tables.now store.now) entries.now }
+    ensures { IfOk result (λ v.
+        AreChecked (program_with program.now facts.now) (pair_of tables.now store.now) v.items) }
+{
+    let given = Given {
+        alloc,
+        program,
+        facts,
+        tables,
+        store,
+        entries,
+    };
+    let checks = checks_of(rt, alloc, &given, tables.len())?;
+    Ok(checks)
+}
+
 // The checks of all bodies, one after another.
 fn checks_in_order(
     alloc: Global,
@@ -70,8 +98,29 @@ fn checks_in_order(
 }
 
 /// Whether the tables and the store are a solution of the program's equations: those that are given, where they are;
-/// the first edge that is not covered, where there is one; or that the store is not covered. The bodies are checked one
-/// after another. Condition: the facts are those of the program, and the tables and the store fit it.
+/// the first edge that is not covered, where there is one; or that the store is not covered. The bodies are checked by
+/// several threads, where they can be made. Condition: the facts are those of the program, and the tables and the
+/// store fit it.
+pub fn recheck<R: Threads + Sync>(
+    rt: &R,
+    alloc: Global,
+    program: &Program,
+    facts: &ProgramFacts,
+    tables: Vec<Table>,
+    store: Arc<Store>,
+) -> Result<Checked, NoMemory>
+    requires analysable { IsAnalysable program.now }
+    requires facts { AreProgramFacts program.now facts.now }
+    requires fits { FitsPair (program_with program.now facts.now) (pair_of tables.items (arc_value store)) }
+    ensures { IfOk result
+        (IsAnswer (program_with program.now facts.now) (pair_of tables.items (arc_value store))) }
+{
+    let entries = entries_after(alloc, program, facts, &tables, &store)?;
+    let checks = checks_by_threads(rt, alloc, program, facts, &tables, &store, &entries)?;
+    answered(alloc, &program.marks, tables, store, &checks)
+}
+
+/// What `recheck` answers, by one thread.
 pub fn recheck_in_order(
     alloc: Global,
     program: &Program,

@@ -10,7 +10,7 @@ ghost use Rattle.post_recheck.specs.Checks.{IsAnswer};
 ghost use Rattle.post_recheck.specs.declared.solutions.Checked.{Checked as AChecked};
 ghost use Rattle.post_recheck.specs.declared.solutions.Checked.TheVariants as Answers;
 
-/// For one pair there is one answer, in whatever order its bodies are checked.
+/// For one pair there is one answer, so that of several threads is that of one.
 pub fn checks_are_one()
     ensures { (p : ProgramBodies) → IsProgram p → (pair : Pair) → FitsPair p pair → (one other : AChecked)
         → IsAnswer p pair one → IsAnswer p pair other → one ≡ other }
