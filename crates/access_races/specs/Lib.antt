@@ -1,0 +1,3 @@
+-- Which accesses race, and what a report of alarms and accesses is.
+pub mod Races
+pub mod reading

@@ -1,0 +1,7 @@
+mod Operations
+mod Lists
+pub mod One
+mod Exact
+mod Steps
+mod Tables
+mod Numbered

@@ -1,0 +1,18 @@
+use Rattle.std.proofs.Common.{◌↔◌}
+use Rattle.std.specs.Prelude.{Contains}
+use Rattle.tm_terms.specs.declared.alarms.Alarm.{Alarm as AnAlarm}
+use Rattle.program_equations.specs.Solutions.{tables_of}
+use Rattle.program_systems.specs.ProgramFacts.{program_with}
+use Rattle.post_recheck.specs.Pairs.{lists_of}
+use Rattle.access_races.specs.declared.accesses.Access.{Access as AnAccess}
+use Rattle.program_reports.specs.reading.Bodies.{IsAlarmUpTo, IsAccessUpTo}
+use Rattle.program_reports.proofs.judging.found_in.Given as goal
+
+abbrev pub invariant-loop-number : goal.invariant-loop-number
+invariant-loop-number l =
+    record {
+      alarms : (a : AnAlarm) → Contains l.found.alarms.items a
+          ↔ IsAlarmUpTo (program_with l.program l.facts) (tables_of (lists_of l.tables)) l.number a;
+      accesses : (x : AnAccess) → Contains l.found.accesses.items x
+          ↔ IsAccessUpTo (program_with l.program l.facts) (tables_of (lists_of l.tables)) l.number x;
+    }

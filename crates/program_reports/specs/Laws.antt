@@ -1,0 +1,10 @@
+-- Tables that agree.
+use Rattle.std.specs.Prelude.{◌≡◌, ℕ, ◌<◌, length}
+use Rattle.transfer_rows.specs.StateForms.{State}
+use Rattle.least_tables.specs.Solutions.{NodeTable}
+use Rattle.program_equations.specs.Programs.{ProgramBodies, body_at}
+
+-- at each node of each body
+abbrev pub Agree : ProgramBodies → (ℕ → NodeTable State) → (ℕ → NodeTable State) → Type 0
+Agree p one other = (t n : ℕ) → t < length p.bodies → (let b = body_at p t in n < length b.nodes)
+    → one t n ≡ other t n
