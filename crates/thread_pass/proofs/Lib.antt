@@ -1,6 +1,7 @@
--- Tables of initial sections (SectionTables), tables of tasks (TaskTables), whole programs (WholePrograms), and bodies that
--- are equal (SameBodies).
+-- Tables of initial sections (SectionTables), tables of tasks (TaskTables), passes that go on (StartTables), whole programs
+-- (WholePrograms), and bodies that are equal (SameBodies).
 mod SectionTables
 mod TaskTables
+mod StartTables
 mod WholePrograms
 mod SameBodies

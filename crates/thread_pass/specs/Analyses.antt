@@ -1,11 +1,12 @@
 -- Programs whose initial section is analysed.
 use Rattle.std.specs.Prelude.{◌≡◌, ℕ, ◌<◌, List, [], length, get_or, Option, None}
 use Rattle.transfer_rows.specs.StateForms.{State}
-use Rattle.interfere_set.specs.Stores.{Interferences}
+use Rattle.interfere_set.specs.Stores.{Interferences, IsStoreBelow}
 use Rattle.mutex_configs.specs.declared.programs.Program.{Program}
 use Rattle.least_tables.specs.Solutions.{at, IsLeastSolution}
 use Rattle.program_equations.specs.Programs.{ProgramBodies, body_at, HasSection}
-use Rattle.program_equations.specs.Systems.{states, FitsBody, section_system, task_system, task_entry, least_section}
+use Rattle.program_equations.specs.Systems.{states, FitsBody, FitsProgram, section_system, task_system, task_entry}
+use Rattle.program_equations.specs.Systems.{least_section}
 use Rattle.program_systems.specs.Analysable.{IsAnalysable}
 use Rattle.program_systems.specs.ProgramFacts.{AllFacts, AreProgramFacts, program_with}
 
@@ -19,6 +20,13 @@ pub record IsSectionTable (p : ProgramBodies) (section : List (Option State)) : 
 pub record IsLeastTable (p : ProgramBodies) (t : ℕ) (store : Interferences) (table : List (Option State)) : Type 0 where
   pub count : (let b = body_at p t in length table ≡ length b.nodes)
   pub least : IsLeastSolution states (FitsBody (body_at p t)) (task_system p (least_section p) store t) (at table)
+
+-- a least table of a task over some store that lies below this one
+pub record IsStartTable (p : ProgramBodies) (t : ℕ) (store : Interferences) (table : List (Option State)) : Type 0 where
+  pub before : Interferences
+  pub before_fits : FitsProgram p before
+  pub before_below : IsStoreBelow before store
+  pub before_least : IsLeastTable p t before table
 
 -- the facts of a program, the least table of its initial section, and the states in which its tasks begin
 pub record IsAnalysis (program : Program) (all : AllFacts) (table states : List (Option State)) : Type 0 where

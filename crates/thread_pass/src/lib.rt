@@ -7,6 +7,7 @@
 #![tactic(auto)]
 
 mod analyses;
+mod contributions;
 mod equality;
 mod kept;
 mod passes;
@@ -14,5 +15,5 @@ mod wholes;
 
 pub use analyses::{Analysis, SectionTable};
 pub use kept::Kept;
-pub use passes::local;
+pub use passes::{local, local_from};
 pub use wholes::closed_stores_are_least;

@@ -2,14 +2,15 @@
 ghost use Rattle.std.specs.Prelude.{◌≡◌, ◌<◌, IfOk};
 ghost use Rattle.program_equations.specs.Systems.{FitsProgram, pass_of};
 ghost use Rattle.program_systems.specs.ReadPrograms.{program_of};
-ghost use Rattle.thread_pass.specs.Analyses.{IsLeastTable};
+ghost use Rattle.thread_pass.specs.Analyses.{IsLeastTable, IsStartTable};
 
 use crate::analyses::Analysis;
+use crate::contributions::joined_contributions;
 use crate::equality::is_same_program;
 use crate::kept::Kept;
 use body_systems::{BodyState, BodySystem};
 use interfere_set::Store;
-use least_tables::{Pass, least_pass};
+use least_tables::{Equations, Pass, least_pass, settle};
 use program_systems::body_over_store;
 use std::alloc::Global;
 use std::sync::Arc;
@@ -33,6 +34,30 @@ pub fn local(
     let body = body_over_store(&analysis.program, &analysis.facts, task, entry, store);
     let pass = least_pass(alloc, &BodySystem { body: &body })?;
     Ok(pass)
+}
+
+/// The same, begun from a least table of the task over a store that lies below this one: what rose since is all that
+/// is climbed. Condition: there is such a task, the store fits the program, and the table is such a table.
+pub fn local_from(
+    alloc: Global,
+    analysis: &Analysis,
+    task: u32,
+    table: Vec<Option<BodyState>>,
+    store: &Store,
+) -> Result<Pass<BodyState, Store>, NoMemory>
+    requires task { task < analysis.now.tasks }
+    requires fits { FitsProgram (program_of analysis.now) store.now }
+    requires start { IsStartTable (program_of analysis.now) task store.now table.items }
+    ensures table { IfOk result (λ pass. IsLeastTable (program_of analysis.now) task store.now pass.table.items) }
+    ensures added { IfOk result (λ pass. pass.added ≡ pass_of (program_of analysis.now) task store.now) }
+{
+    let entry = analysis.entries[task as usize].as_ref();
+    let body = body_over_store(&analysis.program, &analysis.facts, task, entry, store);
+    let system = BodySystem { body: &body };
+    let pending = vec![in alloc; true; system.links().len()]?;
+    let table = settle(alloc, &system, table, pending)?;
+    let added = joined_contributions(alloc, &system, &table)?;
+    Ok(Pass { table, added })
 }
 
 impl Passer for Analysis {
@@ -116,7 +141,12 @@ impl Warm for Analysis {
         kept: Kept,
         store: &Arc<Store>,
     ) -> Result<(Kept, Store), NoMemory> {
-        drop(kept);
-        self.cold(alloc, task, store)
+        let Kept {
+            table,
+            store: _earlier,
+        } = kept;
+        let Pass { table, added } = local_from(alloc, self, task, table, store)?;
+        let store = store.clone()?;
+        Ok((Kept { table, store }, added))
     }
 }

@@ -1,0 +1,71 @@
+-- What the check of least tables answers, and what the report of a least solution is, for a program and its facts.
+use Rattle.std.specs.Prelude.{◌≡◌, ℕ, List, Option}
+use Rattle.std.proofs.Common.{sym, subst}
+use Rattle.tm_terms.specs.declared.alarms.Alarm.{Alarm}
+use Rattle.interfere_set.specs.Stores.{Interferences}
+use Rattle.mutex_configs.specs.declared.programs.Program.{Program}
+use Rattle.transfer_rows.specs.StateForms.{State}
+use Rattle.program_equations.specs.Programs.{IsProgram}
+use Rattle.program_equations.specs.Solutions.{tables_of}
+use Rattle.program_systems.specs.Analysable.{IsAnalysable}
+use Rattle.program_systems.specs.ReadPrograms.{ReadProgram, program_of}
+use Rattle.program_systems.specs.ProgramFacts.{AllFacts, AreProgramFacts, read_with, program_with}
+use Rattle.program_systems.proofs.Bodies.{is_program}
+use Rattle.post_recheck.specs.Pairs.{Pair, FitsPair}
+use Rattle.post_recheck.specs.Checks.{IsAnswer}
+use Rattle.post_recheck.specs.declared.solutions.Checked.TheVariants as Answers
+use Rattle.program_reports.specs.Reports.{IsReport}
+use Rattle.program_solutions.specs.LeastReports.{IsLeastPair, IsLeastReport}
+use Rattle.program_solutions.specs.reading.Turns.{AreLeastTables}
+use Rattle.program_solutions.proofs.Completed.{least_pair_is, answer_is}
+
+module _ (r : ReadProgram) (program : Program) (facts : AllFacts) (analysable : IsAnalysable program)
+    (are-facts : AreProgramFacts program facts) (same : r ≡ read_with program facts) where
+  pub is_read : IsProgram (program_of r)
+  is_read = subst (λ x. IsProgram (program_of x)) (sym same) (is_program program facts analysable are-facts)
+
+  -- ## The check
+
+  module _ (pair : Pair) (are : AreLeastTables (program_of r) pair) where
+    pub fits_with : FitsPair (program_with program facts) pair
+    fits_with = subst (λ x. FitsPair (program_of x) pair) same are.fits
+
+    pub found_least : (found : Pair) → IsAnswer (program_with program facts) pair (Answers.Solution found)
+        → IsLeastPair (program_of r) found
+    found_least found h =
+        subst (IsLeastPair (program_of r)) (sym h.1) (least_pair_is (program_of r) is_read pair are)
+
+    pub none_uncovered : (body edge : ℕ) → IsAnswer (program_with program facts) pair (Answers.Uncovered body edge) → ⊥
+    none_uncovered body edge h =
+        let e : Answers.Uncovered body edge ≡ Answers.Solution pair =
+        answer_is (program_of r) is_read pair are (Answers.Uncovered body edge)
+        (subst (λ x. IsAnswer (program_of x) pair (Answers.Uncovered body edge)) (sym same) h) in
+        cc
+
+    pub store_covered : IsAnswer (program_with program facts) pair Answers.UncoveredStore → ⊥
+    store_covered h =
+        let e : Answers.UncoveredStore ≡ Answers.Solution pair =
+        answer_is (program_of r) is_read pair are Answers.UncoveredStore
+        (subst (λ x. IsAnswer (program_of x) pair Answers.UncoveredStore) (sym same) h) in
+        cc
+
+  -- ## The report
+
+  module _ (found : Pair) (is-least : IsLeastPair (program_of r) found) (tables : List (List (Option State)))
+      (tables-are : tables ≡ found.tables) where
+    pub judged_fits : (store : Interferences) → store ≡ found.store
+        → FitsPair (program_with program facts) (record { tables = tables; store = store })
+    judged_fits store store-is =
+        subst (λ x. FitsPair (program_of x) (record { tables = tables; store = store })) same
+        (subst (λ s. FitsPair (program_of r) (record { tables = tables; store = s })) (sym store-is)
+        (subst (λ ts. FitsPair (program_of r) (record { tables = ts; store = found.store })) (sym tables-are)
+        is-least.fits))
+
+    pub report_least : (report : List Alarm) → IsReport (program_with program facts) (tables_of tables) report
+        → IsLeastReport (program_of r) report
+    report_least report h = record {
+      pair = found;
+      least = is-least;
+      exact = subst (λ ts. IsReport (program_of r) (tables_of ts) report) tables-are
+          (subst (λ x. IsReport (program_of x) (tables_of tables) report) (sym same) h);
+    }

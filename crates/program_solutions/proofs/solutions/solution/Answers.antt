@@ -1,0 +1,15 @@
+use Rattle.std.proofs.Common.{sym, subst}
+use Rattle.program_systems.specs.ReadPrograms.{program_of}
+use Rattle.post_recheck.specs.Pairs.{lists_of}
+use Rattle.program_solutions.specs.reading.Turns.{AreLeastTables}
+use Rattle.program_solutions.proofs.Completed.{least_tables}
+use Rattle.program_solutions.proofs.solutions.solution.Goals as goal
+
+pub checked-requires : goal.checked-requires
+checked-requires c =
+    let p = program_of c.args.analysis.now in
+    let all = lists_of c.in_ok-all.all.items in
+    let turns = c.in_ok-store.field-0 in
+    let over = c.in_ok-store.ensures in
+    subst (λ s. AreLeastTables p (record { tables = all; store = s })) (sym c.in_ok-new.ensures.ok)
+    (least_tables p over.program turns.store (lists_of turns.tables.items) all over c.in_ok-all.ensures)

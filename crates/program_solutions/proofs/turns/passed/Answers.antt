@@ -1,0 +1,15 @@
+use Rattle.std.proofs.Common.{◌≡◌, sym, ap, ◌∙◌}
+use Rattle.std.proofs.lemmas.Bool.{false≢true}
+use Rattle.interfere_set.specs.Stores.{joined_store, rounded_store}
+use Rattle.program_systems.specs.ReadPrograms.{program_of}
+use Rattle.store_limits.specs.Limits.{published}
+use Rattle.program_solutions.proofs.turns.passed.Goals as goal
+
+pub returns : goal.returns
+returns c =
+    let p = program_of c.args.analysis.now in
+    let both-is = c.in_ok-join.ensures ∙ ap (joined_store c.args.store.now) c.in_ok-table.ensures.added in
+    let after-is : c.in_ok-after.after ≡ published p c.args.task c.args.store.now =
+    c.in_ok-after.ensures ∙ ap (λ m. rounded_store m c.in_ok-join.field-0) c.marks.ensures
+    ∙ ap (rounded_store p.marks) both-is in
+    (c.in_ok-table.ensures.table, after-is, λ low. false≢true (sym c.if-below.false ∙ c.below.ensures.1 low))

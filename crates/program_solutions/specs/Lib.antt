@@ -1,0 +1,3 @@
+-- The least solution of a program and its report (LeastReports).
+pub mod LeastReports
+pub mod reading

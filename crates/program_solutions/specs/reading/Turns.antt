@@ -1,0 +1,88 @@
+-- Passes of the tasks in turn.
+use Rattle.std.specs.Prelude.{◌≡◌, ℕ, ◌+◌, ◌-◌, ◌*◌, ◌<◌, ◌≤◌, nat_lt, cond, List, [], ◌∷◌, ◌++◌, length, Option}
+use Rattle.tm_lattice.specs.Rounds.{IsHistory, IsClosed}
+use Rattle.interfere_set.specs.Stores.{Interferences, IsStoreBelow, store_height}
+use Rattle.transfer_rows.specs.StateForms.{State}
+use Rattle.value_heights.specs.Heights.{value_height}
+use Rattle.least_tables.specs.Solutions.{IsLeastSolution}
+use Rattle.program_equations.specs.Programs.{ProgramBodies, body_at, HasSection, IsProgram}
+use Rattle.program_equations.specs.Systems.{states, stores, FitsBody, FitsProgram, task_system, IsLeastSection}
+use Rattle.program_equations.specs.Solutions.{passing, table_at, tables_of}
+use Rattle.store_limits.specs.Limits.{store_limit, published}
+use Rattle.thread_pass.specs.Analyses.{IsSectionTable, IsLeastTable, IsStartTable}
+use Rattle.post_recheck.specs.Pairs.{Pair, FitsPair}
+use Rattle.program_solutions.specs.declared.turns.PassOutcome.{PassOutcome}
+use Rattle.program_solutions.specs.declared.turns.PassOutcome.TheVariants.{Quiet, Raised}
+
+-- ## One pass
+
+-- the least table of a task over a store, to which the task's pass adds nothing
+pub record IsQuietTable (p : ProgramBodies) (t : ℕ) (store : Interferences) (table : List (Option State)) : Type 0 where
+  pub least : IsLeastTable p t store table
+  pub below : IsStoreBelow (published p t store) store
+
+-- what a pass brings
+abbrev pub IsPassed : ProgramBodies → ℕ → Interferences → PassOutcome → Type 0
+IsPassed p t store (Quiet table) = IsQuietTable p t store table.items
+IsPassed p t store (Raised table after) =
+    IsLeastTable p t store table.items × (after ≡ published p t store) × (IsStoreBelow after store → ⊥)
+
+-- ## Turns
+
+-- the table of the task's last pass, or nothing where it has not passed
+abbrev pub IsKeptTable : ProgramBodies → ℕ → Interferences → List (Option State) → Type 0
+IsKeptTable p t store table = (table ≡ [] → ⊥) → IsStartTable p t store table
+
+-- the task whose turn comes after that of this one
+abbrev pub turn_after : ℕ → ℕ → ℕ
+turn_after task tasks = cond (nat_lt (task + 1) tasks) (task + 1) 0
+
+-- the task has passed in this number of turns before the one that is next
+pub record HasPassed (tasks next quiet t : ℕ) : Type 0 where
+  pub this_time : t < next → next ≤ t + quiet
+  pub last_time : next ≤ t → next + tasks ≤ t + quiet
+
+-- The store ends a history, each task can go on from its table, and those that have passed in this number of turns are
+-- quiet.
+pub record IsUnderway (p : ProgramBodies) (store : Interferences) (tables : List (List (Option State)))
+    (next quiet : ℕ) : Type 0 where
+  pub earlier : List Interferences
+  pub history : IsHistory stores passing p (store ∷ earlier)
+  pub fits : FitsProgram p store
+  pub count : length tables ≡ p.tasks
+  pub turn : 0 < p.tasks → next < p.tasks
+  pub most : quiet ≤ p.tasks
+  pub kept : (t : ℕ) → t < p.tasks → IsKeptTable p t store (table_at tables t)
+  pub each : (t : ℕ) → t < p.tasks → HasPassed p.tasks next quiet t → IsQuietTable p t store (table_at tables t)
+
+-- how far the store is from its limit, and then how many tasks may not be quiet
+abbrev pub left : ProgramBodies → Interferences → ℕ → ℕ
+left p store quiet = (store_limit p - store_height value_height store) * (p.tasks + 1) + (p.tasks - quiet)
+
+-- the store ends a history, and each task is quiet
+pub record HasEnded (p : ProgramBodies) (store : Interferences) (tables : List (List (Option State))) : Type 0 where
+  pub program : IsProgram p
+  pub earlier : List Interferences
+  pub history : IsHistory stores passing p (store ∷ earlier)
+  pub fits : FitsProgram p store
+  pub count : length tables ≡ p.tasks
+  pub each : (t : ℕ) → t < p.tasks → IsQuietTable p t store (table_at tables t)
+
+-- ## Pairs
+
+-- the tables of the tasks, and then the least one of the initial section, where there is one
+pub record AreCompleted (p : ProgramBodies) (tables all : List (List (Option State))) : Type 0 where
+  pub section : List (Option State)
+  pub is_least : IsSectionTable p section
+  pub none : (HasSection p → ⊥) → all ≡ tables
+  pub some : HasSection p → all ≡ tables ++ (section ∷ [])
+
+-- least tables over a store that ends a history and to which no pass adds anything
+pub record AreLeastTables (p : ProgramBodies) (pair : Pair) : Type 0 where
+  pub earlier : List Interferences
+  pub history : IsHistory stores passing p (pair.store ∷ earlier)
+  pub closed : IsClosed stores passing p pair.store
+  pub fits : FitsPair p pair
+  pub section : IsLeastSection p (table_at pair.tables p.tasks)
+  pub least : (t : ℕ) → t < p.tasks → IsLeastSolution states (FitsBody (body_at p t))
+      (task_system p (table_at pair.tables p.tasks) pair.store t) (tables_of pair.tables t)

@@ -1,0 +1,136 @@
+//! Passes of the tasks in turn.
+ghost use Rattle.std.specs.Prelude.{◌≡◌, ℕ, ◌<◌, ◌≤◌, length, IfOk, IsOk};
+ghost use Rattle.program_equations.specs.Systems.{FitsProgram, pass_of};
+ghost use Rattle.program_systems.specs.ReadPrograms.{program_of};
+ghost use Rattle.thread_pass.specs.Analyses.{IsLeastTable};
+ghost use Rattle.post_recheck.specs.Pairs.{lists_of};
+ghost use Rattle.program_solutions.specs.reading.Turns.{IsPassed, IsKeptTable, IsUnderway, HasEnded, left};
+ghost use Rattle.program_solutions.specs.reading.Turns.{turn_after};
+
+use crate::tables::empty_tables;
+use body_systems::BodyState;
+use interfere_set::Store;
+use least_tables::Pass;
+use post_recheck::Table;
+use std::alloc::Global;
+use thread_pass::{Analysis, local, local_from};
+use tm_lattice::{Lattice, NoMemory, Passer};
+
+// What a pass over a store brings.
+#[derive(Drop)]
+pub(crate) enum PassOutcome {
+    // It adds nothing: the table of the task.
+    Quiet(Table),
+    // The table of the task, and the store with what it adds.
+    Raised(Table, Store),
+}
+
+// Where passes in turn have come.
+#[derive(Drop)]
+pub(crate) struct Turns {
+    // The store.
+    pub(crate) store: Store,
+    // For each task the table of its last pass, empty where it has not passed: its next pass goes on from there.
+    pub(crate) tables: Vec<Table>,
+    // The task that is next.
+    pub(crate) next: usize,
+    // How many passes, one after another until now, have added nothing.
+    pub(crate) quiet: usize,
+}
+
+// The pass of a task over the store. It goes on from the table of the last one, where there is one.
+fn pass_from(
+    alloc: Global,
+    analysis: &Analysis,
+    task: u32,
+    table: Table,
+    store: &Store,
+) -> Result<Pass<BodyState, Store>, NoMemory>
+    requires task { task < analysis.now.tasks }
+    requires fits { FitsProgram (program_of analysis.now) store.now }
+    requires kept { IsKeptTable (program_of analysis.now) task store.now table.items }
+    ensures table { IfOk result (λ pass. IsLeastTable (program_of analysis.now) task store.now pass.table.items) }
+    ensures added { IfOk result (λ pass. pass.added ≡ pass_of (program_of analysis.now) task store.now) }
+{
+    if table.is_empty() {
+        local(alloc, analysis, task, store)
+    } else {
+        local_from(alloc, analysis, task, table, store)
+    }
+}
+
+// The pass of a task over the store: the joined and rounded store, where it lies above; else the table.
+fn passed(
+    alloc: Global,
+    analysis: &Analysis,
+    task: u32,
+    table: Table,
+    store: &Store,
+) -> Result<PassOutcome, NoMemory>
+    requires task { task < analysis.now.tasks }
+    requires fits { FitsProgram (program_of analysis.now) store.now }
+    requires kept { IsKeptTable (program_of analysis.now) task store.now table.items }
+    ensures { IfOk result (IsPassed (program_of analysis.now) task store.now) }
+{
+    let Pass { table, added } = pass_from(alloc, analysis, task, table, store)?;
+    let after = store.join(alloc, &added)?.round(alloc, analysis.marks())?;
+    if after.below(store) {
+        Ok(PassOutcome::Quiet(table))
+    } else {
+        Ok(PassOutcome::Raised(table, after))
+    }
+}
+
+// The task whose turn comes after that of this one.
+fn turn_behind(task: usize, tasks: usize) -> usize
+    requires { task < tasks }
+    ensures { result ≡ turn_after task tasks }
+{
+    if task + 1 < tasks { task + 1 } else { 0 }
+}
+
+// The next task passes once.
+fn take_turn(alloc: Global, analysis: &Analysis, turns: &mut Turns) -> Result<(), NoMemory>
+    requires underway { IsUnderway (program_of analysis.now) turns.old.store (lists_of turns.old.tables.items)
+        turns.old.next turns.old.quiet }
+    requires loud { turns.old.quiet < analysis.now.tasks }
+    ensures underway { IsOk result → IsUnderway (program_of analysis.now) turns.new.store
+        (lists_of turns.new.tables.items) turns.new.next turns.new.quiet }
+    ensures smaller { IsOk result → left (program_of analysis.now) turns.new.store turns.new.quiet
+        < left (program_of analysis.now) turns.old.store turns.old.quiet }
+{
+    let task = turns.next;
+    turns.next = turn_behind(task, analysis.tasks() as usize);
+    let last = std::mem::replace(&mut turns.tables[task], Vec::new(alloc));
+    match passed(alloc, analysis, task as u32, last, &turns.store)? {
+        PassOutcome::Quiet(table) => {
+            turns.tables[task] = table;
+            turns.quiet += 1;
+            Ok(())
+        }
+        PassOutcome::Raised(table, after) => {
+            turns.tables[task] = table;
+            turns.store = after;
+            turns.quiet = 0;
+            Ok(())
+        }
+    }
+}
+
+// Passes of the tasks in turn over one store, from the least one, until none adds anything.
+pub(crate) fn passes_in_turn(alloc: Global, analysis: &Analysis) -> Result<Turns, NoMemory>
+    ensures { IfOk result (λ turns.
+        HasEnded (program_of analysis.now) turns.store (lists_of turns.tables.items)) }
+{
+    let tasks = analysis.tasks() as usize;
+    let mut turns = Turns {
+        store: analysis.bottom(alloc)?,
+        tables: empty_tables(alloc, tasks)?,
+        next: 0,
+        quiet: 0,
+    };
+    'passes: while turns.quiet < tasks {
+        take_turn(alloc, analysis, &mut turns)?;
+    }
+    Ok(turns)
+}

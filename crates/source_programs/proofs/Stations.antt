@@ -1,0 +1,170 @@
+-- What is known behind each station of a source.
+use Rattle.std.specs.Prelude.{◌≡◌, ℕ, ◌<◌, ◌≤◌, ◌^◌, List, [], length, All, Option, Some, None, IfOk, IfSome}
+use Rattle.std.specs.Prelude.{Result, Ok, Err}
+use Rattle.std.specs.declared.alloc.Global.{Global}
+use Rattle.std.proofs.Common.{refl, sym, ap, subst, ◌∙◌}
+use Rattle.tm_terms.specs.declared.refusals.Fail.{Fail}
+use Rattle.tm_terms.specs.declared.refusals.Fail.TheVariants as Fails
+use Rattle.tm_terms.specs.declared.refusals.Limit.{Limit}
+use Rattle.tm_terms.specs.declared.refusals.Refusal.{Refusal}
+use Rattle.tm_terms.specs.declared.tokens.Name.{Name}
+use Rattle.tm_terms.specs.declared.tokens.Token.{Token}
+use Rattle.tm_terms.specs.Spelling.{Lexes}
+use Rattle.tm_terms.specs.Spelling.{answer_of as lexed_answer}
+use Rattle.tm_trees.specs.FileTrees.{ItemTree}
+use Rattle.tm_trees.specs.Parsing.{Parses}
+use Rattle.tm_trees.specs.Parsing.{answer_of as parsed_answer}
+use Rattle.tm_typed.specs.declared.files.TypedFile.{TypedFile}
+use Rattle.tm_typed.specs.Files.{TypedFileTree, IsTyped}
+use Rattle.tm_typed.specs.TypedFiles.{typed_file_tree}
+use Rattle.tm_laid.specs.declared.layouts.Laid.{Laid}
+use Rattle.tm_laid.specs.Layable.{IsLayable}
+use Rattle.tm_laid.specs.Layouts.{LaidTree, laid_tree, layout_of, unless_beyond, laid_out}
+use Rattle.tm_laid.specs.Layouts.{answer_of as laid_answer}
+use Rattle.call_graph.specs.Graphs.{lists}
+use Rattle.call_graph.specs.Orders.{IsWholeOrder}
+use Rattle.typed_file_laws.proofs.Layable.{comes, are_layable}
+use Rattle.c_typing.specs.Views.{answer_of as typed_answer}
+use Rattle.lowering_laws.specs.LaidFiles.{IsLaidFile}
+use Rattle.mutex_configs.specs.declared.programs.Program.{Program}
+use Rattle.program_graphs.specs.Prepared.{answer_of, IsPrepared}
+use Rattle.thresholds.specs.Thresholds.{numbers_of, AreThresholds}
+use Rattle.program_equations.specs.Programs.{ProgramBodies, IsProgramOf}
+use Rattle.source_programs.specs.Sources.{longest_source, main_in, TypesAs, IsLaidSource, IsAccepted, IsRefused}
+use Rattle.source_programs.specs.Sources.{IfRefused, source_limit}
+use Rattle.source_programs.specs.Sources.{too_long, not_lexed, not_parsed, not_typed, not_laid, not_prepared}
+
+-- ## Refusals of stations
+
+-- a source that is too long
+pub long_refused : (bytes : List ℕ) → longest_source < length bytes → (fail : Fail) → fail ≡ Fails.Refused source_limit
+    → IfRefused {A = Program} (Err fail) (IsRefused bytes)
+long_refused bytes long fail e =
+    subst (λ (f : Fail). IfRefused {A = Program} (Err f) (IsRefused bytes)) (sym e) (too_long long)
+
+module _ (bytes : List ℕ) (short : length bytes ≤ longest_source) where
+  pub lexing_refused : (fail : Fail) → IfSome (lexed_answer {A = Global} (Err fail)) (λ answer. Lexes bytes answer)
+      → IfRefused {A = Program} (Err fail) (IsRefused bytes)
+  lexing_refused (Fails.Refused r) told = not_lexed short told
+  lexing_refused Fails.NoMemory told = tt
+
+  module _ (tokens : List Token) (lexed : Lexes bytes (Ok tokens)) where
+    pub parsing_refused : (fail : Fail) → IfSome (parsed_answer (Err fail)) (λ answer. Parses tokens answer)
+        → IfRefused {A = Program} (Err fail) (IsRefused bytes)
+    parsing_refused (Fails.Refused r) told = not_parsed short lexed told
+    parsing_refused Fails.NoMemory told = tt
+
+    module _ (main : Option Name) (is : main ≡ main_in bytes tokens) (items : List ItemTree)
+        (parsed : Parses tokens (Ok items)) where
+      types_as : (answer : Result TypedFileTree Refusal) → IsTyped main items answer
+          → TypesAs (main_in bytes tokens) tokens answer
+      types_as answer told = record {
+        items = items;
+        parsed = parsed;
+        typed = subst (λ m. IsTyped m items answer) is told;
+      }
+
+      pub typing_refused : (fail : Fail) → IfSome (typed_answer (Err fail)) (λ answer. IsTyped main items answer)
+          → IfRefused {A = Program} (Err fail) (IsRefused bytes)
+      typing_refused (Fails.Refused r) told = not_typed short lexed (types_as (Err r) told)
+      typing_refused Fails.NoMemory told = tt
+
+      module _ (file : TypedFileTree) (typed : IsTyped main items (Ok file)) where
+        pub layout_refused : (fail : Fail) → IfSome (laid_answer (Err fail)) (λ answer. laid_out file ≡ answer)
+            → IfRefused {A = Program} (Err fail) (IsRefused bytes)
+        layout_refused (Fails.Refused r) told = not_laid short lexed (types_as (Ok file) typed) told
+        layout_refused Fails.NoMemory told = tt
+
+        pub laid_source : (laid : LaidTree) → laid_out file ≡ Ok laid → IsLaidSource bytes laid
+        laid_source laid e = record {
+          short = short;
+          tokens = tokens;
+          lexed = lexed;
+          file = file;
+          typed = types_as (Ok file) typed;
+          answered = e;
+        }
+
+-- ## Files and layouts
+
+-- a typed file can be laid out in its own order
+pub layable : (main : Option Name) (items : List ItemTree) (t : TypedFile) → IsTyped main items (Ok (typed_file_tree t))
+    → IsWholeOrder (lists t.calls.items) t.order.items → IsLayable (typed_file_tree t) t.order.items
+layable main items t e o =
+    let c = comes main items (typed_file_tree t) e in
+    let same =
+    ap (λ (f : TypedFileTree). length f.functions) c.is ∙ sym c.lawful.graph
+    ∙ sym (ap (λ (f : TypedFileTree). length f.calls) c.is) in
+    are_layable main items (typed_file_tree t) t.order.items e o.callees_first
+    (subst (λ (n : ℕ). All (λ f. f < n) t.order.items) (sym same) o.within)
+    (λ f h. o.whole f (subst (λ (n : ℕ). f < n) same h))
+
+pub laid_file : (main : Option Name) (items : List ItemTree) (file : TypedFileTree) (laid : LaidTree)
+    → IsTyped main items (Ok file) → laid_out file ≡ Ok laid → IsLaidFile laid
+laid_file main items file laid typed e =
+    record { main = main; items = items; file = file; typed = typed; answered = e }
+
+-- the file of the layout of a file is that file
+file_of_layout : (file : TypedFileTree) → (let l = layout_of file in l.file) ≡ file
+unfolding layout_of
+file_of_layout file = refl
+
+ok_same : {A : Type 0} {x y : A} → (let a : Result A Refusal = Ok x in let b : Result A Refusal = Ok y in a ≡ b) → x ≡ y
+ok_same e = cc
+
+err_is_ok : {A : Type 0} {x : A} {r : Refusal}
+    → (let a : Result A Refusal = Err r in let b : Result A Refusal = Ok x in a ≡ b) → ⊥
+err_is_ok e = cc
+
+file_kept_by : (file : TypedFileTree) (limit : Option Limit) (laid : LaidTree) → unless_beyond file limit ≡ Ok laid
+    → laid.file ≡ file
+file_kept_by file None laid e = ap (λ (l : LaidTree). l.file) (sym (ok_same e)) ∙ file_of_layout file
+file_kept_by file (Some limit) laid e = absurd (err_is_ok e)
+
+pub file_kept : (file : TypedFileTree) (laid : LaidTree) → laid_out file ≡ Ok laid → laid.file ≡ file
+file_kept file laid e = file_kept_by file _ laid e
+
+-- a layout keeps the order of its file
+pub order_kept : (t : TypedFile) (laid : Laid) → laid_out (typed_file_tree t) ≡ Ok (laid_tree laid)
+    → laid.file.order.items ≡ t.order.items → IsWholeOrder (lists t.calls.items) t.order.items
+    → IsWholeOrder (lists laid.file.calls.items) laid.file.order.items
+order_kept t laid e f o =
+    let same : typed_file_tree laid.file ≡ typed_file_tree t = file_kept (typed_file_tree t) (laid_tree laid) e in
+    let calls : lists laid.file.calls.items ≡ lists t.calls.items = ap (λ (file : TypedFileTree). file.calls) same in
+    subst (λ (order : List ℕ). IsWholeOrder (lists laid.file.calls.items) order) (sym f)
+    (subst (λ (graph : List (List ℕ)). IsWholeOrder graph t.order.items) (sym calls) o)
+
+-- ## Programs
+
+module _ (bytes : List ℕ) (laid : Laid) (source : IsLaidSource bytes (laid_tree laid)) where
+  pub program_accepted : (result : Result Program Fail) → IsPrepared (laid_tree laid) (answer_of result)
+      → IfOk result (λ p. laid_tree p.laid ≡ laid_tree laid)
+      → IfOk result (λ p. AreThresholds
+      (numbers_of laid.file.lengths.items laid.file.constants.items laid.file.labels.items []) p.marks)
+      → IfOk result (λ program. (p : ProgramBodies)
+      → IsProgramOf (laid_tree program.laid) program.graphs.graphs.items program.configured.items program.marks p
+      → IsAccepted bytes p)
+  program_accepted (Ok program) prepared same marks = λ p of. record {
+    laid = laid_tree laid;
+    source = source;
+    graphed = record { graphs = program.graphs.graphs.items; configured = program.configured.items };
+    prepared = prepared;
+    thresholds = program.marks;
+    are = marks;
+    is =
+        subst (λ l. IsProgramOf l program.graphs.graphs.items program.configured.items program.marks p) same of;
+  }
+  program_accepted (Err fail) prepared same marks = tt
+
+  pub program_refused : (result : Result Program Fail) → IsPrepared (laid_tree laid) (answer_of result)
+      → IfRefused result (IsRefused bytes)
+  program_refused (Ok program) prepared = tt
+  program_refused (Err (Fails.Refused r)) prepared = not_prepared source prepared
+  program_refused (Err Fails.NoMemory) prepared = tt
+
+-- the program of a layout has its objects
+pub objects_kept : (laid : Laid) (result : Result Program Fail)
+    → IfOk result (λ p. laid_tree p.laid ≡ laid_tree laid) → length laid.objects.items ≤ 2 ^ 32
+    → IfOk result (λ p. length p.laid.objects.items ≤ 2 ^ 32)
+objects_kept laid (Ok p) same few = subst (λ (l : LaidTree). length l.objects ≤ 2 ^ 32) (sym same) few
+objects_kept laid (Err f) same few = tt

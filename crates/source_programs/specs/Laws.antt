@@ -1,0 +1,38 @@
+-- Each source has one answer.
+use Rattle.std.specs.Prelude.{◌≡◌, ◌⊎◌, ℕ, ℤ, List}
+use Rattle.tm_terms.specs.declared.places.Place.{Place}
+use Rattle.tm_terms.specs.declared.refusals.Refusal.{Refusal}
+use Rattle.tm_trees.specs.Parsing.{syntax_error}
+use Rattle.tm_laid.specs.Layouts.{LaidTree}
+use Rattle.flow_graph.specs.declared.graphs.Graph.{Graph}
+use Rattle.mutex_configs.specs.declared.nodes.ConfiguredGraph.{ConfiguredGraph}
+use Rattle.program_equations.specs.Programs.{ProgramBodies, IsProgramOf}
+use Rattle.source_programs.specs.Sources.{IsLaidSource, IsAccepted, IsRefused}
+
+-- a layout, graphs, their configured graphs and thresholds are those of one program
+abbrev pub ProgramsAreOne : Type 0
+ProgramsAreOne =
+    (laid : LaidTree) (graphs : List Graph) (configured : List ConfiguredGraph) (thresholds : List ℤ)
+    (p q : ProgramBodies) → IsProgramOf laid graphs configured thresholds p
+    → IsProgramOf laid graphs configured thresholds q → p ≡ q
+
+-- no source is accepted and refused
+abbrev pub NoneIsBoth : Type 0
+NoneIsBoth = (bytes : List ℕ) (p : ProgramBodies) (r : Refusal) → IsAccepted bytes p → IsRefused bytes r → ⊥
+
+-- an accepted source is one program
+abbrev pub OneProgram : Type 0
+OneProgram = (bytes : List ℕ) (p q : ProgramBodies) → IsAccepted bytes p → IsAccepted bytes q → p ≡ q
+
+-- both are syntax errors, at any two places
+abbrev pub AreSyntaxErrors : Refusal → Refusal → Type 0
+AreSyntaxErrors r s = (p : Place) × (q : Place) × (r ≡ syntax_error p) × (s ≡ syntax_error q)
+
+-- a refused source has one refusal, but for the place of a syntax error
+abbrev pub OneRefusal : Type 0
+OneRefusal =
+    (bytes : List ℕ) (r s : Refusal) → IsRefused bytes r → IsRefused bytes s → (r ≡ s) ⊎ AreSyntaxErrors r s
+
+-- each source is refused, or has a layout
+abbrev pub SomeSource : Type 0
+SomeSource = (bytes : List ℕ) → ((laid : LaidTree) × IsLaidSource bytes laid) ⊎ ((r : Refusal) × IsRefused bytes r)

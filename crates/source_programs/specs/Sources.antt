@@ -1,0 +1,95 @@
+-- Sources: which are accepted, as which program, and which are refused.
+use Rattle.std.specs.Prelude.{◌≡◌, ℕ, ◌<◌, ◌≤◌, ℤ, List, [], ◌∷◌, length, codes, Option, Some, None, Result, Ok, Err}
+use Rattle.std.specs.Prelude.{Bool, bytes_eq, if◌then◌else◌}
+use Rattle.tm_terms.specs.declared.refusals.Fail.{Fail}
+use Rattle.tm_terms.specs.declared.refusals.Fail.TheVariants as Fails
+use Rattle.tm_terms.specs.declared.refusals.Kind.TheVariants as Kinds
+use Rattle.tm_terms.specs.declared.refusals.Limit.TheVariants as Limits
+use Rattle.tm_terms.specs.declared.refusals.Refusal.{Refusal}
+use Rattle.tm_terms.specs.declared.tokens.Name.{Name}
+use Rattle.tm_terms.specs.declared.tokens.Shape.{Shape}
+use Rattle.tm_terms.specs.declared.tokens.Shape.TheVariants as Shapes
+use Rattle.tm_terms.specs.declared.tokens.Token.{Token}
+use Rattle.tm_terms.specs.Limits.{limit_number}
+use Rattle.tm_terms.specs.Spelling.{text_of, Lexes}
+use Rattle.tm_trees.specs.FileTrees.{ItemTree}
+use Rattle.tm_trees.specs.Parsing.{Parses}
+use Rattle.tm_typed.specs.Files.{TypedFileTree, IsTyped}
+use Rattle.tm_laid.specs.Layouts.{LaidTree, laid_out}
+use Rattle.program_graphs.specs.Prepared.{Graphed, IsPrepared}
+use Rattle.thresholds.specs.Thresholds.{numbers_of, AreThresholds}
+use Rattle.program_equations.specs.Programs.{ProgramBodies, IsProgramOf}
+
+-- ## From bytes to a file
+
+-- the greatest number of bytes of a source
+abbrev pub longest_source : ℕ
+longest_source = limit_number Limits.Source
+
+-- the name is spelled `main`
+abbrev pub is_main : List ℕ → Name → Bool
+is_main bytes n = bytes_eq (text_of bytes n) (codes "main")
+
+abbrev pub main_or : List ℕ → Shape → Option Name → Option Name
+main_or bytes (Shapes.Name n) rest = if is_main bytes n then Some n else rest
+main_or bytes _ rest = rest
+
+-- the name that is spelled `main`, where it stands among the tokens
+abbrev pub main_in : List ℕ → List Token → Option Name
+main_in bytes [] = None
+main_in bytes (t ∷ tokens) = main_or bytes t.shape (main_in bytes tokens)
+
+-- these tokens spell a file, for which typing has this answer
+pub record TypesAs (main : Option Name) (tokens : List Token) (answer : Result TypedFileTree Refusal) : Type 0 where
+  pub items : List ItemTree
+  pub parsed : Parses tokens (Ok items)
+  pub typed : IsTyped main items answer
+
+-- ## Sources that are accepted
+
+-- these bytes are a source of a typed file, which has this layout
+pub record IsLaidSource (bytes : List ℕ) (laid : LaidTree) : Type 0 where
+  pub short : length bytes ≤ longest_source
+  pub tokens : List Token
+  pub lexed : Lexes bytes (Ok tokens)
+  pub file : TypedFileTree
+  pub typed : TypesAs (main_in bytes tokens) tokens (Ok file)
+  pub answered : laid_out file ≡ Ok laid
+
+-- These bytes are a source of this program: that of a layout, of the graphs of its bodies with their configured graphs,
+-- and of the thresholds that its text gives, with none of a user's own.
+pub record IsAccepted (bytes : List ℕ) (p : ProgramBodies) : Type 0 where
+  pub laid : LaidTree
+  pub source : IsLaidSource bytes laid
+  pub graphed : Graphed
+  pub prepared : IsPrepared laid (Ok graphed)
+  pub thresholds : List ℤ
+  pub are : AreThresholds (numbers_of laid.file.lengths laid.file.constants laid.file.labels []) thresholds
+  pub is : IsProgramOf laid graphed.graphs graphed.configured thresholds p
+
+-- ## Sources that are refused
+
+abbrev pub source_limit : Refusal
+source_limit = record { kind = Kinds.Limit; place = record { line = 0; col = 0 }; limit = Some Limits.Source }
+
+-- Why these bytes are refused: they are too many; or else the lexis refuses them; or else the grammar their tokens; or
+-- else typing their file; or else that exceeds a limit of layouts; or else its graphs exceed a limit.
+pub data IsRefused (bytes : List ℕ) : Refusal → Type 0 where
+  too_long : longest_source < length bytes → IsRefused bytes source_limit
+  not_lexed : {refusal : Refusal} → length bytes ≤ longest_source → Lexes bytes (Err refusal)
+      → IsRefused bytes refusal
+  not_parsed : {tokens : List Token} {refusal : Refusal} → length bytes ≤ longest_source → Lexes bytes (Ok tokens)
+      → Parses tokens (Err refusal) → IsRefused bytes refusal
+  not_typed : {tokens : List Token} {refusal : Refusal} → length bytes ≤ longest_source → Lexes bytes (Ok tokens)
+      → TypesAs (main_in bytes tokens) tokens (Err refusal) → IsRefused bytes refusal
+  not_laid : {tokens : List Token} {file : TypedFileTree} {refusal : Refusal} → length bytes ≤ longest_source
+      → Lexes bytes (Ok tokens) → TypesAs (main_in bytes tokens) tokens (Ok file) → laid_out file ≡ Err refusal
+      → IsRefused bytes refusal
+  not_prepared : {laid : LaidTree} {refusal : Refusal} → IsLaidSource bytes laid
+      → IsPrepared laid (Err (Fails.Refused refusal)) → IsRefused bytes refusal
+
+-- where the answer is a refusal, this holds of it
+abbrev pub IfRefused : {A : Type 0} → Result A Fail → (Refusal → Type 0) → Type 0
+IfRefused (Ok a) P = Unit {0}
+IfRefused (Err (Fails.Refused r)) P = P r
+IfRefused (Err Fails.NoMemory) P = Unit {0}

@@ -1,0 +1,13 @@
+//! From the bytes of a source to its program, or to the first reason to refuse it. Each station is a call of a crate
+//! below; this one knows their order, and which name among the tokens is spelled `main`.
+//!
+//! The source `int x; __task(1) void t(void) { x = 1; }` is accepted: its program has one body, that of the task `t`,
+//! with priority 1. The source `int x; __task(1) void t(void) { y = 1; }` is refused by typing, at the place of `y`.
+#![tactic(auto)]
+
+mod laws;
+mod mains;
+mod sources;
+
+pub use laws::{one_source, programs_are_one, some_source};
+pub use sources::source_program;

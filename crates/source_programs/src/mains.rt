@@ -1,0 +1,41 @@
+//! The name that is spelled `main`.
+
+ghost use Rattle.std.specs.Prelude.{◌≡◌, drop, take};
+ghost use Rattle.source_programs.specs.Sources.{is_main, main_in};
+
+use tm_terms::{Name, Shape, Token};
+
+/// The bytes behind the first n.
+fn behind(bytes: &[u8], n: usize) -> &[u8]
+    ensures { result.now ≡ drop n bytes.now }
+{
+    if n < bytes.len() { &bytes[n..] } else { &[] }
+}
+
+/// The first n bytes.
+fn front(bytes: &[u8], n: usize) -> &[u8]
+    ensures { result.now ≡ take n bytes.now }
+{
+    if n < bytes.len() { &bytes[..n] } else { bytes }
+}
+
+/// Whether a name is spelled `main`.
+fn is_main(bytes: &[u8], name: Name) -> bool
+    ensures { result ≡ is_main bytes.now name }
+{
+    front(behind(bytes, name.start as usize), name.length as usize) == b"main".as_slice()
+}
+
+/// The name that is spelled `main`, where it stands among the tokens.
+pub(crate) fn main_in(bytes: &[u8], tokens: &[Token]) -> Option<Name>
+    ensures { result ≡ main_in bytes.now tokens.now }
+{
+    'tokens: for token in tokens {
+        if let Shape::Name(name) = token.shape {
+            if is_main(bytes, name) {
+                return Some(name);
+            }
+        }
+    }
+    None
+}

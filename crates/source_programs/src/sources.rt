@@ -1,0 +1,144 @@
+//! The program of a source.
+ghost use Rattle.std.specs.Prelude.{◌≡◌, ◌≤◌, ◌^◌, [], length, Ok, IfOk};
+ghost use Rattle.tm_terms.specs.declared.refusals.Fail.TheVariants as Fails;
+ghost use Rattle.tm_terms.specs.Spelling.{Lexes};
+ghost use Rattle.tm_trees.specs.FileTrees.{file_tree};
+ghost use Rattle.tm_trees.specs.Parsing.{Parses};
+ghost use Rattle.tm_laid.specs.Layouts.{laid_tree};
+ghost use Rattle.lowering_laws.specs.LaidFiles.{IsLaidFile};
+ghost use Rattle.program_graphs.specs.Prepared.{answer_of, IsPrepared};
+ghost use Rattle.thresholds.specs.Thresholds.{numbers_of, AreThresholds};
+ghost use Rattle.program_equations.specs.Programs.{ProgramBodies, IsProgramOf};
+ghost use Rattle.program_systems.specs.Analysable.{IsAnalysable};
+ghost use Rattle.source_programs.specs.Sources.{longest_source, IsAccepted, source_limit, IsRefused, IfRefused};
+
+use crate::mains::main_in;
+use c_lexer::lex;
+use c_parser::parse;
+use c_typing::typed;
+use cell_layout::lay;
+use mutex_configs::Program;
+use program_graphs::program;
+use std::alloc::Global;
+use thresholds::marks;
+use tm_laid::Laid;
+use tm_lattice::NoMemory;
+use tm_terms::limits::SOURCE;
+use tm_terms::{Fail, Kind, Limit, Place, Refusal, Token};
+use tm_trees::File;
+
+// The refusal of a source that is too long.
+fn too_long() -> Fail
+    ensures { result ≡ Fails.Refused source_limit }
+{
+    Fail::Refused(Refusal {
+        kind: Kind::Limit,
+        place: Place { line: 0, col: 0 },
+        limit: Some(Limit::Source),
+    })
+}
+
+// The program of a layout, with the thresholds of its text.
+fn laid_program(alloc: Global, laid: Laid) -> Result<Program, Fail>
+    requires { IsLaidFile (laid_tree laid) }
+    ensures prepared { IsPrepared (laid_tree laid) (answer_of result) }
+    ensures laid { IfOk result (λ p. laid_tree p.laid ≡ laid_tree laid) }
+    ensures order { IfOk result (λ p. p.laid.file.order.items ≡ laid.file.order.items) }
+    ensures marks { IfOk result (λ p. AreThresholds
+        (numbers_of laid.file.lengths.items laid.file.constants.items laid.file.labels.items []) p.marks) }
+{
+    let thresholds = marks(
+        alloc,
+        &laid.file.lengths,
+        &laid.file.constants,
+        &laid.file.labels,
+        &[],
+    );
+    match thresholds {
+        Ok(thresholds) => program(alloc, laid, thresholds),
+        Err(NoMemory) => Err(Fail::NoMemory),
+    }
+}
+
+// The program of a file that a source spells.
+fn typed_program(
+    alloc: Global,
+    bytes: &[u8],
+    tokens: &[Token],
+    file: &File,
+) -> Result<Program, Fail>
+    requires short { length bytes.now ≤ longest_source }
+    requires lexed { Lexes bytes.now (Ok tokens.now) }
+    requires parsed { Parses tokens.now (Ok (file_tree file.now)) }
+    ensures accepted { IfOk result (λ program. (p : ProgramBodies) →
+        IsProgramOf (laid_tree program.laid) program.graphs.graphs.items program.configured.items program.marks p →
+        IsAccepted bytes.now p) }
+    ensures analysable { IfOk result IsAnalysable }
+    ensures numbered { IfOk result (λ program. length program.laid.objects.items ≤ 2 ^ 32) }
+    ensures refused { IfRefused result (IsRefused bytes.now) }
+{
+    match typed(alloc, file, main_in(bytes, tokens)) {
+        Ok(typed) => match lay(alloc, typed) {
+            Ok(laid) => laid_program(alloc, laid),
+            Err(fail) => Err(fail),
+        },
+        Err(fail) => Err(fail),
+    }
+}
+
+// The program of the tokens of a source.
+fn parsed_program(alloc: Global, bytes: &[u8], tokens: &[Token]) -> Result<Program, Fail>
+    requires short { length bytes.now ≤ longest_source }
+    requires lexed { Lexes bytes.now (Ok tokens.now) }
+    ensures accepted { IfOk result (λ program. (p : ProgramBodies) →
+        IsProgramOf (laid_tree program.laid) program.graphs.graphs.items program.configured.items program.marks p →
+        IsAccepted bytes.now p) }
+    ensures analysable { IfOk result IsAnalysable }
+    ensures numbered { IfOk result (λ program. length program.laid.objects.items ≤ 2 ^ 32) }
+    ensures refused { IfRefused result (IsRefused bytes.now) }
+{
+    match parse(alloc, tokens) {
+        Ok(file) => typed_program(alloc, bytes, tokens, &file),
+        Err(fail) => Err(fail),
+    }
+}
+
+// The program of a source that is not too long.
+fn lexed_program(alloc: Global, bytes: &[u8]) -> Result<Program, Fail>
+    requires { length bytes.now ≤ longest_source }
+    ensures accepted { IfOk result (λ program. (p : ProgramBodies) →
+        IsProgramOf (laid_tree program.laid) program.graphs.graphs.items program.configured.items program.marks p →
+        IsAccepted bytes.now p) }
+    ensures analysable { IfOk result IsAnalysable }
+    ensures numbered { IfOk result (λ program. length program.laid.objects.items ≤ 2 ^ 32) }
+    ensures refused { IfRefused result (IsRefused bytes.now) }
+{
+    match lex(alloc, bytes) {
+        Ok(tokens) => parsed_program(alloc, bytes, &tokens),
+        Err(fail) => Err(fail),
+    }
+}
+
+/// The program of a source, which can be analysed; or the first reason to refuse it: that it is too long, or else what
+/// the lexis, the grammar, typing, the layout or the graphs of its bodies refuse.
+pub fn source_program(alloc: Global, bytes: &[u8]) -> Result<Program, Fail>
+    // Whatever program of the equations is read of this one, it is that of the source.
+    ensures accepted { IfOk result (λ program. (p : ProgramBodies) →
+        IsProgramOf (laid_tree program.laid) program.graphs.graphs.items program.configured.items program.marks p →
+        IsAccepted bytes.now p) }
+
+    // The equations of the program can be solved.
+    ensures analysable { IfOk result IsAnalysable }
+
+    // Numbers of 32 bits are enough for its objects.
+    ensures numbered { IfOk result (λ program. length program.laid.objects.items ≤ 2 ^ 32) }
+
+    // Every refusal is one of the source. Beside these answers comes only want of memory.
+    ensures refused { IfRefused result (IsRefused bytes.now) }
+{
+    if bytes.len() > SOURCE as usize {
+        Err(too_long())
+    } else {
+        lexed_program(alloc, bytes)
+    }
+}

@@ -1,0 +1,126 @@
+-- Passes that go on from a table of an earlier pass.
+use Rattle.std.specs.Prelude.{◌≡◌, ℕ, zero, suc, ◌<◌, List, length, map, Bool, true, false, replicate, slice_index_or}
+use Rattle.std.specs.Prelude.{Option, refl}
+use Rattle.std.proofs.Common.{sym, ap, subst, ◌∙◌}
+use Rattle.std.proofs.lemmas.Bool.{false≢true}
+use Rattle.interfere_set.specs.Stores.{Interferences, no_interference, joined_store}
+use Rattle.interfere_set.specs.laws.StoreLaws.{store_order, store_join, store_closure}
+use Rattle.transfer_rows.specs.StateForms.{State}
+use Rattle.state_fits.specs.laws.PlacesFit.{states_order, states_join}
+use Rattle.least_tables.specs.Systems.{IsLawfulSystem}
+use Rattle.least_tables.specs.Solutions.{NodeTable, at, IsNodewiseBelow, IsStarted, IsClosedTable, IsLeastAbove}
+use Rattle.least_tables.specs.Solutions.{IsLeastSolution}
+use Rattle.least_tables.specs.Passes.{added_below}
+use Rattle.least_tables.specs.laws.WholeLeast as least
+use Rattle.least_tables.specs.laws.Closing as closing
+use Rattle.task_equations.specs.Bodies.{Body, copy_at}
+use Rattle.task_equations.specs.Equations.{equations_of, link_of, added_along}
+use Rattle.program_equations.specs.Programs.{ProgramBodies, body_at, IsProgram}
+use Rattle.program_equations.specs.Systems.{states, stores, FitsBody, FitsProgram, task_entry, task_system}
+use Rattle.program_equations.specs.Systems.{least_section, least_local, pass_of, IsSection, IsSectionBelow}
+use Rattle.program_equations.specs.Solutions.{node_count, links_in, after_in, entry_in, outward_in, heads_in, suits_in}
+use Rattle.program_equations.specs.Solutions.{height_of, limit_in, added_in, passing}
+use Rattle.program_equations.specs.laws.StoresFit.{bottom}
+use Rattle.program_equations.specs.laws.Lawful.{program_is_lawful}
+use Rattle.program_equations.specs.laws.Passing.{fitting}
+use Rattle.program_equations.specs.laws.Sections.{section_is_least}
+use Rattle.program_equations.specs.laws.Tables.{pass_is_one}
+use Rattle.thread_pass.specs.Analyses.{IsStartTable}
+
+-- where all edges are pending, none is met yet
+pub all_pending : (pending : List Bool) (edges : ℕ) → pending ≡ replicate edges true → (e : ℕ)
+    → slice_index_or pending e true ≡ false → ⊥
+all_pending pending edges is e met =
+    false≢true (sym met ∙ ap (λ xs. slice_index_or xs e true) is ∙ all_true edges e)
+  where
+    all_true : (n k : ℕ) → slice_index_or (replicate n true) k true ≡ true
+    all_true zero k = refl
+    all_true (suc n) zero = refl
+    all_true (suc n) (suc k) = all_true n k
+
+module _ (p : ProgramBodies) (is : IsProgram p) (t : ℕ) (lt : t < p.tasks) (store : Interferences)
+    (fits : FitsProgram p store) where
+  abbrev IsStartedOver : List (Option State) → Body → Option State → Interferences → Type 0
+  IsStartedOver table b entry given = IsStarted states (FitsBody b) (equations_of b entry given) (at table)
+
+  abbrev IsClosedOver : List (Option State) → Body → Option State → Interferences → Type 0
+  IsClosedOver table b entry given = IsClosedTable states (FitsBody b) (equations_of b entry given) (at table)
+
+  abbrev IsAboveOver : List (Option State) → List (Option State) → Body → Option State → Interferences → Type 0
+  IsAboveOver table last b entry given =
+      IsLeastAbove states (FitsBody b) (equations_of b entry given) (at table) (at last)
+
+  abbrev IsLeastOver : List (Option State) → Body → Option State → Interferences → Type 0
+  IsLeastOver table b entry given = IsLeastSolution states (FitsBody b) (equations_of b entry given) (at table)
+
+  abbrev first : Option State
+  first = task_entry p (least_section p) t
+
+  lawful : IsLawfulSystem states.is_value states.leq states.joined (FitsBody (body_at p t))
+      (task_system p (least_section p) store t)
+  lawful = (let law = program_is_lawful p is in law.system t store (least_section p) lt fits law.begins)
+
+  module _ (table : List (Option State)) (start : IsStartTable p t store table) where
+    started_here : IsStartedOver table (body_at p t) first store
+    started_here =
+        let warm = least.warm_start states (node_count p) (links_in p) (after_in p) (entry_in p) (outward_in p)
+        (heads_in p) (suits_in p) (height_of p) (limit_in p) (added_in p) stores passing p (IsSectionBelow p)
+        (IsSection p) (least_section p) (least_local p) states_order states_join store_order store_join store_closure
+        (fitting p is) (bottom p.marks) (program_is_lawful p is) t start.before store (at table) lt start.before_fits
+        fits start.before_below start.before_least.least in
+        warm.started
+
+    below_here : (other : NodeTable State)
+        → IsClosedTable states (FitsBody (body_at p t)) (task_system p (least_section p) store t) other
+        → IsNodewiseBelow states (FitsBody (body_at p t)) (task_system p (least_section p) store t) (at table) other
+    below_here =
+        let warm = least.warm_start states (node_count p) (links_in p) (after_in p) (entry_in p) (outward_in p)
+        (heads_in p) (suits_in p) (height_of p) (limit_in p) (added_in p) stores passing p (IsSectionBelow p)
+        (IsSection p) (least_section p) (least_local p) states_order states_join store_order store_join store_closure
+        (fitting p is) (bottom p.marks) (program_is_lawful p is) t start.before store (at table) lt start.before_fits
+        fits start.before_below start.before_least.least in
+        warm.below
+
+    least_here : (last : List (Option State)) → IsClosedOver last (body_at p t) first store
+        → IsAboveOver table last (body_at p t) first store → IsLeastOver last (body_at p t) first store
+    least_here last closed above =
+        closing.closed_is_least states (FitsBody (body_at p t)) (task_system p (least_section p) store t) states_order
+        states_join lawful (at last) closed (λ other other-closed. above other other-closed (below_here other other-closed))
+
+  module _ (b : Body) (entry : Option State) (given : Interferences) (b-is : b ≡ body_at p t)
+      (entry-is : entry ≡ first) (store-is : given ≡ store) where
+    -- what holds of the equations of the program holds of those that are given, and the other way
+    onto : (P : Body → Option State → Interferences → Type 0) → P (body_at p t) first store → P b entry given
+    onto P x = subst (λ y. P y entry given) (sym b-is) (subst (λ o. P (body_at p t) o given) (sym entry-is)
+        (subst (λ s. P (body_at p t) first s) (sym store-is) x))
+
+    back : (P : Body → Option State → Interferences → Type 0) → P b entry given → P (body_at p t) first store
+    back P x = subst (λ s. P (body_at p t) first s) store-is (subst (λ o. P (body_at p t) o given) entry-is
+        (subst (λ y. P y entry given) b-is x))
+
+    module _ (table : List (Option State)) (start : IsStartTable p t store table) where
+      -- the work list may begin with the table
+      pub start_nodes : length table ≡ length b.nodes
+      start_nodes = start.before_least.count ∙ ap (λ (x : Body). length x.nodes) (sym b-is)
+
+      pub is_started : IsStarted states (FitsBody b) (equations_of b entry given) (at table)
+      is_started = onto (IsStartedOver table) (started_here table start)
+
+      -- and where it ends, the table is the least
+      module _ (last : List (Option State))
+          (closed : IsClosedTable states (FitsBody b) (equations_of b entry given) (at last))
+          (above : IsLeastAbove states (FitsBody b) (equations_of b entry given) (at table) (at last)) where
+        pub last_is_least : IsLeastSolution states (FitsBody b) (equations_of b entry given) (at last)
+        last_is_least = onto (IsLeastOver last)
+            (least_here table start last (back (IsClosedOver last) closed) (back (IsAboveOver table last) above))
+
+        abbrev added_by : Body → Interferences
+        added_by x = added_below (map link_of x.copies) no_interference (λ k v. added_along x (copy_at x k) v)
+            joined_store (length (map link_of x.copies)) (at last)
+
+        -- what its edges add is the pass
+        pub last_added : (added : Interferences) → added ≡ added_by b → added ≡ pass_of p t store
+        last_added added e =
+            e ∙ ap added_by b-is
+            ∙ pass_is_one p is (least_section p) (section_is_least p is) t lt store fits (at last)
+            (least_here table start last (back (IsClosedOver last) closed) (back (IsAboveOver table last) above))

@@ -1,0 +1,159 @@
+use Rattle.std.proofs.Common.{◌≡◌, ◌<◌, subst, sym, ap, ◌∙◌, arith, length, map, None, IfSome}
+use Rattle.std.proofs.lemmas.List.{get_or_default}
+use Rattle.interfere_set.specs.Stores.{no_interference, joined_store}
+use Rattle.body_systems.specs.Systems.{body_of}
+use Rattle.least_tables.specs.Solutions.{at}
+use Rattle.least_tables.specs.Passes.{added_below}
+use Rattle.task_equations.specs.Bodies.{copy_at}
+use Rattle.task_equations.specs.Equations.{link_of, added_along}
+use Rattle.program_equations.specs.Systems.{FitsBody, FitsProgram, pass_of}
+use Rattle.program_systems.specs.ReadPrograms.{program_of}
+use Rattle.program_systems.specs.ProgramFacts.{program_with}
+use Rattle.program_systems.proofs.Bodies.{is_program}
+use Rattle.thread_pass.specs.Analyses.{IsLeastTable, IsStartTable}
+use Rattle.thread_pass.proofs.TaskTables.{in_bodies, entry_fits, table_is}
+use Rattle.thread_pass.proofs.StartTables.{all_pending, start_nodes, is_started, last_is_least, last_added}
+use Rattle.thread_pass.proofs.passes.local_from.Goals as goal
+
+pub body_over_store-body-requires-clause-number : goal.body_over_store-body-requires-clause-number
+body_over_store-body-requires-clause-number c =
+    let inside = c.analysis.inside in
+    let p = program_with inside.program inside.facts in
+    let is = is_program inside.program inside.facts c.analysis.invariant.analysable c.analysis.invariant.facts in
+    in_bodies p is c.args.task (subst (λ v. c.args.task < v.tasks) (sym c.analysis.view_is) c.requires.task)
+
+pub body_over_store-body-requires-clause-entry : goal.body_over_store-body-requires-clause-entry
+body_over_store-body-requires-clause-entry c =
+    let inside = c.analysis.inside in
+    let p = program_with inside.program inside.facts in
+    let is = is_program inside.program inside.facts c.analysis.invariant.analysable c.analysis.invariant.facts in
+    let task : c.args.task < p.tasks = subst (λ v. c.args.task < v.tasks) (sym c.analysis.view_is) c.requires.task in
+    let within : c.args.task < length inside.entries.items = omega (arith, task, c.analysis.invariant.count) in
+    entry_fits p is c.args.task task _
+    (c.as_ref-entry.ensures.value ∙ c.index.ensures
+    ∙ get_or_default inside.entries.items c.args.task c.index.result.now None within
+    ∙ c.analysis.invariant.entries c.args.task within)
+
+pub settle-requires-clause-nodes : goal.settle-requires-clause-nodes
+settle-requires-clause-nodes c κs =
+    let inside = c.analysis.inside in
+    let p = program_with inside.program inside.facts in
+    let is = is_program inside.program inside.facts c.analysis.invariant.analysable c.analysis.invariant.facts in
+    let task : c.args.task < p.tasks = subst (λ v. c.args.task < v.tasks) (sym c.analysis.view_is) c.requires.task in
+    let within : c.args.task < length inside.entries.items = omega (arith, task, c.analysis.invariant.count) in
+    let over = c.body_over_store-body.result in
+    let entry = c.body_over_store-body.ensures.entry ∙ c.as_ref-entry.ensures.value ∙ c.index.ensures
+    ∙ get_or_default inside.entries.items c.args.task c.index.result.now None within
+    ∙ c.analysis.invariant.entries c.args.task within in
+    let fits = subst (λ v. FitsProgram (program_of v) c.args.store.now) (sym c.analysis.view_is) c.requires.fits in
+    let start = subst (λ v. IsStartTable (program_of v) c.args.task c.args.store.now c.args.table.items)
+    (sym c.analysis.view_is) c.requires.start in
+    start_nodes p is c.args.task task c.args.store.now fits (body_of over) over.entry over.store
+    c.body_over_store-body.ensures.body entry c.body_over_store-body.ensures.store c.args.table.items start
+
+pub settle-requires-clause-started : goal.settle-requires-clause-started
+settle-requires-clause-started c κs =
+    let inside = c.analysis.inside in
+    let p = program_with inside.program inside.facts in
+    let is = is_program inside.program inside.facts c.analysis.invariant.analysable c.analysis.invariant.facts in
+    let task : c.args.task < p.tasks = subst (λ v. c.args.task < v.tasks) (sym c.analysis.view_is) c.requires.task in
+    let within : c.args.task < length inside.entries.items = omega (arith, task, c.analysis.invariant.count) in
+    let over = c.body_over_store-body.result in
+    let entry = c.body_over_store-body.ensures.entry ∙ c.as_ref-entry.ensures.value ∙ c.index.ensures
+    ∙ get_or_default inside.entries.items c.args.task c.index.result.now None within
+    ∙ c.analysis.invariant.entries c.args.task within in
+    let fits = subst (λ v. FitsProgram (program_of v) c.args.store.now) (sym c.analysis.view_is) c.requires.fits in
+    let start = subst (λ v. IsStartTable (program_of v) c.args.task c.args.store.now c.args.table.items)
+    (sym c.analysis.view_is) c.requires.start in
+    is_started p is c.args.task task c.args.store.now fits (body_of over) over.entry over.store
+    c.body_over_store-body.ensures.body entry c.body_over_store-body.ensures.store c.args.table.items start
+
+pub settle-requires-clause-pending : goal.settle-requires-clause-pending
+settle-requires-clause-pending c κs = λ e within met.
+    absurd (all_pending c.in_ok-pending.pending.items (length c.links.result.now)
+    (c.in_ok-pending.ensures.items_if_clones_equal (λ y same. same)) e met)
+
+pub joined_contributions-requires-clause-nodes : goal.joined_contributions-requires-clause-nodes
+joined_contributions-requires-clause-nodes c κs =
+    let inside = c.analysis.inside in
+    let p = program_with inside.program inside.facts in
+    let is = is_program inside.program inside.facts c.analysis.invariant.analysable c.analysis.invariant.facts in
+    let task : c.args.task < p.tasks = subst (λ v. c.args.task < v.tasks) (sym c.analysis.view_is) c.requires.task in
+    let within : c.args.task < length inside.entries.items = omega (arith, task, c.analysis.invariant.count) in
+    let over = c.body_over_store-body.result in
+    let entry = c.body_over_store-body.ensures.entry ∙ c.as_ref-entry.ensures.value ∙ c.index.ensures
+    ∙ get_or_default inside.entries.items c.args.task c.index.result.now None within
+    ∙ c.analysis.invariant.entries c.args.task within in
+    let fits = subst (λ v. FitsProgram (program_of v) c.args.store.now) (sym c.analysis.view_is) c.requires.fits in
+    let start = subst (λ v. IsStartTable (program_of v) c.args.task c.args.store.now c.args.table.items)
+    (sym c.analysis.view_is) c.requires.start in
+    ap length c.deref.ensures.value ∙ c.in_ok-table.ensures.nodes
+    ∙ start_nodes p is c.args.task task c.args.store.now fits (body_of over) over.entry over.store
+    c.body_over_store-body.ensures.body entry c.body_over_store-body.ensures.store c.args.table.items start
+
+pub joined_contributions-requires-clause-fits : goal.joined_contributions-requires-clause-fits
+joined_contributions-requires-clause-fits c κs =
+    let inside = c.analysis.inside in
+    let p = program_with inside.program inside.facts in
+    let is = is_program inside.program inside.facts c.analysis.invariant.analysable c.analysis.invariant.facts in
+    let task : c.args.task < p.tasks = subst (λ v. c.args.task < v.tasks) (sym c.analysis.view_is) c.requires.task in
+    let within : c.args.task < length inside.entries.items = omega (arith, task, c.analysis.invariant.count) in
+    let over = c.body_over_store-body.result in
+    let entry = c.body_over_store-body.ensures.entry ∙ c.as_ref-entry.ensures.value ∙ c.index.ensures
+    ∙ get_or_default inside.entries.items c.args.task c.index.result.now None within
+    ∙ c.analysis.invariant.entries c.args.task within in
+    let fits = subst (λ v. FitsProgram (program_of v) c.args.store.now) (sym c.analysis.view_is) c.requires.fits in
+    let start = subst (λ v. IsStartTable (program_of v) c.args.task c.args.store.now c.args.table.items)
+    (sym c.analysis.view_is) c.requires.start in
+    let least = last_is_least p is c.args.task task c.args.store.now fits (body_of over) over.entry over.store
+    c.body_over_store-body.ensures.body entry c.body_over_store-body.ensures.store c.args.table.items start
+    c.in_ok-table.table.items c.in_ok-table.ensures.closed c.in_ok-table.ensures.least in
+    λ n lt. subst (λ xs. IfSome (at xs n) (FitsBody (body_of over) n)) (sym c.deref.ensures.value)
+    (least.solves.fits n lt)
+
+pub returns-clause-table : goal.returns-clause-table
+returns-clause-table c =
+    let inside = c.analysis.inside in
+    let p = program_with inside.program inside.facts in
+    let is = is_program inside.program inside.facts c.analysis.invariant.analysable c.analysis.invariant.facts in
+    let task : c.args.task < p.tasks = subst (λ v. c.args.task < v.tasks) (sym c.analysis.view_is) c.requires.task in
+    let within : c.args.task < length inside.entries.items = omega (arith, task, c.analysis.invariant.count) in
+    let over = c.body_over_store-body.result in
+    let entry = c.body_over_store-body.ensures.entry ∙ c.as_ref-entry.ensures.value ∙ c.index.ensures
+    ∙ get_or_default inside.entries.items c.args.task c.index.result.now None within
+    ∙ c.analysis.invariant.entries c.args.task within in
+    let fits = subst (λ v. FitsProgram (program_of v) c.args.store.now) (sym c.analysis.view_is) c.requires.fits in
+    let start = subst (λ v. IsStartTable (program_of v) c.args.task c.args.store.now c.args.table.items)
+    (sym c.analysis.view_is) c.requires.start in
+    subst (λ v. IsLeastTable (program_of v) c.args.task c.args.store.now c.in_ok-table.table.items) c.analysis.view_is
+    (table_is p is c.args.task task (body_of over) over.entry c.args.store.now over.store
+    c.body_over_store-body.ensures.body entry c.body_over_store-body.ensures.store fits c.in_ok-table.table.items
+    (c.in_ok-table.ensures.nodes
+    ∙ start_nodes p is c.args.task task c.args.store.now fits (body_of over) over.entry over.store
+    c.body_over_store-body.ensures.body entry c.body_over_store-body.ensures.store c.args.table.items start)
+    (last_is_least p is c.args.task task c.args.store.now fits (body_of over) over.entry over.store
+    c.body_over_store-body.ensures.body entry c.body_over_store-body.ensures.store c.args.table.items start
+    c.in_ok-table.table.items c.in_ok-table.ensures.closed c.in_ok-table.ensures.least))
+
+pub returns-clause-added : goal.returns-clause-added
+returns-clause-added c =
+    let inside = c.analysis.inside in
+    let p = program_with inside.program inside.facts in
+    let is = is_program inside.program inside.facts c.analysis.invariant.analysable c.analysis.invariant.facts in
+    let task : c.args.task < p.tasks = subst (λ v. c.args.task < v.tasks) (sym c.analysis.view_is) c.requires.task in
+    let within : c.args.task < length inside.entries.items = omega (arith, task, c.analysis.invariant.count) in
+    let over = c.body_over_store-body.result in
+    let entry = c.body_over_store-body.ensures.entry ∙ c.as_ref-entry.ensures.value ∙ c.index.ensures
+    ∙ get_or_default inside.entries.items c.args.task c.index.result.now None within
+    ∙ c.analysis.invariant.entries c.args.task within in
+    let fits = subst (λ v. FitsProgram (program_of v) c.args.store.now) (sym c.analysis.view_is) c.requires.fits in
+    let start = subst (λ v. IsStartTable (program_of v) c.args.task c.args.store.now c.args.table.items)
+    (sym c.analysis.view_is) c.requires.start in
+    let b = body_of over in
+    subst (λ v. c.in_ok-added.added ≡ pass_of (program_of v) c.args.task c.args.store.now) c.analysis.view_is
+    (last_added p is c.args.task task c.args.store.now fits (body_of over) over.entry over.store
+    c.body_over_store-body.ensures.body entry c.body_over_store-body.ensures.store c.args.table.items start
+    c.in_ok-table.table.items c.in_ok-table.ensures.closed c.in_ok-table.ensures.least c.in_ok-added.added
+    (c.in_ok-added.ensures ∙ ap (λ xs. added_below (map link_of b.copies) no_interference
+    (λ k v. added_along b (copy_at b k) v) joined_store (length (map link_of b.copies)) (at xs))
+    c.deref.ensures.value))
