@@ -1,0 +1,2 @@
+-- A program as the soundness theorem reads it.
+pub mod Shape

@@ -1,0 +1,1 @@
+-- The law is of words of the crates below.

@@ -1,0 +1,10 @@
+-- The bodies of a file (FileBodies), every error of a run is an alarm (Alarmed), and what graphs (Graphs) and layouts
+-- (Cells) keep for the tables; what cells hold at the start (Starting), and
+-- that abstract cells stand for cells (Hits); which operations there are (Regular).
+pub mod FileBodies
+pub mod Alarmed
+pub mod Graphs
+pub mod Cells
+pub mod Starting
+pub mod Hits
+pub mod Regular

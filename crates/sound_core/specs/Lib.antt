@@ -1,0 +1,2 @@
+-- What the soundness of the report stands on (Sound).
+pub mod Sound

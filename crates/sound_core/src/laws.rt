@@ -1,0 +1,35 @@
+//! The law of the report.
+ghost use Rattle.std.specs.Prelude.{ℕ, ◌<◌, ◌≤◌, ◌^◌, List, length, Option};
+ghost use Rattle.tm_cint.specs.declared.Class.{Class};
+ghost use Rattle.tm_terms.specs.declared.places.Place.{Place};
+ghost use Rattle.tm_laid.specs.Layouts.{LaidTree};
+ghost use Rattle.concrete_steps.specs.Occurring.{Occurs};
+ghost use Rattle.interfere_set.specs.Stores.{Interferences};
+ghost use Rattle.transfer_rows.specs.StateForms.{State};
+ghost use Rattle.program_equations.specs.Programs.{ProgramBodies, IsProgram};
+ghost use Rattle.program_equations.specs.Solutions.{tables_of, IsPair};
+ghost use Rattle.program_reports.specs.Reports.{IsAlarm};
+ghost use Rattle.sound_runs.specs.Programs.{first_memory};
+ghost use Rattle.sound_tables.specs.Premises.{LaysCells, IsGraphOf};
+ghost use Rattle.sound_tables.specs.Starting.{IsStartMemory};
+ghost use Rattle.sound_core.specs.Sound.{IsProgramFrom};
+
+/// The cells of a program's layout are laid out as its tables ask; and each of its graphs keeps what they
+/// ask. At the start cells of static storage hold their initial values, which lie within their objects, and local cells
+/// are cleared.
+pub fn foundations_are_kept()
+    ensures cells { (laid : LaidTree) (p : ProgramBodies) → IsProgramFrom laid p → LaysCells p.laid }
+    ensures graphs { (laid : LaidTree) (p : ProgramBodies) → IsProgramFrom laid p → (t : ℕ)
+        → t < length p.bodies → IsGraphOf p t }
+    ensures memory { (laid : LaidTree) (p : ProgramBodies) → IsProgramFrom laid p → length laid.objects ≤ 2 ^ 32
+        → IsStartMemory p.laid (first_memory laid) }
+{}
+
+/// For the program of a typed file that is laid out, of its graphs and their configured graphs: every error of its runs
+/// is an alarm of every solution, where numbers of 32 bits are enough for the objects.
+pub fn errors_are_alarms()
+    ensures { (laid : LaidTree) (p : ProgramBodies) → IsProgramFrom laid p → (is : IsProgram p)
+        → length laid.objects ≤ 2 ^ 32 → (tables : List (List (Option State))) (store : Interferences)
+        → IsPair p tables store → (class : Class) (place : Place) → Occurs laid class place
+        → IsAlarm p (tables_of tables) (record { place = place; class = class }) }
+{}

@@ -1,0 +1,11 @@
+//! Soundness of the report: every error that occurs in some run that the scheduler allows is an alarm of every solution
+//! of the program's equations.
+//!
+//! Two tasks store to `x` and hold no mutex. In the world in which both stand before their stores they race; in each
+//! solution both stores reach the abstract cell of `x` from nodes where nothing is held, so that both places are alarms
+//! of the class Race.
+#![tactic(auto)]
+
+mod laws;
+
+pub use laws::{errors_are_alarms, foundations_are_kept};
