@@ -1,14 +1,5 @@
-pub mod Traces
-pub mod Rows
-pub mod Listed
-pub mod Sound
-pub mod Single
-pub mod Least
-pub mod ReadBack
-pub mod LeastReport
 pub mod OneWord
 pub mod Written
 pub mod AnswerLemmas
-pub mod Decisions
-pub mod OneAnswer
 pub mod OneReport
+pub mod Sound

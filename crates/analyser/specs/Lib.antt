@@ -1,8 +1,3 @@
-pub mod Form
-pub mod Runs
-pub mod Values
-pub mod Equations
-pub mod Solved
 pub mod Laws
 pub mod Statuses
 pub mod Answers

@@ -1,5 +1,3 @@
--- What the code computes, and how its programs stand for those of the definitions: no clause of a public call names it.
-pub mod Programs
-pub mod Readings
+-- What the code computes: no clause of a public call names it.
 pub mod Replies
 pub mod Streams

@@ -4,7 +4,7 @@ ghost use Rattle.std.specs.Prelude.{◌≡◌, ◌≤◌, ◌<◌, ◌+◌, ◌�
 ghost use Rattle.analyser.specs.reading.Streams.{ReadsMore};
 ghost use Rattle.std.specs.Io.KnownBytes.{IsAtEnd, prepend_known};
 ghost use Rattle.tm_io.specs.Faults.{Rose};
-ghost use Rattle.analyser.specs.Answers.{longest_source};
+ghost use Rattle.source_programs.specs.Sources.{longest_source};
 
 use tm_io::{Failed, Source};
 use tm_terms::limits::SOURCE;

@@ -1,28 +1,24 @@
 //! The top call: words and a source in, a status and a text out.
 
-ghost use Rattle.std.specs.Prelude.{◌≡◌, ◌≢◌, ◌⊎◌, ℕ, List, Some, IfOk, string_bytes};
+ghost use Rattle.std.specs.Prelude.{◌≡◌, ◌≢◌, ◌⊎◌, ℕ, List, Some};
 ghost use Rattle.std.specs.Io.KnownBytes.{append_known};
 ghost use Rattle.tm_io.specs.Faults.{Rose};
 ghost use Rattle.tm_terms.specs.declared.refusals.Refusal.{Refusal as RefusalOf};
-ghost use Rattle.analyser.specs.Answers.{Answers, HasAnswer, IsAccepted, IsAnalyse, IsReadOut, IsRefused, MayGive};
-ghost use Rattle.analyser.specs.Answers.{TakesNoMore, texts_of};
-ghost use Rattle.analyser.specs.Form.{Program as ProgramOf};
+ghost use Rattle.program_equations.specs.Programs.{ProgramBodies};
+ghost use Rattle.source_programs.specs.Sources.{IsAccepted, IsRefused};
+ghost use Rattle.analyser.specs.Answers.{Answers, HasAnswer, IsAnalyse, IsReadOut, MayGive, TakesNoMore, texts_of};
 ghost use Rattle.analyser.specs.Statuses.{IsReported, IsSinkStop, IsStop, IsWhole};
 ghost use Rattle.analyser.specs.reading.Streams.{TakesFrontOf};
 
 use crate::input::{InputError, read_all};
 use crate::output::write_all;
-use crate::replies::{Reply, answer_to, refused};
+use crate::replies::answer_to;
 use crate::statuses::Status;
 use crate::words::is_analyse;
 use std::alloc::Global as Heap;
 use tm_io::{Gate, Sink, Source, Stop};
 use tm_lattice::NoMemory;
-use tm_terms::limits::SOURCE;
-use tm_terms::{Kind, Limit, Place, Refusal, usage_line};
-
-/// The place of a refusal by a limit.
-const NOWHERE: Place = Place { line: 0, col: 0 };
+use tm_terms::usage_line;
 
 /// Writes the text, and says with which status: the given one, where the whole text was taken.
 fn send<K: Sink>(out: &mut K, text: &[u8], status: Status) -> Status
@@ -37,24 +33,6 @@ fn send<K: Sink>(out: &mut K, text: &[u8], status: Status) -> Status
         Ok(()) => status,
         Err(Stop::Failed) => Status::WriteFault,
         Err(Stop::NoMemory) => Status::NoMemory,
-    }
-}
-
-/// The answer to bytes of which there may be too many.
-fn reply_or_limit(alloc: Heap, bytes: &[u8]) -> Result<Reply, NoMemory>
-    ensures { IfOk result (λ reply. HasAnswer bytes.now reply.status (string_bytes reply.text)) }
-{
-    if bytes.len() > SOURCE as usize {
-        refused(
-            alloc,
-            Refusal {
-                kind: Kind::Limit,
-                place: NOWHERE,
-                limit: Some(Limit::Source),
-            },
-        )
-    } else {
-        answer_to(alloc, bytes)
     }
 }
 
@@ -76,7 +54,7 @@ fn analyse_source<S: Source, K: Sink>(alloc: Heap, source: &mut S, out: &mut K) 
         Err(InputError::Failed) => return Status::ReadFault,
         Err(InputError::NoMemory) => return Status::NoMemory,
     }
-    match reply_or_limit(alloc, &bytes) {
+    match answer_to(alloc, &bytes) {
         Ok(reply) => send(out, reply.text.as_bytes(), reply.status),
         Err(NoMemory) => Status::NoMemory,
     }
@@ -84,7 +62,7 @@ fn analyse_source<S: Source, K: Sink>(alloc: Heap, source: &mut S, out: &mut K) 
 
 /// Answers words and a source: the words are those of the command without the program's name, the source is read to its
 /// end or past the limit, and the text that goes with the status is written whole. The text is made before its first
-/// byte is written. The gate is not asked: one task is analysed on the calling thread.
+/// byte is written. The gate is not asked: all tasks are analysed on the calling thread.
 pub fn analyse<R: Sync, S: Source, K: Sink, G: Gate>(
     _rt: &R,
     alloc: Heap,
@@ -93,8 +71,9 @@ pub fn analyse<R: Sync, S: Source, K: Sink, G: Gate>(
     out: &mut K,
     _gate: &G,
 ) -> Status
-    // Status 0 or 1: the sink has taken the report of the least solution of the source's equations, in which each error
-    // that occurs in an allowed run is listed. Status 2: the line of the source's refusal. Status 3: the usage line.
+    // Status 0 or 1: the sink has taken the report of the least solution of the source's interference equations, in which
+    // each error that occurs in an allowed run is listed at its place. Status 2: the line of the source's refusal. Status
+    // 3: the usage line.
     ensures headline { IsWhole result →
         Answers (MayGive (texts_of words.now)) (S.left source.old) (K.taken out.old) (K.taken out.new) result }
 
@@ -118,7 +97,7 @@ pub fn analyse<R: Sync, S: Source, K: Sink, G: Gate>(
     ensures sink_faults { result ≢ Status.WriteFault → K.faults out.new ≡ K.faults out.old }
 
     // An accepted source comes to a report, and a refused one to its refusal, unless a device fails or memory runs out.
-    ensures accepted { (bytes : List ℕ) (p : ProgramOf) → IsAnalyse (texts_of words.now) →
+    ensures accepted { (bytes : List ℕ) (p : ProgramBodies) → IsAnalyse (texts_of words.now) →
         S.left source.old ≡ Some bytes → IsAccepted bytes p → IsReported result ⊎ IsStop result }
     ensures refused { (bytes : List ℕ) (r : RefusalOf) → IsAnalyse (texts_of words.now) →
         S.left source.old ≡ Some bytes → IsRefused bytes r → (result ≡ Status.Refused) ⊎ IsStop result }

@@ -1,6 +1,6 @@
 use Rattle.std.proofs.Common.{◌≡◌, ◌+◌, ◌-◌, ◌≤◌, vec_len}
 use Rattle.std.specs.Io.KnownBytes.{prepend_known}
-use Rattle.analyser.specs.Answers.{longest_source}
+use Rattle.source_programs.specs.Sources.{longest_source}
 use Rattle.analyser.proofs.input.read_all.Given as goal
 
 abbrev pub invariant-loop-source : goal.invariant-loop-source

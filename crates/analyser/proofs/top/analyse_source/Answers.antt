@@ -4,18 +4,18 @@ use Rattle.analyser.specs.Answers.{HasAnswer}
 use Rattle.analyser.proofs.AnswerLemmas.{known, past_limit, sent_whole, sent_front}
 use Rattle.analyser.proofs.top.analyse_source.Goals as goal
 
-pub returns-in-Ok-reply_or_limit-clause-whole : goal.returns-in-Ok-reply_or_limit-clause-whole
-returns-in-Ok-reply_or_limit-clause-whole g c h =
-    sent_whole _ _ _ c.in-Ok-reply_or_limit.reply.status _ (string_bytes c.in-Ok-reply_or_limit.reply.text) c.as_bytes.result.now
+pub returns-in-Ok-answer_to-clause-whole : goal.returns-in-Ok-answer_to-clause-whole
+returns-in-Ok-answer_to-clause-whole g c h =
+    sent_whole _ _ _ c.in-Ok-answer_to.reply.status _ (string_bytes c.in-Ok-answer_to.reply.text) c.as_bytes.result.now
     (known _ c.read_all.new.bytes.items _ _ _ c.in-Ok.ensures.read
     (past_limit _ _ _ c.read_all.new.bytes.ok.0 c.in-Ok.ensures.end)
-    (subst (λ b. HasAnswer b c.in-Ok-reply_or_limit.reply.status (string_bytes c.in-Ok-reply_or_limit.reply.text)) c.deref.ensures.value c.in-Ok-reply_or_limit.ensures))
+    (subst (λ b. HasAnswer b c.in-Ok-answer_to.reply.status (string_bytes c.in-Ok-answer_to.reply.text)) c.deref.ensures.value c.in-Ok-answer_to.ensures))
     c.as_bytes.ensures.value (c.send.ensures.whole h).0 (c.send.ensures.whole h).1
 
-pub returns-in-Ok-reply_or_limit-clause-front : goal.returns-in-Ok-reply_or_limit-clause-front
-returns-in-Ok-reply_or_limit-clause-front g c =
-    sent_front _ _ _ c.in-Ok-reply_or_limit.reply.status (string_bytes c.in-Ok-reply_or_limit.reply.text) c.as_bytes.result.now
+pub returns-in-Ok-answer_to-clause-front : goal.returns-in-Ok-answer_to-clause-front
+returns-in-Ok-answer_to-clause-front g c =
+    sent_front _ _ _ c.in-Ok-answer_to.reply.status (string_bytes c.in-Ok-answer_to.reply.text) c.as_bytes.result.now
     (known _ c.read_all.new.bytes.items _ _ _ c.in-Ok.ensures.read
     (past_limit _ _ _ c.read_all.new.bytes.ok.0 c.in-Ok.ensures.end)
-    (subst (λ b. HasAnswer b c.in-Ok-reply_or_limit.reply.status (string_bytes c.in-Ok-reply_or_limit.reply.text)) c.deref.ensures.value c.in-Ok-reply_or_limit.ensures))
+    (subst (λ b. HasAnswer b c.in-Ok-answer_to.reply.status (string_bytes c.in-Ok-answer_to.reply.text)) c.deref.ensures.value c.in-Ok-answer_to.ensures))
     c.as_bytes.ensures.value c.send.ensures.front

@@ -1,7 +1,0 @@
-use Rattle.std.proofs.Common.{◌≡◌, drop}
-use Rattle.analyser.specs.Answers.{main_in}
-use Rattle.analyser.proofs.mains.main_in.Given as goal
-
--- no token before is a name that is spelled so
-abbrev pub invariant-tokens : goal.invariant-tokens
-invariant-tokens l = main_in l.bytes (drop l.token-index l.tokens) ≡ main_in l.bytes l.tokens

@@ -1,0 +1,15 @@
+use Rattle.std.specs.Arc.{arc_value}
+use Rattle.std.proofs.Common.{subst}
+use Rattle.program_systems.specs.ReadPrograms.{program_of}
+use Rattle.program_systems.specs.ProgramFacts.{program_with}
+use Rattle.post_recheck.specs.Pairs.{FitsPair}
+use Rattle.pass_tests.proofs.Without.{both_without}
+use Rattle.pass_tests.proofs.rechecks.answer_by_threads.Goals as goal
+
+pub recheck-requires-clause-fits : goal.recheck-requires-clause-fits
+recheck-requires-clause-fits g c κs within =
+    let found = c.args.found.now in
+    both_without (program_with c.parts.result.0.now c.parts.result.1.now) found
+    (subst (λ r. FitsPair (program_of r) found) c.parts.ensures.program c.requires) c.tables.result.now
+    c.in_ok-tables.tables.items (arc_value c.store.result.now) (arc_value c.in_ok-store.store) c.tables.ensures
+    c.store.ensures c.in_ok-tables.ensures c.in_ok-store.ensures
