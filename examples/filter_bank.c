@@ -1,5 +1,11 @@
-/* A bank of first-order low-pass filters and a moving average, in fixed point with 8 fraction bits.
-   It is of the language, and is not analysed yet: the answer is 1:1 refused Unbuilt. */
+/* A bank of four low-pass filters in fixed point with 8 fraction bits; the odd ones are followed by a moving average.
+
+   The report shows one real error. SHIFT in `x << FRACTION`: a sample below 0 is shifted to the left, which C99 6.5.7
+   leaves undefined. (`x * (1 << FRACTION)` has no such error.)
+   The rest is what the analysis cannot tell. OVERFLOW three times in `low_pass`: that a filter's state stays near its
+   samples follows from how `error` and `state` go together, and each is known by its bounds alone. OVERFLOW at the sum
+   of the average: how often the loop adds is not counted. DEREF in `average`: of the offset of `history + i` all
+   distances between the histories of the four filters are kept, and in between stand other members. */
 # 1 "filter_bank.h"
 typedef signed short sample_t;
 typedef signed int accumulator_t;
@@ -13,12 +19,12 @@ struct filter {
         unsigned char next;
     } window;
 };
-# 21 "filter_bank.c"
+# 27 "filter_bank.c"
 static struct filter bank[CHANNELS] = {
     {0, 32, {{0}, 0}},
     {0, 64, {{0}, 0}},
-    {0, 96},
-    {0, 128},
+    {0, 96, {{0}, 0}},
+    {0, 128, {{0}, 0}},
 };
 static const sample_t limits[2] = {-2048, 2047};
 static volatile sample_t input[CHANNELS];
@@ -42,7 +48,7 @@ static sample_t low_pass(struct filter *const filter, sample_t x)
 {
     accumulator_t error = ((accumulator_t)x << FRACTION) - filter->state;
 
-    filter->state += error * filter->coefficient >> FRACTION;
+    filter->state += (error >> FRACTION) * filter->coefficient;
     return clamped(filter->state >> FRACTION);
 }
 

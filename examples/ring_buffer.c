@@ -1,5 +1,8 @@
-/* A ring buffer that one task fills and another empties, under a mutex.
-   It is of the language, and is not analysed yet: the answer is 1:1 refused Unbuilt. */
+/* A ring buffer that one task fills and another empties, each under the mutex.
+
+   The report has no alarm. The subscripts stay below CAPACITY, since `first` is only ever stored after `% CAPACITY`;
+   `count` wraps in unsigned arithmetic and is no subscript; and each access to the ring and to the checksum stands
+   under the mutex. Without the mutex it is ring_buffer_unguarded.c. */
 typedef unsigned char byte;
 typedef struct ring ring;
 
@@ -13,8 +16,7 @@ struct ring {
 
 __mutex guard;
 static ring received;
-static byte last = 0x7f;
-int checksum;
+static unsigned checksum;
 
 static int put(ring *to, byte b)
 {
@@ -32,7 +34,7 @@ static int take(ring *from, byte *b)
     if (!from->count)
         return 0;
     *b = from->bytes[from->first];
-    from->first = from->first + 1 == CAPACITY ? 0 : from->first + 1;
+    from->first = (from->first + 1) % CAPACITY;
     --from->count;
     return 1;
 }
@@ -44,9 +46,7 @@ __task(200) void receive(void)
 
         __lock(guard);
         if (!put(&received, b))
-            last = 'x';
-        else
-            last = '\0';
+            checksum = 0;
         __unlock(guard);
         __yield();
     }
@@ -54,14 +54,16 @@ __task(200) void receive(void)
 
 __task(100) void process(void)
 {
-    byte b;
+    byte b = '\0';
     int got;
 
     do {
         __lock(guard);
         got = take(&received, &b);
-        __unlock(guard);
         if (got)
-            checksum = (checksum * 31 ^ b) & 0xffff;
-    } while (got || last != '\0' || 1);
+            checksum = (checksum * 31u ^ b) & 0xffffu;
+        __unlock(guard);
+        if (!got)
+            __yield();
+    } while (1);
 }

@@ -1,5 +1,8 @@
-/* The states of a motor's start and stop, with a watchdog.
-   It is of the language, and is not analysed yet: the answer is 1:1 refused Unbuilt. */
+/* The states of a motor's start and stop, with a fault state that the stop button leaves.
+
+   The report has no alarm. `duty` is at most twice an unsigned short, and falls only while it is above 0; `ticks` and
+   `faults` are unsigned shorts, which wrap where they are stored; and the motor's inputs are volatile, so that each
+   read gives any value of its type. Nothing is shared: there is one task. */
 typedef enum state { IDLE, STARTING, RUNNING, STOPPING = 8, FAULT } state_t;
 
 struct inputs {
@@ -70,10 +73,11 @@ static void step(void)
     }
 }
 
-void main(void)
+int main(void)
 {
     state = IDLE;
     faults = 0;
+    return 0;
 }
 
 __task(5) void machine(void)

@@ -1,0 +1,69 @@
+#!/usr/bin/env bash
+# How long the program takes beside Frama-C's Eva on a series of growing programs, and how much memory: N functions of
+# control code (a limited integrator, a table that is searched, a counter under a mutex) which two tasks call, for
+# N = 10 to 400. Eva has no tasks of static priorities: it is given the same text with the words of the language defined away
+# and a main that calls the tasks one after the other.
+#
+#     benches/eva.sh PROGRAM [N..]
+#
+# PROGRAM is the built analyser, which reads a source from its standard input. Each time is the least of three runs, in
+# processor seconds, each run bound to one processor; a row says N, bytes of the source, seconds and MB of both, and the
+# two ratios. Frama-C and GNU time have to be installed.
+set -eu
+
+program=$(readlink -f "$1")
+shift
+sizes=${*:-10 50 100 200 400}
+work=$(mktemp -d)
+trap 'rm -rf "$work"' EXIT
+cd "$work"
+
+cat > words.h <<'C'
+#define __mutex static int
+#define __task(priority)
+#define __lock(mutex) ((void)0)
+#define __unlock(mutex) ((void)0)
+int Frama_C_interval(int low, int high);
+#define __input(low, high) Frama_C_interval(low, high)
+C
+
+# The program of N functions, on standard output.
+text_of() { # N
+    awk -v count="$1" 'BEGIN {
+        print "__mutex busy;\nstatic int calls, level;\n"
+        for (i = 0; i < count; i++) {
+            printf "static int sum_%d, table_%d[4] = { %d, %d, %d, %d };\n", i, i, i + 1, i + 3, i + 7, i + 9
+            printf "static int step_%d(int wanted)\n{\n    int k, error = wanted - sum_%d / 4;\n\n", i, i
+            printf "    if (error > 100)\n        error = 100;\n    if (error < -100)\n        error = -100;\n"
+            printf "    sum_%d = (sum_%d * 3 + error) / 4;\n", i, i
+            printf "    for (k = 0; k < 4; k++)\n        if (table_%d[k] > error)\n            break;\n", i
+            printf "    __lock(busy);\n    if (calls < 1000)\n        calls++;\n    __unlock(busy);\n"
+            printf "    return k < 4 ? table_%d[k] : 0;\n}\n\n", i
+        }
+        print "__task(2) void fast(void)\n{\n    int wanted = __input(-500, 500);\n"
+        for (i = 0; i < count; i += 2) printf "    level = step_%d(wanted);\n", i
+        print "}\n\n__task(1) void slow(void)\n{"
+        for (i = 1; i < count; i += 2) printf "    step_%d(level);\n", i
+        print "}"
+    }'
+}
+
+# "seconds MB" of the least of three runs of the command.
+least() { # COMMAND..
+    local run
+    for run in 1 2 3; do
+        taskset -c 0 env time -o told -f '%U %S %M' "$@" > out 2> err < input || true
+        tail -n 1 told
+    done | awk '{ s = $1 + $2; if (NR == 1 || s < least) least = s; if ($3 > most) most = $3 }
+        END { printf "%.3f %.0f\n", least, most / 1024 }'
+}
+
+printf '%5s %8s %9s %7s %9s %7s %7s %7s\n' N bytes eva_s eva_MB own_s own_MB time memory
+for n in $sizes; do
+    text_of "$n" > input
+    { cat words.h input; echo 'int main(void) { fast(); slow(); return 0; }'; } > alone.c
+    eva=$(least frama-c -machdep gcc_x86_32 -eva -eva-no-print alone.c)
+    own=$(least "$program" analyse)
+    echo "$n $(wc -c < input) $eva $own" | awk '{
+        printf "%5s %8s %9s %7s %9s %7s %7.1f %7.1f\n", $1, $2, $3, $4, $5, $6, $3 / ($5 > 0 ? $5 : 0.001), $4 / $6 }'
+done
