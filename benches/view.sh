@@ -1,0 +1,67 @@
+#!/usr/bin/env bash
+# Shows reports in the files of their sources: benches/view.sh [--unproved]. It needs gcc, clang and make.
+#
+# The example of two files and a header is compiled and run by gcc and clang, unchanged, and analysed: its alarms stand at
+# the lines of its files, also through a link, from another folder, and under names with blanks, quotes and backslashes.
+set -eu
+here=$(cd "$(dirname "$0")" && pwd)
+top=${here%/*}
+how=("$@")
+work=$(mktemp -d)
+trap 'rm -rf -- "$work"' EXIT
+
+# What `analyse` writes with these words, and its status behind it.
+told() { # COMMAND WORDS..
+    local command=$1 status=0
+    shift
+    "$command" "${how[@]}" "$@" 2>"$work/err" || status=$?
+    echo "status $status"
+}
+
+same() { # WANTED GOT WHAT
+    if [ "$1" != "$2" ]; then
+        printf '%s: wanted\n%s\nand not\n%s\n' "$3" "$1" "$2"
+        exit 1
+    fi
+    echo "$3: as wanted"
+}
+
+# The compilers take the same sources.
+for compiler in gcc clang; do
+    cp -r "$top/examples/project" "$work/$compiler"
+    make -s -C "$work/$compiler" CC="$compiler -Werror" top="$top"
+    same "share 25 level 0 pumping 0" "$("$work/$compiler/out/target")" "$compiler runs the project"
+    for source in "$top"/examples/*.c; do
+        "$compiler" -std=c99 -fsyntax-only -Wall -Wextra -Werror -include "$top/include/cedratcleat.h" "$source"
+    done
+    echo "$compiler takes the examples"
+done
+
+# The alarms stand at the lines of the files.
+cd "$top/examples/project"
+wanted=$(cat project.report)$'\nstatus 1'
+same "$wanted" "$(told "$top/analyse" project.c)" "the project"
+for compiler in gcc clang; do
+    export CC=$compiler
+    cd "$top/examples/project"
+    ln -sf "$top/analyse" "$work/link"
+    mkdir -p "$work/a b"
+    cp ./*.h "$work/a b"
+    cp pump.c "$work/a b/pu\"mp.c"
+    cp display.c "$work/a b/dis\\play.c"
+    printf '%s\n' '#include <pu"mp.c>' '#include "dis\play.c"' >"$work/a b/all files.c"
+    cd "$work/a b"
+    got=$(told "$work/link" -I . "all files.c" | sed 's/^\.\///; s/pu"mp/pump/; s/dis\\play/display/')
+    same "$wanted" "$got" "odd names, through a link, from another folder, by $compiler"
+    cd "$work"
+    got=$(told "$work/link" "$top/examples/project/project.c" | sed "s|^$top/examples/project/||")
+    same "$wanted" "$got" "from another folder, by $compiler"
+done
+unset CC
+
+# A preprocessor that fails, and one that is not there.
+printf '#error no\n' >"$work/error.c"
+same "status 9" "$(told "$top/analyse" "$work/error.c")" "a preprocessor that fails"
+grep -q 'error.c:1:' "$work/err" && echo "its message is told"
+same "status 9" "$(CC=$work/none told "$top/analyse" "$work/error.c")" "a preprocessor that is not there"
+echo "all as wanted"

@@ -1,0 +1,3 @@
+/* All files of the project as one source, for the analyser. */
+#include "pump.c"
+#include "display.c"

@@ -1,0 +1,10 @@
+/* Boolean type and values (C99 7.16). */
+#ifndef CEDRATCLEAT_STDBOOL_H
+#define CEDRATCLEAT_STDBOOL_H
+
+#define bool _Bool
+#define true 1
+#define false 0
+#define __bool_true_false_are_defined 1
+
+#endif
