@@ -1,0 +1,2 @@
+-- How the words are read one after the other; no clause of a public call names it.
+pub mod Steps

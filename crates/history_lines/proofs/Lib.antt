@@ -1,0 +1,2 @@
+-- The text of a history with one event more (OneMore).
+mod OneMore

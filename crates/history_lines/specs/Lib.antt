@@ -1,0 +1,2 @@
+-- The text of a history (HistoryTexts).
+pub mod HistoryTexts

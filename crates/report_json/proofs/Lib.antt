@@ -1,0 +1,3 @@
+pub mod JsonTexts
+pub mod OneReport
+pub mod ReadBack
