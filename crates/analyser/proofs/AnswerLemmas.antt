@@ -6,7 +6,7 @@ use Rattle.std.specs.Prelude.{◌⊎◌, ◌↔◌, false, IsTrue, Option, Some,
 use Rattle.tm_terms.specs.declared.alarms.Alarm.{Alarm}
 use Rattle.tm_terms.specs.declared.refusals.Refusal.{Refusal}
 use Rattle.tm_terms.specs.Texts.{report_text, refusal_text, usage_text}
-use Rattle.program_equations.specs.Programs.{ProgramBodies}
+use Rattle.thread_pass.specs.program_equations.Programs.{ProgramBodies}
 use Rattle.source_programs.specs.Sources.{longest_source, IsAccepted, IsRefused, too_long, not_lexed, not_parsed}
 use Rattle.source_programs.specs.Sources.{not_typed, not_laid, not_prepared}
 use Rattle.source_programs.proofs.OneSource.{none_is_both}

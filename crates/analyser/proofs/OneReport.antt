@@ -1,6 +1,6 @@
 -- A source has one report.
 use Rattle.std.proofs.Common.{subst}
-use Rattle.program_equations.specs.Programs.{ProgramBodies}
+use Rattle.thread_pass.specs.program_equations.Programs.{ProgramBodies}
 use Rattle.program_solutions.specs.LeastReports.{IsLeastReport}
 use Rattle.program_solutions.proofs.OneReport.{one_least_report}
 use Rattle.source_programs.proofs.Accepted.{accepted_is_program}

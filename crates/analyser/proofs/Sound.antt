@@ -2,9 +2,9 @@
 use Rattle.std.proofs.Common.{◌≡◌, ◌∙◌, sym, ap, subst}
 use Rattle.std.specs.Prelude.{ℕ, ◌≤◌, ◌^◌, List, length}
 use Rattle.tm_terms.specs.declared.alarms.Alarm.{Alarm}
-use Rattle.tm_laid.specs.Layouts.{LaidTree}
-use Rattle.program_equations.specs.Programs.{ProgramBodies}
-use Rattle.program_equations.specs.Readings.{read_layout}
+use Rattle.thread_pass.specs.tm_laid.Layouts.{LaidTree}
+use Rattle.thread_pass.specs.program_equations.Programs.{ProgramBodies}
+use Rattle.thread_pass.specs.program_equations.Readings.{read_layout}
 use Rattle.program_solutions.specs.LeastReports.{IsLeastReport}
 use Rattle.source_programs.specs.Sources.{IsAccepted}
 use Rattle.source_programs.proofs.Accepted.{accepted_is_laid, accepted_is_program}

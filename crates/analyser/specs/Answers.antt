@@ -3,14 +3,14 @@ use Rattle.std.specs.Prelude.{◌≡◌, ℕ, ◌<◌, ◌⊎◌, List, [], ◌�
 use Rattle.std.specs.Prelude.{Contains, String, string_bytes}
 use Rattle.std.specs.Io.KnownBytes.{append_known, IsAtEnd}
 use Rattle.std.specs.declared.alloc.Global.{Global as Heap}
-use Rattle.tm_cint.specs.declared.Class.{Class}
+use Rattle.tm_terms.specs.tm_cint.declared.Class.{Class}
 use Rattle.tm_terms.specs.declared.alarms.Alarm.{Alarm}
 use Rattle.tm_terms.specs.declared.places.Place.{Place}
 use Rattle.tm_terms.specs.declared.refusals.Refusal.{Refusal}
 use Rattle.tm_terms.specs.Texts.{report_text, refusal_text, usage_text}
-use Rattle.tm_laid.specs.Layouts.{LaidTree}
-use Rattle.concrete_steps.specs.Occurring.{Occurs}
-use Rattle.program_equations.specs.Programs.{ProgramBodies}
+use Rattle.thread_pass.specs.tm_laid.Layouts.{LaidTree}
+use Rattle.sound_core.specs.concrete_steps.Occurring.{Occurs}
+use Rattle.thread_pass.specs.program_equations.Programs.{ProgramBodies}
 use Rattle.source_programs.specs.Sources.{longest_source, IsAccepted, IsRefused}
 use Rattle.program_solutions.specs.LeastReports.{IsLeastReport}
 use Rattle.analyser.specs.declared.statuses.Status.{Status}

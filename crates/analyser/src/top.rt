@@ -4,7 +4,7 @@ ghost use Rattle.std.specs.Prelude.{◌≡◌, ◌≢◌, ◌⊎◌, ℕ, List, 
 ghost use Rattle.std.specs.Io.KnownBytes.{append_known};
 ghost use Rattle.tm_io.specs.Faults.{Rose};
 ghost use Rattle.tm_terms.specs.declared.refusals.Refusal.{Refusal as RefusalOf};
-ghost use Rattle.program_equations.specs.Programs.{ProgramBodies};
+ghost use Rattle.thread_pass.specs.program_equations.Programs.{ProgramBodies};
 ghost use Rattle.source_programs.specs.Sources.{IsAccepted, IsRefused};
 ghost use Rattle.analyser.specs.Answers.{Answers, HasAnswer, IsAnalyse, IsReadOut, MayGive, TakesNoMore, texts_of};
 ghost use Rattle.analyser.specs.Statuses.{IsReported, IsSinkStop, IsStop, IsWhole};

@@ -9,7 +9,7 @@ use Rattle.tm_terms.specs.declared.places.Place.{Place}
 use Rattle.tm_typed.specs.TypedTrees.{RvalueTrees, a_function_call, rvalue_tree, as_rvalues}
 use Rattle.tm_typed.specs.TypeRows.{is_pointer_type}
 use Rattle.tm_typed.specs.Files.{no_typed_function}
-use Rattle.concrete_steps.specs.Places.{result_type}
+use Rattle.lowering.specs.concrete_steps.Places.{result_type}
 use Rattle.tm_laid.specs.Layouts.{LaidTree}
 use Rattle.lowering.specs.Built.{Building, temp_of}
 use Rattle.body_builder.specs.declared.fragments.Wanted.{Wanted}

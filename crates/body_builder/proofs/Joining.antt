@@ -6,8 +6,8 @@ use Rattle.tm_terms.specs.declared.places.Place.{Place}
 use Rattle.tm_typed.specs.declared.scopes.ObjectNumber.TheVariants as Numbers
 use Rattle.tm_typed.specs.Functions.{TypedBodyTree}
 use Rattle.tm_laid.specs.Layouts.{LaidTree, object_of}
-use Rattle.concrete_steps.specs.Places.{result_type}
-use Rattle.concrete_steps.specs.NextAction.{function_at}
+use Rattle.lowering.specs.concrete_steps.Places.{result_type}
+use Rattle.lowering.specs.concrete_steps.NextAction.{function_at}
 use Rattle.flow_graph.specs.Graphs.{Edges}
 use Rattle.lowering.specs.Built.{Building, AfterPart, stores_piece, function_end, function_piece, sites_of}
 use Rattle.lowering.specs.Built.{path_piece}

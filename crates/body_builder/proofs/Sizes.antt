@@ -9,8 +9,8 @@ use Rattle.tm_typed.specs.declared.scopes.ObjectNumber.TheVariants as Numbers
 use Rattle.tm_typed.specs.Functions.{TypedBodyTree}
 use Rattle.tm_laid.specs.Layouts.{LaidTree, callee, object_of}
 use Rattle.concrete_values.specs.Values.{nothing}
-use Rattle.concrete_steps.specs.Places.{result_type}
-use Rattle.concrete_steps.specs.NextAction.{scalar_at, function_at}
+use Rattle.lowering.specs.concrete_steps.Places.{result_type}
+use Rattle.lowering.specs.concrete_steps.NextAction.{scalar_at, function_at}
 use Rattle.flow_graph.specs.declared.operations.Test.{Test}
 use Rattle.flow_graph.specs.declared.operations.Test.TheVariants as Tests
 use Rattle.flow_graph.specs.declared.operations.Into.TheVariants as Intos

@@ -1,7 +1,7 @@
 //! What the forms of expressions end with, once their parts are built.
 ghost use Rattle.std.specs.Prelude.{◌≡◌, IfOk, OnOk, pos};
 ghost use Rattle.tm_typed.specs.TypedTrees.{rvalue_tree};
-ghost use Rattle.concrete_steps.specs.Places.{gives_pointer};
+ghost use Rattle.lowering.specs.concrete_steps.Places.{gives_pointer};
 ghost use Rattle.lowering.specs.Built.{temp_of};
 ghost use Rattle.body_builder.specs.Fragments.{tree_in, so_far};
 ghost use Rattle.body_builder.specs.reading.Expressions.{ends, usable_if, ends_fork, converted};

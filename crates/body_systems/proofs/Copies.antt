@@ -7,11 +7,11 @@ use Rattle.tm_laid.specs.declared.layouts.Laid.{Laid}
 use Rattle.tm_laid.specs.Layouts.{laid_tree}
 use Rattle.flow_graph.specs.declared.operations.Operation.{Operation}
 use Rattle.interfere_set.specs.Stores.{reader_of}
-use Rattle.transfer_rows.specs.StateForms.{State}
-use Rattle.transfer_rows.specs.Actions.{Action, Around}
-use Rattle.transfer_rows.specs.Accesses.{is_among}
-use Rattle.transfer_rows.specs.Rows.{after}
-use Rattle.transfer_rows.specs.Contributions.{added}
+use Rattle.edge_actions.specs.transfer_rows.StateForms.{State}
+use Rattle.edge_actions.specs.transfer_rows.Actions.{Action, Around}
+use Rattle.edge_actions.specs.transfer_rows.Accesses.{is_among}
+use Rattle.edge_actions.specs.transfer_rows.Rows.{after}
+use Rattle.edge_actions.specs.transfer_rows.Contributions.{added}
 use Rattle.transfer_mem.specs.Applicable.{IsOperable, IsApplicable}
 use Rattle.edge_actions.specs.Layouts.{is_shared_cell, is_smashed_cell}
 use Rattle.edge_actions.specs.Edges.{action_of, action_at, around_of}
@@ -22,7 +22,8 @@ use Rattle.mutex_configs.specs.declared.nodes.EdgeCopy.{EdgeCopy}
 use Rattle.least_tables.specs.declared.links.Link.{Link}
 use Rattle.least_tables.specs.Systems.{no_link, from_of}
 use Rattle.task_equations.specs.Bodies.{Body, no_copy, edge_of, node_at, copy_at, live_at}
-use Rattle.task_equations.specs.Equations.{tests_pointer, action_along, around_along, led, after_along, link_of}
+use Rattle.task_equations.specs.Equations.{tests_pointer, action_along, around_along, led}
+use Rattle.task_equations.specs.Equations.{after_along, link_of}
 use Rattle.task_equations.specs.Equations.{added_along}
 use Rattle.task_equations.specs.Premises.{IsCopyOf}
 use Rattle.program_equations.specs.Systems.{FitsBody}
@@ -80,7 +81,7 @@ module _ (v : SystemOf) (c : EdgeCopy) (view : EdgeView) (is : IsViewOf v c view
           subst (λ (ps : List ℕ). j < length ps) (sym is.priorities)
           (let lt = keeps.store.weak.writers j written at in let le = keeps.writers in omega (arith, lt, le));
       layable = subst (λ (l : Laid). Rattle.tm_laid.specs.Layable.IsLayable
-          (Rattle.tm_typed.specs.TypedFiles.typed_file_tree l.file) l.file.order.items) (sym is.laid) keeps.layable;
+          (Rattle.tm_laid.specs.tm_typed.TypedFiles.typed_file_tree l.file) l.file.order.items) (sym is.laid) keeps.layable;
       few = subst (λ (l : Laid). length l.cells.items ≤ 65536) (sym is.laid) keeps.few;
       operable = subst (λ (op : Operation). IsOperable op s) (sym is.operation) operable;
     }

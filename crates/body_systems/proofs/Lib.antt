@@ -4,3 +4,4 @@ mod Indices
 mod Counts
 mod Pointers
 mod Copies
+pub mod low

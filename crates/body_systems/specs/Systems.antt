@@ -1,15 +1,15 @@
 -- The equations of a body as the code holds them.
 use Rattle.std.specs.Prelude.{◌≡◌, ℕ, ◌<◌, ◌≤◌, ℤ, List, length, map, get_or, Option, IfSome}
-use Rattle.tm_typed.specs.TypedFiles.{typed_file_tree}
+use Rattle.tm_laid.specs.tm_typed.TypedFiles.{typed_file_tree}
 use Rattle.tm_laid.specs.declared.layouts.Laid.{Laid}
 use Rattle.tm_laid.specs.Layouts.{LaidTree, laid_tree}
 use Rattle.tm_laid.specs.Layable.{IsLayable}
 use Rattle.flow_graph.specs.declared.graphs.Graph.{Graph}
 use Rattle.mutex_configs.specs.declared.nodes.ConfiguredGraph.{ConfiguredGraph}
 use Rattle.interfere_set.specs.Stores.{Interferences}
-use Rattle.transfer_rows.specs.StateForms.{State}
+use Rattle.edge_actions.specs.transfer_rows.StateForms.{State}
 use Rattle.temporary_types.specs.Sorts.{Sort}
-use Rattle.state_fits.specs.Fits.{FitsStore}
+use Rattle.task_equations.specs.state_fits.Fits.{FitsStore}
 use Rattle.least_tables.specs.Systems.{System}
 use Rattle.task_equations.specs.Bodies.{Body, no_edge, copy_at}
 use Rattle.task_equations.specs.Equations.{equations_of, link_of, added_along}

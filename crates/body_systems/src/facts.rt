@@ -5,7 +5,7 @@ ghost use Rattle.graph_facts.specs.declared.regions.Head.{Head as AHead};
 ghost use Rattle.tm_laid.specs.Layouts.{laid_tree};
 ghost use Rattle.graph_facts.specs.Lists.{numbers};
 ghost use Rattle.graph_facts.specs.Edges.{AreInRange};
-ghost use Rattle.transfer_rows.specs.Accesses.{is_among};
+ghost use Rattle.edge_actions.specs.transfer_rows.Accesses.{is_among};
 ghost use Rattle.task_equations.specs.Equations.{link_of, tests_pointer, cells_rounded};
 ghost use Rattle.program_equations.specs.Programs.{behind_given, temporaries_in};
 ghost use Rattle.body_systems.specs.Facts.{pointers_of, AreFactsOf};

@@ -16,7 +16,9 @@ use Rattle.tm_terms.specs.declared.types_named.TagKind.TheVariants as Tags
 use Rattle.tm_terms.specs.declared.types_named.PointerWord.{PointerWord}
 use Rattle.tm_terms.specs.declared.types_named.PointerWord.TheVariants as Pointers
 use Rattle.tm_terms.specs.Names.{is_typedef}
-use Rattle.tm_terms.specs.ExprSpelling.{BySign, SpellsPointers, BeginsWithStar, is_storage, is_typedef_word, many, is_type_spec, is_type_list, is_type_name_list}
+use Rattle.tm_terms.specs.ExprSpelling.{BySign, SpellsPointers, BeginsWithStar, is_storage}
+use Rattle.tm_terms.specs.ExprSpelling.{is_typedef_word, many, is_type_spec, is_type_list}
+use Rattle.tm_terms.specs.ExprSpelling.{is_type_name_list}
 use Rattle.c_expr_parser.specs.declared.marks.Mark.TheVariants as Marks
 use Rattle.c_expr_parser.specs.reading.Parts.{then_read, and_after, after, spec_at, begins_type}
 use Rattle.c_expr_parser.proofs.Tokens.{false_true, none_some, from_some, after_finds, after_spelled, then_read_some, and_after_some, cond_some, and_true}

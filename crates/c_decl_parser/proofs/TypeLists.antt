@@ -7,7 +7,8 @@ use Rattle.tm_terms.specs.declared.types_named.SpecWord.{SpecWord}
 use Rattle.tm_terms.specs.declared.types_named.SpecWord.TheVariants as Specs
 use Rattle.tm_terms.specs.declared.types_named.Basic.{Basic}
 use Rattle.tm_terms.specs.declared.types_named.Basic.TheVariants as Basics
-use Rattle.tm_terms.specs.ExprSpelling.{is_type_spec, is_basic, is_lone, is_declared_type, many, is_integer_list, is_type_list}
+use Rattle.tm_terms.specs.ExprSpelling.{is_type_spec, is_basic, is_lone, is_declared_type, many}
+use Rattle.tm_terms.specs.ExprSpelling.{is_integer_list, is_type_list}
 use Rattle.c_expr_parser.proofs.Tokens.{false_true}
 
 -- a type stands before them or among them

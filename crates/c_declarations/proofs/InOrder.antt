@@ -6,7 +6,8 @@ use Rattle.tm_typed.specs.declared.specifiers.Said.{Said}
 use Rattle.tm_typed.specs.States.{State}
 use Rattle.tm_typed.specs.TypedStatements.{LocalTree}
 use Rattle.tm_typed.specs.Refusals.{Gives, then_with}
-use Rattle.tm_typed.specs.Declarations.{Declared, declared_by, file_rules, file_declared, Locals, local_rules, local_declared}
+use Rattle.tm_typed.specs.Declarations.{Declared, declared_by, file_rules, file_declared, Locals}
+use Rattle.tm_typed.specs.Declarations.{local_rules, local_declared}
 use Rattle.c_declarations.proofs.Frames.{passes, goes_on}
 
 -- ## At file scope

@@ -2,7 +2,9 @@
 use Rattle.std.proofs.Common.{◌≡◌, ◌≢◌, List, [], ◌∷◌, length, map, None, refl, arith}
 use Rattle.tm_trees.specs.declared.declarations.Specifier.{Specifier}
 use Rattle.tm_trees.specs.declared.declarations.InitDeclarator.{InitDeclarator}
-use Rattle.tm_trees.specs.DeclarationTrees.{SpecifierTree, a_plain, a_struct, an_enum, SpecifierTrees, no_specifiers, and_specifier, InitDeclaratorTree, init_declarator_tree, specifier_tree, specifier_trees}
+use Rattle.tm_trees.specs.DeclarationTrees.{SpecifierTree, a_plain, a_struct, an_enum, SpecifierTrees}
+use Rattle.tm_trees.specs.DeclarationTrees.{no_specifiers, and_specifier, InitDeclaratorTree}
+use Rattle.tm_trees.specs.DeclarationTrees.{init_declarator_tree, specifier_tree, specifier_trees}
 use Rattle.tm_typed.specs.Declarations.{lone_tag}
 
 of_two : (x y : SpecifierTree) (xs : SpecifierTrees) (ds : List InitDeclaratorTree) → lone_tag (and_specifier x (and_specifier y xs)) ds ≡ None

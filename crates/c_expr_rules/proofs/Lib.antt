@@ -1,2 +1,3 @@
 pub mod ConstantTypes
 pub mod GivenLists
+pub mod low

@@ -3,3 +3,4 @@ pub mod WellTypedRules
 pub mod WellTypedMore
 pub mod WellTypedWhole
 pub mod WellTypedGrowth
+pub mod low

@@ -9,10 +9,19 @@ use Rattle.tm_typed.specs.declared.types.TypeEntry.{TypeEntry}
 use Rattle.tm_typed.specs.declared.types.Scalar.{Scalar}
 use Rattle.tm_typed.specs.declared.scopes.Member.{Member}
 use Rattle.tm_typed.specs.Types.{no_type}
-use Rattle.tm_typed.specs.Scopes.{Scope, Structure, entry, ctype_of, structure, is_complete_type, is_complete, cells_by, cells_of, members_of, member_of, last_declared}
-use Rattle.tm_typed.specs.TypedTrees.{RvalueTree, a_constant, a_folded, a_null, a_load, an_address, a_structure, the_same, a_unary, a_binary, a_comparison_of_pointers, a_move, a_not, an_and, an_or, a_choice, an_assignment, a_compound, a_compound_move, a_unit_step, a_pointer_step, a_function_call, an_input_value, a_probe, a_comma, a_conversion, a_discard, LvalueTree, an_object, an_element, a_pointed_element, a_pointed, an_arrow, a_part, RvalueTrees, no_rvalues, and_rvalue, OperandTree, an_lvalue, a_value}
+use Rattle.tm_typed.specs.Scopes.{Scope, Structure, entry, ctype_of, structure, is_complete_type}
+use Rattle.tm_typed.specs.Scopes.{is_complete, cells_by, cells_of, members_of, member_of, last_declared}
+use Rattle.tm_typed.specs.TypedTrees.{RvalueTree, a_constant, a_folded, a_null, a_load, an_address}
+use Rattle.tm_typed.specs.TypedTrees.{a_structure, the_same, a_unary, a_binary, a_comparison_of_pointers}
+use Rattle.tm_typed.specs.TypedTrees.{a_move, a_not, an_and, an_or, a_choice, an_assignment, a_compound}
+use Rattle.tm_typed.specs.TypedTrees.{a_compound_move, a_unit_step, a_pointer_step, a_function_call}
+use Rattle.tm_typed.specs.TypedTrees.{an_input_value, a_probe, a_comma, a_conversion, a_discard}
+use Rattle.tm_typed.specs.TypedTrees.{LvalueTree, an_object, an_element, a_pointed_element, a_pointed}
+use Rattle.tm_typed.specs.TypedTrees.{an_arrow, a_part, RvalueTrees, no_rvalues, and_rvalue, OperandTree}
+use Rattle.tm_typed.specs.TypedTrees.{an_lvalue, a_value}
 use Rattle.tm_typed.specs.Operands.{scalar_by, scalar_of, kept_sort}
-use Rattle.tm_typed.specs.WellTyped.{ValueKind, a_number, a_pointer, kind_of, Context, HasPart, IsRvalue, IsLvalue, AreArguments, IsOperand, Extends}
+use Rattle.tm_typed.specs.WellTyped.{ValueKind, a_number, a_pointer, kind_of, Context, HasPart, IsRvalue}
+use Rattle.tm_typed.specs.WellTyped.{IsLvalue, AreArguments, IsOperand, Extends}
 
 -- ## The tables
 

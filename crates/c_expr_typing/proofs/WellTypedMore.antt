@@ -1,13 +1,13 @@
 -- The further rules, and the whole: what typing gives is well-formed.
 use Rattle.std.proofs.Common.{◌≡◌, refl, ap, ℕ, ℤ, pos, negsuc, ◌-ℤ◌, ◌≤ℤ◌, Bool, true, false, cond, not, ◌&&◌, List, [], ◌∷◌, Option, Some, None, Ok, rules, arith}
 use Rattle.std.specs.Prelude.{find}
-use Rattle.tm_cint.specs.declared.int_types.IntType.{IntType}
-use Rattle.tm_cint.specs.declared.int_types.IntType.TheVariants as Ints
-use Rattle.tm_cint.specs.declared.operators.BinOp.{BinOp}
-use Rattle.tm_cint.specs.IntTypes.{IsIn, is_in, lo_of, hi_of}
+use Rattle.tm_terms.specs.tm_cint.declared.int_types.IntType.{IntType}
+use Rattle.tm_terms.specs.tm_cint.declared.int_types.IntType.TheVariants as Ints
+use Rattle.tm_terms.specs.tm_cint.declared.operators.BinOp.{BinOp}
+use Rattle.tm_terms.specs.tm_cint.IntTypes.{IsIn, is_in, lo_of, hi_of}
 use Rattle.std.proofs.lemmas.Int.{ints}
-use Rattle.tm_cint.specs.Conversions.{promoted_type, usual_type, is_zero}
-use Rattle.tm_cint.proofs.Ranges.{IsIn-from_test}
+use Rattle.tm_terms.specs.tm_cint.Conversions.{promoted_type, usual_type, is_zero}
+use Rattle.tm_terms.proofs.low.tm_cint.Ranges.{IsIn-from_test}
 use Rattle.tm_terms.specs.declared.places.Place.{Place}
 use Rattle.tm_terms.specs.declared.tokens.Name.{Name}
 use Rattle.tm_terms.specs.declared.refusals.Kind.TheVariants as RefusalKinds
@@ -23,15 +23,17 @@ use Rattle.tm_typed.specs.declared.operands.Sort.{Sort}
 use Rattle.tm_typed.specs.declared.operands.Sort.TheVariants as Sorts
 use Rattle.tm_typed.specs.declared.scopes.Member.{Member}
 use Rattle.tm_typed.specs.Types.{bytes_of}
-use Rattle.tm_typed.specs.TypedTrees.{LvalueTree, Rated, OperandTree, an_lvalue, a_value, an_arrow, a_constant, an_input_value, a_choice, a_compound, a_compound_move}
+use Rattle.tm_typed.specs.TypedTrees.{LvalueTree, Rated, OperandTree, an_lvalue, a_value, an_arrow}
+use Rattle.tm_typed.specs.TypedTrees.{a_constant, an_input_value, a_choice, a_compound, a_compound_move}
 use Rattle.tm_typed.specs.Rules
 use Rattle.tm_typed.specs.Operands
 use Rattle.tm_typed.specs.Scopes
 use Rattle.tm_typed.specs.Refusals.{row, row_unless}
 use Rattle.tm_typed.specs.Scopes.{ctype_of, entry, is_complete, named}
 use Rattle.tm_typed.specs.Operands.{made, is_condition, fold_of}
-use Rattle.tm_typed.specs.WellTyped.{a_pointer, kind_of, IsCondition, Context, IsRvalue, IsLvalue, IsFold, IsSort, IsRated, IsOperand, OnAnswer, IsLawful}
-use Rattle.c_folds.proofs.ConvertedValues.{converted_is_in}
+use Rattle.tm_typed.specs.WellTyped.{a_pointer, kind_of, IsCondition, Context, IsRvalue, IsLvalue, IsFold}
+use Rattle.tm_typed.specs.WellTyped.{IsSort, IsRated, IsOperand, OnAnswer, IsLawful}
+use Rattle.c_expr_rules.proofs.low.c_folds.ConvertedValues.{converted_is_in}
 use Rattle.c_expr_typing.proofs.WellTypedRules.{on_row, on_row_not, integer_fits, truth_fits, converted_fits, refused_row, condition_of, and_left, and_right, truth_is_in, IsBoth, on_row_unless, paired_fits, right_fits}
 
 complement_fold_fits : (t : IntType) (f : Fold) → IsFold t (Rules.complement_fold t f)

@@ -1,14 +1,14 @@
 -- What the rules make of well-formed operands is well-formed.
 use Rattle.std.proofs.Common.{◌≡◌, refl, ap, subst, ℕ, ℤ, pos, Bool, true, false, cond, not, ◌&&◌, Option, Some, None, Result, Ok, Err}
-use Rattle.tm_cint.specs.declared.int_types.IntType.{IntType}
-use Rattle.tm_cint.specs.declared.int_types.IntType.TheVariants as Ints
-use Rattle.tm_cint.specs.declared.operators.BinOp.{BinOp}
-use Rattle.tm_cint.specs.declared.operators.BinOp.TheVariants as Ops
-use Rattle.tm_cint.specs.declared.Class.{Class}
-use Rattle.tm_cint.specs.IntTypes.{IsIn}
-use Rattle.tm_cint.specs.Conversions.{promoted_type, converted_value, is_zero, truth}
-use Rattle.tm_cint.specs.Operators.{outcome, result_type, IsRightOperand}
-use Rattle.tm_cint.proofs.Values.{outcome-in, zero_in, truth-in}
+use Rattle.tm_terms.specs.tm_cint.declared.int_types.IntType.{IntType}
+use Rattle.tm_terms.specs.tm_cint.declared.int_types.IntType.TheVariants as Ints
+use Rattle.tm_terms.specs.tm_cint.declared.operators.BinOp.{BinOp}
+use Rattle.tm_terms.specs.tm_cint.declared.operators.BinOp.TheVariants as Ops
+use Rattle.tm_terms.specs.tm_cint.declared.Class.{Class}
+use Rattle.tm_terms.specs.tm_cint.IntTypes.{IsIn}
+use Rattle.tm_terms.specs.tm_cint.Conversions.{promoted_type, converted_value, is_zero, truth}
+use Rattle.tm_terms.specs.tm_cint.Operators.{outcome, result_type, IsRightOperand}
+use Rattle.tm_terms.proofs.low.tm_cint.Values.{outcome-in, zero_in, truth-in}
 use Rattle.tm_terms.specs.declared.places.Place.{Place}
 use Rattle.tm_terms.specs.declared.tokens.Name.{Name}
 use Rattle.tm_terms.specs.declared.refusals.Kind.{Kind as RefusalKind}
@@ -25,16 +25,25 @@ use Rattle.tm_typed.specs.declared.operands.Sort.{Sort}
 use Rattle.tm_typed.specs.declared.operands.Sort.TheVariants as Sorts
 use Rattle.tm_typed.specs.declared.scopes.Member.{Member}
 use Rattle.tm_typed.specs.Types.{is_same_int}
-use Rattle.tm_typed.specs.TypedTrees.{RvalueTree, LvalueTree, a_binary, a_comma, a_conversion, an_assignment, Rated, OperandTree, an_lvalue, a_value, an_object, an_element, a_pointed_element, a_pointed, an_arrow, a_part}
+use Rattle.tm_typed.specs.TypedTrees.{RvalueTree, LvalueTree, a_binary, a_comma, a_conversion}
+use Rattle.tm_typed.specs.TypedTrees.{an_assignment, Rated, OperandTree, an_lvalue, a_value, an_object}
+use Rattle.tm_typed.specs.TypedTrees.{an_element, a_pointed_element, a_pointed, an_arrow, a_part}
 use Rattle.tm_typed.specs.Rules
 use Rattle.tm_typed.specs.Operands
 use Rattle.tm_typed.specs.Refusals
 use Rattle.tm_typed.specs.Refusals.{row, row_unless, then_with}
 use Rattle.tm_typed.specs.Scopes.{ctype_of, entry, named, is_complete, member_of}
-use Rattle.tm_typed.specs.Operands.{made, integer_made, truth_made, converted, loaded, valued, scalar_of, is_integer, is_condition}
-use Rattle.tm_typed.specs.Rules.{name_rules, is_shift, right_type, working_type, FitsRight, fold_outcome, values_fold, both_folds, binary_fold, binary_made, binary_typed, integers_rules, dereference_rules, move_rules, sum_rules, pointer_subscript, lvalue_subscript, subscript_rules, dot_by, dot_rules, arrow_by, arrow_rules}
-use Rattle.tm_typed.specs.WellTyped.{ValueKind, a_number, a_pointer, kind_of, kind_of_scalar, IsCondition, Context, IsRvalue, IsLvalue, IsFold, IsSort, IsRated, IsOperand, OnAnswer, IsLawful}
-use Rattle.c_folds.proofs.ConvertedValues.{converted_is_in, same_type_fits}
+use Rattle.tm_typed.specs.Operands.{made, integer_made, truth_made, converted, loaded, valued, scalar_of}
+use Rattle.tm_typed.specs.Operands.{is_integer, is_condition}
+use Rattle.tm_typed.specs.Rules.{name_rules, is_shift, right_type, working_type, FitsRight, fold_outcome}
+use Rattle.tm_typed.specs.Rules.{values_fold, both_folds, binary_fold, binary_made, binary_typed}
+use Rattle.tm_typed.specs.Rules.{integers_rules, dereference_rules, move_rules, sum_rules}
+use Rattle.tm_typed.specs.Rules.{pointer_subscript, lvalue_subscript, subscript_rules, dot_by, dot_rules}
+use Rattle.tm_typed.specs.Rules.{arrow_by, arrow_rules}
+use Rattle.tm_typed.specs.WellTyped.{ValueKind, a_number, a_pointer, kind_of, kind_of_scalar, IsCondition}
+use Rattle.tm_typed.specs.WellTyped.{Context, IsRvalue, IsLvalue, IsFold, IsSort, IsRated, IsOperand}
+use Rattle.tm_typed.specs.WellTyped.{OnAnswer, IsLawful}
+use Rattle.c_expr_rules.proofs.low.c_folds.ConvertedValues.{converted_is_in, same_type_fits}
 
 -- ## The frame
 

@@ -1,10 +1,10 @@
 -- What typing gives is well-formed.
 use Rattle.std.proofs.Common.{◌≡◌, refl, ℕ, suc, ◌+◌, pos, Bool, true, false, cond, ◌&&◌, List, [], ◌∷◌, Option, Some, None, Result, Ok, Err, ap}
 use Rattle.std.specs.Prelude.{slice_get}
-use Rattle.tm_cint.specs.declared.int_types.IntType.{IntType}
-use Rattle.tm_cint.specs.declared.int_types.IntType.TheVariants as Ints
-use Rattle.tm_cint.specs.IntTypes.{IsIn}
-use Rattle.tm_cint.specs.declared.operators.BinOp.TheVariants as Ops
+use Rattle.tm_terms.specs.tm_cint.declared.int_types.IntType.{IntType}
+use Rattle.tm_terms.specs.tm_cint.declared.int_types.IntType.TheVariants as Ints
+use Rattle.tm_terms.specs.tm_cint.IntTypes.{IsIn}
+use Rattle.tm_terms.specs.tm_cint.declared.operators.BinOp.TheVariants as Ops
 use Rattle.tm_terms.specs.declared.places.Place.{Place}
 use Rattle.tm_terms.specs.declared.refusals.Kind.TheVariants as RefusalKinds
 use Rattle.tm_terms.specs.declared.refusals.Refusal.{Refusal}
@@ -19,7 +19,10 @@ use Rattle.tm_terms.specs.declared.exprs.Postfix.TheVariants as Postfixes
 use Rattle.tm_terms.specs.declared.exprs.Access.{Access}
 use Rattle.tm_terms.specs.declared.exprs.Access.TheVariants as Accesses
 use Rattle.tm_terms.specs.declared.tokens.Name.{Name}
-use Rattle.tm_terms.specs.ExprTrees.{Tree, a_name, an_integer, a_character, in_parentheses, an_input, an_islocked, a_call, a_prefix, a_sizeof_type, a_cast, an_infix, a_conditional, a_subscript, a_member, a_postfix, Arguments, no_arguments, and_argument}
+use Rattle.tm_terms.specs.ExprTrees.{Tree, a_name, an_integer, a_character, in_parentheses, an_input}
+use Rattle.tm_terms.specs.ExprTrees.{an_islocked, a_call, a_prefix, a_sizeof_type, a_cast, an_infix}
+use Rattle.tm_terms.specs.ExprTrees.{a_conditional, a_subscript, a_member, a_postfix, Arguments}
+use Rattle.tm_terms.specs.ExprTrees.{no_arguments, and_argument}
 use Rattle.tm_typed.specs.declared.scopes.Named.{Named}
 use Rattle.tm_typed.specs.declared.scopes.Named.TheVariants as Names
 use Rattle.tm_typed.specs.declared.types.Qualified.{Qualified}
@@ -31,7 +34,8 @@ use Rattle.tm_typed.specs.declared.types.CastType.{CastType}
 use Rattle.tm_typed.specs.declared.types.Scalar.{Scalar}
 use Rattle.tm_typed.specs.declared.types.Scalar.TheVariants as Scalars
 use Rattle.tm_typed.specs.TypedTrees as Typed
-use Rattle.tm_typed.specs.TypedTrees.{RvalueTree, LvalueTree, RvalueTrees, no_rvalues, and_rvalue, Rated, OperandTree, an_lvalue, a_value}
+use Rattle.tm_typed.specs.TypedTrees.{RvalueTree, LvalueTree, RvalueTrees, no_rvalues, and_rvalue, Rated}
+use Rattle.tm_typed.specs.TypedTrees.{OperandTree, an_lvalue, a_value}
 use Rattle.tm_typed.specs.Rules
 use Rattle.tm_typed.specs.Operands
 use Rattle.tm_typed.specs.Refusals
@@ -40,11 +44,12 @@ use Rattle.tm_typed.specs.Scopes.{Function, ctype_of, entry, named}
 use Rattle.tm_typed.specs.Operands.{made, valued, given, scalar_of}
 use Rattle.tm_typed.specs.Typing
 use Rattle.tm_typed.specs.Typing.{CastTypes, typing, typing_all, calls}
-use Rattle.tm_typed.specs.WellTyped.{a_pointer, kind_of, kind_of_scalar, AreArguments, Context, IsRvalue, IsSort, IsRated, IsOperand, OnAnswer, IsLawful}
+use Rattle.tm_typed.specs.WellTyped.{a_pointer, kind_of, kind_of_scalar, AreArguments, Context, IsRvalue}
+use Rattle.tm_typed.specs.WellTyped.{IsSort, IsRated, IsOperand, OnAnswer, IsLawful}
 use Rattle.c_expr_typing.proofs.WellTypedRules.{converted_fits, on_row, on_then, integer_fits, OnSome, on_row_unless, valued_fits, name_fits, dereference_fits, minus_fits, not_fits, address_fits, binary_fits, comma_fits, assignment_fits, subscript_fits, dot_fits, as_pointer_fits, on_choice}
 use Rattle.c_expr_typing.proofs.WellTypedMore
-use Rattle.c_folds.proofs.ConvertedValues.{converted_is_in}
-use Rattle.tm_cint.specs.Conversions.{converted_value}
+use Rattle.c_expr_rules.proofs.low.c_folds.ConvertedValues.{converted_is_in}
+use Rattle.tm_terms.specs.tm_cint.Conversions.{converted_value}
 
 prefix_fits : (w : Context) → IsLawful w → (op : Prefix) (p : Place) (o : OperandTree) → IsOperand w o → OnAnswer (IsOperand w) (Typing.prefix_rules w.scope op p o)
 prefix_fits w law Prefixes.Increment p (an_lvalue l q) h = WellTypedMore.step_fits w _ p l q (ctype_of w.scope q.number) refl h

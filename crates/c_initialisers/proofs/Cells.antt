@@ -5,7 +5,8 @@ use Rattle.std.proofs.Math.Bool.{and-false}
 use Rattle.tm_typed.specs.declared.types.Scalar.{Scalar}
 use Rattle.tm_typed.specs.declared.scopes.Member.{Member}
 use Rattle.tm_typed.specs.Scopes.{Scope, or_else, entry, ctype_of}
-use Rattle.tm_typed.specs.StaticValues.{part_at, Found, a_scalar, inside, nowhere, look_in, scalar_in, scalar_at, is_same_scalar, stand_from}
+use Rattle.tm_typed.specs.StaticValues.{part_at, Found, a_scalar, inside, nowhere, look_in, scalar_in}
+use Rattle.tm_typed.specs.StaticValues.{scalar_at, is_same_scalar, stand_from}
 
 -- the member that is found so far, or a later one
 pub part_step : (c : ℕ) (m : Member) (ms : List Member) (last : Option Member) →

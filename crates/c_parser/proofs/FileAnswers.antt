@@ -4,7 +4,8 @@ use Rattle.tm_terms.specs.declared.places.Place.{Place}
 use Rattle.tm_terms.specs.declared.refusals.Refusal.{Refusal}
 use Rattle.tm_terms.specs.declared.tokens.Token.{Token}
 use Rattle.tm_trees.specs.FileTrees.{ItemTree}
-use Rattle.tm_trees.specs.Parsing.{first_deep, deep, syntax_error, IsPlaceOf, Parses, too_deep, spells, spells_none}
+use Rattle.tm_trees.specs.Parsing.{first_deep, deep, syntax_error, IsPlaceOf, Parses, too_deep, spells}
+use Rattle.tm_trees.specs.Parsing.{spells_none}
 use Rattle.c_parser.specs.reading.FileDescent.{file}
 use Rattle.c_parser.proofs.FileSound.{file_sound}
 use Rattle.c_parser.proofs.FileComplete.{file_none}

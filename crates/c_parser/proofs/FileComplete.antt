@@ -14,10 +14,18 @@ use Rattle.tm_terms.specs.ExprSpelling.{BySign, ByName, SpellsPointers, BeginsWi
 use Rattle.c_expr_parser.specs.declared.marks.Mark.TheVariants as Marks
 use Rattle.c_expr_parser.specs.reading.Parts.{then_read, after, pointer_at, begins_by, begins_type}
 use Rattle.c_expr_parser.proofs.Tokens.{false_true, none_some, after_spelled}
-use Rattle.tm_trees.specs.DeclarationTrees.{DeclaratorTree, declarator_height, SpecifierTree, SpecifierTrees, as_specifiers, count_as, specifiers_height, InitDeclaratorTree, init_declarators_height}
-use Rattle.tm_trees.specs.DeclarationSpelling.{SpellsSpecifiers, SpellsDeclarator, SpellsInitDeclarators, is_file_list, is_typedef_list, with_declared}
-use Rattle.tm_trees.specs.FileTrees.{PartTrees, ParameterTree, a_named_parameter, an_unnamed_parameter, ParametersTree, only_void, some_parameters, FunctionTree, ItemTree, a_declaration, a_function, an_empty_item, a_mutex, a_task, parameter_height, tallest_parameter, parameters_height, body_height, item_height, tallest_item}
-use Rattle.tm_trees.specs.FileSpelling.{SpellsParameter, SpellsMoreParameters, SpellsParameters, SpellsBody, SpellsFunction, SpellsItem, SpellsItems}
+use Rattle.tm_trees.specs.DeclarationTrees.{DeclaratorTree, declarator_height, SpecifierTree}
+use Rattle.tm_trees.specs.DeclarationTrees.{SpecifierTrees, as_specifiers, count_as, specifiers_height}
+use Rattle.tm_trees.specs.DeclarationTrees.{InitDeclaratorTree, init_declarators_height}
+use Rattle.tm_trees.specs.DeclarationSpelling.{SpellsSpecifiers, SpellsDeclarator, SpellsInitDeclarators}
+use Rattle.tm_trees.specs.DeclarationSpelling.{is_file_list, is_typedef_list, with_declared}
+use Rattle.tm_trees.specs.FileTrees.{PartTrees, ParameterTree, a_named_parameter, an_unnamed_parameter}
+use Rattle.tm_trees.specs.FileTrees.{ParametersTree, only_void, some_parameters, FunctionTree, ItemTree}
+use Rattle.tm_trees.specs.FileTrees.{a_declaration, a_function, an_empty_item, a_mutex, a_task}
+use Rattle.tm_trees.specs.FileTrees.{parameter_height, tallest_parameter, parameters_height, body_height}
+use Rattle.tm_trees.specs.FileTrees.{item_height, tallest_item}
+use Rattle.tm_trees.specs.FileSpelling.{SpellsParameter, SpellsMoreParameters, SpellsParameters}
+use Rattle.tm_trees.specs.FileSpelling.{SpellsBody, SpellsFunction, SpellsItem, SpellsItems}
 use Rattle.tm_trees.specs.Parsing.{IsFileOf}
 use Rattle.c_decl_parser.specs.reading.DeclarationDescent.{pointers, specifiers}
 use Rattle.c_parser.specs.reading.FileDescent.{only_void_at, declares, parameter_by, parameter_after, parameter, list_by, parameters_by, parameters, function_body_by, function_body, behind_function, function_after, function_by, behind_pointers, undeclared_by, behind_specifiers, declared_item, mutex_item, task_item, item_word, item_shape, item, is_end, items_from, file}

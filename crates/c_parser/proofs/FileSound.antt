@@ -14,11 +14,17 @@ use Rattle.tm_terms.specs.declared.types_named.PointerWord.{PointerWord}
 use Rattle.tm_terms.specs.ExprSpelling.{Begins, BySign, SpellsPointers, BeginsWithStar, is_type_name_list}
 use Rattle.c_expr_parser.specs.declared.marks.Mark.TheVariants as Marks
 use Rattle.c_expr_parser.specs.reading.Parts.{then_read, after}
-use Rattle.c_expr_parser.proofs.Tokens.{none_some, from_some, after_finds, then_read_some, and_after_some, cond_some}
+use Rattle.c_expr_parser.proofs.Tokens.{none_some, from_some, after_finds, then_read_some}
+use Rattle.c_expr_parser.proofs.Tokens.{and_after_some, cond_some}
 use Rattle.tm_trees.specs.DeclarationTrees.{SpecifierTree, as_specifiers, count_as, specifiers_height}
 use Rattle.tm_trees.specs.DeclarationSpelling.{ByWord, SpellsSpecifiers, is_file_list, is_typedef_list}
-use Rattle.tm_trees.specs.FileTrees.{PartTrees, ParameterTree, a_named_parameter, an_unnamed_parameter, ParametersTree, only_void, some_parameters, ItemTree, a_declaration, a_function, an_empty_item, a_mutex, a_task, parameter_height, tallest_parameter, parameters_height, body_height, item_height, tallest_item}
-use Rattle.tm_trees.specs.FileSpelling.{SpellsParameter, SpellsMoreParameters, SpellsParameters, SpellsBody, SpellsItem, SpellsItems}
+use Rattle.tm_trees.specs.FileTrees.{PartTrees, ParameterTree, a_named_parameter, an_unnamed_parameter}
+use Rattle.tm_trees.specs.FileTrees.{ParametersTree, only_void, some_parameters, ItemTree, a_declaration}
+use Rattle.tm_trees.specs.FileTrees.{a_function, an_empty_item, a_mutex, a_task, parameter_height}
+use Rattle.tm_trees.specs.FileTrees.{tallest_parameter, parameters_height, body_height, item_height}
+use Rattle.tm_trees.specs.FileTrees.{tallest_item}
+use Rattle.tm_trees.specs.FileSpelling.{SpellsParameter, SpellsMoreParameters, SpellsParameters}
+use Rattle.tm_trees.specs.FileSpelling.{SpellsBody, SpellsItem, SpellsItems}
 use Rattle.tm_trees.specs.Parsing.{IsFileOf}
 use Rattle.c_decl_parser.specs.reading.DeclarationDescent.{pointers}
 use Rattle.c_parser.specs.reading.FileDescent.{only_void_at, declares, parameter_by, parameter_after, parameter, list_by, parameters_by, parameters, function_body_by, function_body, function_name, behind_function, function_after, declared_by, function_by, behind_pointers, undeclared_by, behind_specifiers, declared_item, mutex_item, task_item, item_word, item_sign, item_shape, item, is_end, items_from, file}

@@ -13,10 +13,17 @@ use Rattle.c_expr_parser.specs.reading.Parts.{after}
 use Rattle.c_expr_parser.proofs.Tokens.{begins_shorter}
 use Rattle.c_expr_parser.proofs.Sound.{shorter, by_shorter}
 use Rattle.c_expr_parser.proofs.TypeReading.{pointers_shorter}
-use Rattle.tm_trees.specs.DeclarationTrees.{LengthTree, DeclaratorTree, a_declared_name, a_nested, count_as, InitialiserTree, InitDeclaratorTree}
-use Rattle.tm_trees.specs.DeclarationSpelling.{SpellsLengths, SpellsInitialiser, SpellsMoreInitDeclarators, SpellsInitDeclarators, is_typedef_list}
-use Rattle.tm_trees.specs.FileTrees.{PartTrees, ParameterTree, a_named_parameter, an_unnamed_parameter, ParametersTree, only_void, some_parameters, ItemTree, a_declaration, a_function, an_empty_item, a_mutex, a_task}
-use Rattle.tm_trees.specs.FileSpelling.{BeginsOnlyVoid, SpellsBlock, SpellsParameter, SpellsMoreParameters, SpellsParameters, SpellsBody, SpellsTaskHead, SpellsItem}
+use Rattle.tm_trees.specs.DeclarationTrees.{LengthTree, DeclaratorTree, a_declared_name, a_nested}
+use Rattle.tm_trees.specs.DeclarationTrees.{count_as, InitialiserTree, InitDeclaratorTree}
+use Rattle.tm_trees.specs.DeclarationSpelling.{SpellsLengths, SpellsInitialiser}
+use Rattle.tm_trees.specs.DeclarationSpelling.{SpellsMoreInitDeclarators, SpellsInitDeclarators}
+use Rattle.tm_trees.specs.DeclarationSpelling.{is_typedef_list}
+use Rattle.tm_trees.specs.FileTrees.{PartTrees, ParameterTree, a_named_parameter, an_unnamed_parameter}
+use Rattle.tm_trees.specs.FileTrees.{ParametersTree, only_void, some_parameters, ItemTree, a_declaration}
+use Rattle.tm_trees.specs.FileTrees.{a_function, an_empty_item, a_mutex, a_task}
+use Rattle.tm_trees.specs.FileSpelling.{BeginsOnlyVoid, SpellsBlock, SpellsParameter}
+use Rattle.tm_trees.specs.FileSpelling.{SpellsMoreParameters, SpellsParameters, SpellsBody}
+use Rattle.tm_trees.specs.FileSpelling.{SpellsTaskHead, SpellsItem}
 use Rattle.c_decl_parser.specs.reading.DeclarationDescent.{pointers}
 use Rattle.c_parser.specs.reading.FileDescent.{declares, function_name}
 use Rattle.c_decl_parser.proofs.MarkReading.{declared_spelled}

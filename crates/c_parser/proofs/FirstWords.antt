@@ -7,7 +7,8 @@ use Rattle.tm_terms.specs.declared.tokens.Token.{Token}
 use Rattle.tm_terms.specs.ExprSpelling.{BySign, ByName}
 use Rattle.c_expr_parser.specs.declared.marks.Mark.TheVariants as Marks
 use Rattle.c_expr_parser.specs.reading.Parts.{then_read, and_after}
-use Rattle.c_expr_parser.proofs.Tokens.{none_some, from_some, after_finds, after_spelled, then_read_some, and_after_some}
+use Rattle.c_expr_parser.proofs.Tokens.{none_some, from_some, after_finds, after_spelled}
+use Rattle.c_expr_parser.proofs.Tokens.{then_read_some, and_after_some}
 use Rattle.tm_trees.specs.DeclarationSpelling.{ByWord}
 use Rattle.tm_trees.specs.FileSpelling.{SpellsMutex, BeginsOnlyVoid, SpellsTaskHead}
 use Rattle.c_decl_parser.specs.declared.tokens.Keyword.{Keyword}

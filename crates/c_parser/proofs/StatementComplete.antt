@@ -13,8 +13,16 @@ use Rattle.c_expr_parser.proofs.Tokens.{after_spelled}
 use Rattle.c_expr_parser.proofs.FirstTokens.{no_type}
 use Rattle.tm_trees.specs.DeclarationTrees.{InitDeclaratorTree, optional_height}
 use Rattle.tm_trees.specs.DeclarationSpelling.{ByWord, SpellsOptional}
-use Rattle.tm_trees.specs.FileTrees.{ForFirstTree, by_expression, by_declaration, StatementTree, a_block, a_value, an_if, an_if_else, a_while, a_do, a_for, a_switch, a_break, a_continue, a_return, a_lock, an_unlock, a_yield, PartTree, a_local, a_step, PartTrees, no_parts, and_part, as_parts, CaseTree, a_case, a_default, a_case_step, CaseTrees, no_cases, and_case, as_cases, first_height, statement_height, part_height, parts_height, case_height, cases_height, block_height}
-use Rattle.tm_trees.specs.FileSpelling.{SpellsInParentheses, SpellsClosed, SpellsMutex, HasDeclarator, SpellsFirst, SpellsStatement, SpellsPart, SpellsParts, SpellsCase, SpellsCases, SpellsBlock}
+use Rattle.tm_trees.specs.FileTrees.{ForFirstTree, by_expression, by_declaration, StatementTree, a_block}
+use Rattle.tm_trees.specs.FileTrees.{a_value, an_if, an_if_else, a_while, a_do, a_for, a_switch, a_break}
+use Rattle.tm_trees.specs.FileTrees.{a_continue, a_return, a_lock, an_unlock, a_yield, PartTree, a_local}
+use Rattle.tm_trees.specs.FileTrees.{a_step, PartTrees, no_parts, and_part, as_parts, CaseTree, a_case}
+use Rattle.tm_trees.specs.FileTrees.{a_default, a_case_step, CaseTrees, no_cases, and_case, as_cases}
+use Rattle.tm_trees.specs.FileTrees.{first_height, statement_height, part_height, parts_height}
+use Rattle.tm_trees.specs.FileTrees.{case_height, cases_height, block_height}
+use Rattle.tm_trees.specs.FileSpelling.{SpellsInParentheses, SpellsClosed, SpellsMutex, HasDeclarator}
+use Rattle.tm_trees.specs.FileSpelling.{SpellsFirst, SpellsStatement, SpellsPart, SpellsParts, SpellsCase}
+use Rattle.tm_trees.specs.FileSpelling.{SpellsCases, SpellsBlock}
 use Rattle.c_decl_parser.specs.declared.tokens.Keyword.TheVariants as Keywords
 use Rattle.c_decl_parser.specs.reading.Parts.{in_parentheses}
 use Rattle.c_parser.specs.reading.FileDescent.{closed, has_declarator, first_by, first, for_head, Step, part_by, part, parts, case_part, else_by, if_form, while_form, do_form, for_form, switch_form, word_and_semicolon, return_form, lock_form, unlock_form, yield_form, value_form, statement_by, statement, inside, block}

@@ -13,11 +13,19 @@ use Rattle.tm_terms.specs.ExprTrees.{Tree, height}
 use Rattle.tm_terms.specs.ExprSpelling.{Begins, BySign}
 use Rattle.c_expr_parser.specs.declared.marks.Mark.TheVariants as Marks
 use Rattle.c_expr_parser.specs.reading.Parts.{begins_type}
-use Rattle.c_expr_parser.proofs.Tokens.{none_some, from_some, after_finds, then_read_some, and_after_some, cond_some}
+use Rattle.c_expr_parser.proofs.Tokens.{none_some, from_some, after_finds, then_read_some}
+use Rattle.c_expr_parser.proofs.Tokens.{and_after_some, cond_some}
 use Rattle.tm_trees.specs.DeclarationTrees.{InitDeclaratorTree, optional_height}
 use Rattle.tm_trees.specs.DeclarationSpelling.{ByWord, SpellsOptional}
-use Rattle.tm_trees.specs.FileTrees.{ForFirstTree, by_declaration, StatementTree, a_block, a_value, an_if, an_if_else, a_while, a_do, a_for, a_switch, a_break, a_continue, a_return, a_lock, an_unlock, a_yield, PartTree, PartTrees, as_parts, CaseTree, a_case, a_default, CaseTrees, as_cases, first_height, statement_height, part_height, parts_height, case_height, cases_height, block_height}
-use Rattle.tm_trees.specs.FileSpelling.{SpellsInParentheses, SpellsClosed, HasDeclarator, SpellsFirst, SpellsStatement, SpellsPart, SpellsParts, SpellsCase, SpellsCases, SpellsBlock}
+use Rattle.tm_trees.specs.FileTrees.{ForFirstTree, by_declaration, StatementTree, a_block, a_value, an_if}
+use Rattle.tm_trees.specs.FileTrees.{an_if_else, a_while, a_do, a_for, a_switch, a_break, a_continue}
+use Rattle.tm_trees.specs.FileTrees.{a_return, a_lock, an_unlock, a_yield, PartTree, PartTrees, as_parts}
+use Rattle.tm_trees.specs.FileTrees.{CaseTree, a_case, a_default, CaseTrees, as_cases, first_height}
+use Rattle.tm_trees.specs.FileTrees.{statement_height, part_height, parts_height, case_height}
+use Rattle.tm_trees.specs.FileTrees.{cases_height, block_height}
+use Rattle.tm_trees.specs.FileSpelling.{SpellsInParentheses, SpellsClosed, HasDeclarator, SpellsFirst}
+use Rattle.tm_trees.specs.FileSpelling.{SpellsStatement, SpellsPart, SpellsParts, SpellsCase, SpellsCases}
+use Rattle.tm_trees.specs.FileSpelling.{SpellsBlock}
 use Rattle.c_decl_parser.specs.declared.tokens.Keyword.TheVariants as Keywords
 use Rattle.c_decl_parser.specs.reading.Parts.{after_word, in_parentheses}
 use Rattle.c_parser.specs.reading.FileDescent.{closed, has_declarator, first_by, first, for_head, Step, part_by, part, parts, labelled, default_label, case_step, case_word, case_shape, case_part, else_by, if_form, while_form, do_form, for_form, switch_form, word_and_semicolon, return_form, lock_form, unlock_form, yield_form, value_form, statement_word, block_form, statement_sign, statement_shape, statement_by, statement, inside, block}

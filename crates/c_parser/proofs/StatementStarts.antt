@@ -16,10 +16,17 @@ use Rattle.c_expr_parser.specs.declared.marks.Mark.TheVariants as Marks
 use Rattle.c_expr_parser.specs.reading.Parts.{after, begins_type}
 use Rattle.c_expr_parser.proofs.Tokens.{false_true, none_some, begins_shorter}
 use Rattle.c_expr_parser.proofs.Sound.{shorter, by_shorter}
-use Rattle.c_expr_parser.proofs.FirstTokens.{Starts, by_name, by_integer, by_character, by_sizeof, by_input, by_islocked, by_parenthesis, by_operator, started}
+use Rattle.c_expr_parser.proofs.FirstTokens.{Starts, by_name, by_integer, by_character, by_sizeof}
+use Rattle.c_expr_parser.proofs.FirstTokens.{by_input, by_islocked, by_parenthesis, by_operator}
+use Rattle.c_expr_parser.proofs.FirstTokens.{started}
 use Rattle.tm_trees.specs.DeclarationSpelling.{ByWord, SpellsOptional}
-use Rattle.tm_trees.specs.FileTrees.{ForFirstTree, by_expression, by_declaration, StatementTree, a_block, a_value, an_if, an_if_else, a_while, a_do, a_for, a_switch, a_break, a_continue, a_return, a_lock, an_unlock, a_yield, PartTree, a_local, a_step, PartTrees, no_parts, and_part, CaseTree, a_case, a_default, a_case_step, CaseTrees, no_cases, and_case}
-use Rattle.tm_trees.specs.FileSpelling.{SpellsInParentheses, SpellsClosed, SpellsMutex, SpellsFirst, SpellsStatement, SpellsPart, SpellsParts, SpellsCase, SpellsCases}
+use Rattle.tm_trees.specs.FileTrees.{ForFirstTree, by_expression, by_declaration, StatementTree, a_block}
+use Rattle.tm_trees.specs.FileTrees.{a_value, an_if, an_if_else, a_while, a_do, a_for, a_switch, a_break}
+use Rattle.tm_trees.specs.FileTrees.{a_continue, a_return, a_lock, an_unlock, a_yield, PartTree, a_local}
+use Rattle.tm_trees.specs.FileTrees.{a_step, PartTrees, no_parts, and_part, CaseTree, a_case, a_default}
+use Rattle.tm_trees.specs.FileTrees.{a_case_step, CaseTrees, no_cases, and_case}
+use Rattle.tm_trees.specs.FileSpelling.{SpellsInParentheses, SpellsClosed, SpellsMutex, SpellsFirst}
+use Rattle.tm_trees.specs.FileSpelling.{SpellsStatement, SpellsPart, SpellsParts, SpellsCase, SpellsCases}
 use Rattle.c_parser.specs.reading.FileDescent.{Step, case_step, case_word, case_shape, case_part, value_form, statement_shape, statement_by}
 use Rattle.c_decl_parser.proofs.SpecifierStarts.{type_no_mark}
 use Rattle.c_decl_parser.proofs.DeclarationReading.{local_declaration_begins, local_declaration_shorter}

@@ -9,7 +9,9 @@ use Rattle.tm_typed.specs.declared.statements.TypedStatement.{TypedStatement}
 use Rattle.tm_typed.specs.declared.statements.TypedSwitchPart.{TypedSwitchPart}
 use Rattle.tm_typed.specs.States.{State}
 use Rattle.tm_typed.specs.Refusals.{Gives, then_with}
-use Rattle.tm_typed.specs.TypedStatements.{TypedTree, typed_tree, TypedTrees, no_statements, and_statement, as_typed_trees, TypedCase, typed_case, TypedCases, no_typed_cases, and_typed_case, as_typed_cases}
+use Rattle.tm_typed.specs.TypedStatements.{TypedTree, typed_tree, TypedTrees, no_statements}
+use Rattle.tm_typed.specs.TypedStatements.{and_statement, as_typed_trees, TypedCase, typed_case}
+use Rattle.tm_typed.specs.TypedStatements.{TypedCases, no_typed_cases, and_typed_case, as_typed_cases}
 use Rattle.tm_typed.specs.StatementRules.{Around, Labels}
 use Rattle.tm_typed.specs.StatementTyping.{part_in, parts_in, case_in, cases_in}
 

@@ -1,2 +1,3 @@
 pub mod SameTypes
 pub mod Orders
+pub mod low

@@ -21,11 +21,12 @@ use Rattle.pointer_dom.specs.Selections.{IsHullOfPointers, Reaches}
 use Rattle.pointer_dom.specs.Equality.{IsEqualityValue}
 use Rattle.pointer_dom.specs.laws.OffsetLaws.{same_members, same_hull}
 use Rattle.filters.specs.Partners.{Compares, HasPartner, IsAssumed}
-use Rattle.operator_values.specs.Integers as I
-use Rattle.operator_values.specs.SetsOfPointers as P
-use Rattle.operator_values.specs.Classes.{may_fail, may_fail_is, index_fails, index_fails_is, move_fails, move_fails_is}
-use Rattle.operator_values.specs.Classes.{dereference_fails, dereference_fails_is}
-use Rattle.operator_values.proofs.OneAnswer.{one_advance, one_hull}
+use Rattle.transfer_rows.specs.operator_values.Integers as I
+use Rattle.transfer_rows.specs.operator_values.SetsOfPointers as P
+use Rattle.transfer_rows.specs.operator_values.Classes.{may_fail, may_fail_is, index_fails, index_fails_is, move_fails}
+use Rattle.transfer_rows.specs.operator_values.Classes.{move_fails_is}
+use Rattle.transfer_rows.specs.operator_values.Classes.{dereference_fails, dereference_fails_is}
+use Rattle.transfer_rows.proofs.low.operator_values.OneAnswer.{one_advance, one_hull}
 use Rattle.transfer_rows.specs.StateForms.{State, value_of, only_numbers, only_pointers}
 use Rattle.transfer_rows.specs.Actions.{Calculation, copied, negated, complemented, operated, converted, compared, part, element, moved, dereferenced}
 use Rattle.transfer_rows.specs.Calculations.{calculated}

@@ -1,2 +1,3 @@
 pub mod Calculating
 pub mod StandingOffsets
+pub mod low

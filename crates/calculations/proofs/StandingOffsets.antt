@@ -3,7 +3,8 @@ use Rattle.std.specs.Prelude.{◌≡◌, ◌≢◌, ◌↔◌, ◌⊎◌, ℕ, �
 use Rattle.std.proofs.Common.{sym, ap, subst, ◌∙◌, inl, inr, arith}
 use Rattle.std.proofs.lemmas.Int.{ints}
 use Rattle.std.proofs.lemmas.Bool.{cases_eq, false≢true}
-use Rattle.strided_dom.specs.Progression.{Progression, empty, single, Has, IsHull, IsLeastNumber, IsGreatestNumber, first_of, last_of}
+use Rattle.strided_dom.specs.Progression.{Progression, empty, single, Has, IsHull, IsLeastNumber}
+use Rattle.strided_dom.specs.Progression.{IsGreatestNumber, first_of, last_of}
 use Rattle.strided_dom.specs.Combinations.{IsInEither}
 use Rattle.strided_dom.proofs.Members.{spaced_from, not_in_empty}
 use Rattle.pointer_dom.specs.OffsetSets.{OffsetSet, IsOffsetSet}

@@ -2,8 +2,8 @@
 ghost use Rattle.std.specs.Prelude.{◌≡◌, IfOk};
 ghost use Rattle.tm_cint.specs.Operators.{IsComparison};
 ghost use Rattle.pointer_dom.specs.Advances.{usable_pointers};
-ghost use Rattle.operator_values.specs.Integers.{left_assumed, right_assumed};
-ghost use Rattle.operator_values.specs.SetsOfPointers.{left_pointers, right_pointers};
+ghost use Rattle.transfer_rows.specs.operator_values.Integers.{left_assumed, right_assumed};
+ghost use Rattle.transfer_rows.specs.operator_values.SetsOfPointers.{left_pointers, right_pointers};
 ghost use Rattle.transfer_rows.specs.StateForms.{value_of, only_numbers, only_pointers};
 ghost use Rattle.transfer_rows.specs.Actions.{compared};
 ghost use Rattle.transfer_rows.specs.Calculations.{usable_values};

@@ -7,7 +7,7 @@ ghost use Rattle.pointer_dom.specs.PointerSets.{IsPointer};
 ghost use Rattle.pointer_dom.specs.Advances.{IsGiven};
 ghost use Rattle.pointer_dom.specs.Selections.{IsHullOfPointers, IsTarget, Reaches, IsStanding, AllStand, IsStandingIn};
 ghost use Rattle.pointer_dom.specs.Selections.{AllStandAt, AllStandIn};
-ghost use Rattle.tm_typed.specs.TypedFiles.{typed_file_tree};
+ghost use Rattle.tm_laid.specs.tm_typed.TypedFiles.{typed_file_tree};
 ghost use Rattle.tm_laid.specs.Layable.{IsLayable};
 ghost use Rattle.tm_laid.specs.Layouts.{laid_tree, is_alive, stands_at, path_at, is_on_path};
 ghost use Rattle.transfer_rows.specs.Actions.{dereferenced};

@@ -1,7 +1,8 @@
 -- The state of a task at a node: its live temporaries with their copies, and its cells.
 use Rattle.std.specs.Prelude.{ℕ, ◌+◌, List}
 use Rattle.tm_lattice.specs.Heights.{table_height}
-use Rattle.tm_lattice.specs.Tables.{Table, IsTable, IsTableBelow, joined_table, rounded_table, selected_table}
+use Rattle.tm_lattice.specs.Tables.{Table, IsTable, IsTableBelow, joined_table, rounded_table}
+use Rattle.tm_lattice.specs.Tables.{selected_table}
 use Rattle.cell_env.specs.declared.cells.CellState.{CellState}
 use Rattle.cell_env.specs.declared.temps.TempState.{TempState}
 use Rattle.cell_env.specs.Cells.{IsCell, IsCellBelow, joined_cell, rounded_cell, cell_height}

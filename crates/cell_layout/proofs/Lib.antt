@@ -12,3 +12,4 @@ pub mod CoreSteps
 pub mod PathTrees
 pub mod CellPairs
 pub mod PathCalls
+pub mod low

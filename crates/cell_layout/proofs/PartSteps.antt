@@ -4,7 +4,7 @@ use Rattle.std.specs.Prelude.{All}
 use Rattle.std.proofs.lemmas.Bool.{leb-true}
 use Rattle.std.proofs.lemmas.List.{map-append, reverse-append, reverse-reverse}
 use Rattle.std.proofs.lemmas.List.Elements.{All-nil, All-cons, All-head, All-tail, All-append}
-use Rattle.tm_cint.specs.declared.int_types.IntType.{IntType}
+use Rattle.tm_terms.specs.tm_cint.declared.int_types.IntType.{IntType}
 use Rattle.tm_typed.specs.declared.types.Qualified.{Qualified}
 use Rattle.tm_typed.specs.declared.types.CType.{CType}
 use Rattle.tm_typed.specs.declared.types.CType.TheVariants as Types

@@ -7,7 +7,8 @@ use Rattle.tm_typed.specs.Scopes.{cells_of}
 use Rattle.tm_laid.specs.declared.cells.LaidCell.{LaidCell}
 use Rattle.tm_laid.specs.TypeCells.{cells_of_type}
 use Rattle.tm_laid.specs.Layable.{tables_of, IsLayable}
-use Rattle.tm_laid.specs.Layouts.{LaidTree, object_at, begins_with, scalars_of_type, scalars_from, stands_at}
+use Rattle.tm_laid.specs.Layouts.{LaidTree, object_at, begins_with, scalars_of_type, scalars_from}
+use Rattle.tm_laid.specs.Layouts.{stands_at}
 use Rattle.cell_types.specs.reading.Descents.{is_same_cell}
 use Rattle.cell_types.proofs.Lists.{get_drop, get_take, past_take, begins_next, shorter, dropped_all}
 use Rattle.cell_types.proofs.Types.{length_of, large, column_of}

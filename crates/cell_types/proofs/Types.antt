@@ -10,7 +10,9 @@ use Rattle.tm_typed.specs.declared.types.Scalar.TheVariants as Scalars
 use Rattle.tm_typed.specs.declared.scopes.Member.{Member}
 use Rattle.tm_typed.specs.Scopes.{cells_of}
 use Rattle.tm_typed.specs.Files.{TypedFileTree}
-use Rattle.tm_laid.specs.TypeCells.{TypeCell, entry_of, structure_in, is_smashed, summed, count_by, cell_count, abstract_cells_of_type, type_depth, cells_of_type, elements, in_members, cells_by, type_cells}
+use Rattle.tm_laid.specs.TypeCells.{TypeCell, entry_of, structure_in, is_smashed, summed, count_by}
+use Rattle.tm_laid.specs.TypeCells.{cell_count, abstract_cells_of_type, type_depth, cells_of_type}
+use Rattle.tm_laid.specs.TypeCells.{elements, in_members, cells_by, type_cells}
 use Rattle.tm_laid.specs.Layouts.{scalars_of_type}
 use Rattle.tm_laid.specs.Layable.{tables_of, IsLayable}
 use Rattle.tm_laid.proofs.TypeDepth.{cells_open, type_cells_open}

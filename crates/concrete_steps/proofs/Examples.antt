@@ -5,20 +5,27 @@ use Rattle.tm_cint.specs.declared.int_types.IntType.TheVariants as Ints
 use Rattle.tm_cint.specs.declared.operators.BinOp.TheVariants as Ops
 use Rattle.tm_terms.specs.declared.places.Place.{Place}
 use Rattle.tm_terms.specs.declared.tokens.Name.{Name}
-use Rattle.tm_typed.specs.declared.types.Qualified.{Qualified}
-use Rattle.tm_typed.specs.declared.types.CType.TheVariants as Types
-use Rattle.tm_typed.specs.declared.types.TypeEntry.{TypeEntry}
-use Rattle.tm_typed.specs.declared.types.Scalar.{Scalar}
-use Rattle.tm_typed.specs.declared.types.Scalar.TheVariants as Scalars
-use Rattle.tm_typed.specs.declared.scopes.ObjectNumber.TheVariants.{Static, Local}
-use Rattle.tm_typed.specs.Types.{first_types}
-use Rattle.tm_typed.specs.TypedTrees.{RvalueTree, a_constant, a_load, an_address, a_binary, a_move, an_and, an_assignment, a_compound, a_unit_step, a_function_call, LvalueTree, an_object, an_element, a_pointed, no_rvalues, and_rvalue}
-use Rattle.tm_typed.specs.TypedStatements.{TypedTree, evaluates, declares, runs_block, branches, loops_while, loops_do, loops_for, selects, breaks, continues, returns, TypedTrees, no_statements, and_statement, a_label, a_default_label, a_labelled_step, no_typed_cases, and_typed_case}
-use Rattle.tm_typed.specs.Files.{TypedFunctionTree}
-use Rattle.tm_laid.specs.declared.objects.LaidObject.{LaidObject}
-use Rattle.tm_laid.specs.declared.cells.LaidCell.{LaidCell}
-use Rattle.tm_laid.specs.TypeCells.{type_cells}
-use Rattle.tm_laid.specs.Layouts.{LaidTree}
+use Rattle.concrete_values.specs.tm_typed.declared.types.Qualified.{Qualified}
+use Rattle.concrete_values.specs.tm_typed.declared.types.CType.TheVariants as Types
+use Rattle.concrete_values.specs.tm_typed.declared.types.TypeEntry.{TypeEntry}
+use Rattle.concrete_values.specs.tm_typed.declared.types.Scalar.{Scalar}
+use Rattle.concrete_values.specs.tm_typed.declared.types.Scalar.TheVariants as Scalars
+use Rattle.concrete_values.specs.tm_typed.declared.scopes.ObjectNumber.TheVariants.{Static, Local}
+use Rattle.concrete_values.specs.tm_typed.Types.{first_types}
+use Rattle.concrete_values.specs.tm_typed.TypedTrees.{RvalueTree, a_constant, a_load, an_address, a_binary, a_move}
+use Rattle.concrete_values.specs.tm_typed.TypedTrees.{an_and, an_assignment, a_compound, a_unit_step, a_function_call}
+use Rattle.concrete_values.specs.tm_typed.TypedTrees.{LvalueTree, an_object, an_element, a_pointed, no_rvalues}
+use Rattle.concrete_values.specs.tm_typed.TypedTrees.{and_rvalue}
+use Rattle.concrete_values.specs.tm_typed.TypedStatements.{TypedTree, evaluates, declares, runs_block, branches}
+use Rattle.concrete_values.specs.tm_typed.TypedStatements.{loops_while, loops_do, loops_for, selects, breaks, continues}
+use Rattle.concrete_values.specs.tm_typed.TypedStatements.{returns, TypedTrees, no_statements, and_statement, a_label}
+use Rattle.concrete_values.specs.tm_typed.TypedStatements.{a_default_label, a_labelled_step, no_typed_cases}
+use Rattle.concrete_values.specs.tm_typed.TypedStatements.{and_typed_case}
+use Rattle.concrete_values.specs.tm_typed.Files.{TypedFunctionTree}
+use Rattle.concrete_values.specs.tm_laid.declared.objects.LaidObject.{LaidObject}
+use Rattle.concrete_values.specs.tm_laid.declared.cells.LaidCell.{LaidCell}
+use Rattle.concrete_values.specs.tm_laid.TypeCells.{type_cells}
+use Rattle.concrete_values.specs.tm_laid.Layouts.{LaidTree}
 use Rattle.concrete_values.specs.declared.values.Pointer.TheVariants as Pointers
 use Rattle.concrete_values.specs.declared.values.Value.TheVariants.{Number, Pointer as APointer}
 use Rattle.concrete_values.specs.declared.values.Answer.{Answer}

@@ -3,3 +3,4 @@ pub mod WorldExamples
 pub mod Refusals
 pub mod Reached
 pub mod Moving
+pub mod low

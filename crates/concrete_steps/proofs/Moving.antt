@@ -5,8 +5,8 @@ use Rattle.std.proofs.lemmas.Bool.{eq-eqb, eqb-true, lt-ltb, ltb-true}
 use Rattle.std.proofs.lemmas.Option.{slice_get_within}
 use Rattle.tm_cint.specs.Conversions.{is_zero}
 use Rattle.tm_terms.specs.declared.places.Place.{Place}
-use Rattle.tm_typed.specs.declared.types.Scalar.{Scalar}
-use Rattle.tm_laid.specs.Layouts.{LaidTree, cell_at, cell_of}
+use Rattle.concrete_values.specs.tm_typed.declared.types.Scalar.{Scalar}
+use Rattle.concrete_values.specs.tm_laid.Layouts.{LaidTree, cell_at, cell_of}
 use Rattle.concrete_values.specs.declared.values.Value.{Value}
 use Rattle.concrete_values.specs.declared.values.Value.TheVariants.{Number}
 use Rattle.concrete_values.specs.declared.values.Answer.{Answer}

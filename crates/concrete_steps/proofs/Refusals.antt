@@ -4,8 +4,8 @@ use Rattle.tm_cint.specs.Conversions.{is_zero}
 use Rattle.tm_cint.specs.declared.Class.{Class}
 use Rattle.tm_cint.specs.declared.Class.TheVariants as Classes
 use Rattle.tm_terms.specs.declared.places.Place.{Place}
-use Rattle.tm_typed.specs.declared.types.Scalar.{Scalar}
-use Rattle.tm_laid.specs.Layouts.{LaidTree, cell_of}
+use Rattle.concrete_values.specs.tm_typed.declared.types.Scalar.{Scalar}
+use Rattle.concrete_values.specs.tm_laid.Layouts.{LaidTree, cell_of}
 use Rattle.concrete_values.specs.declared.values.Value.TheVariants.{Number}
 use Rattle.concrete_values.specs.declared.actions.Next.{Next}
 use Rattle.concrete_values.specs.declared.actions.Next.TheVariants as Acts

@@ -5,18 +5,20 @@ use Rattle.tm_cint.specs.declared.int_types.IntType.TheVariants as Ints
 use Rattle.tm_cint.specs.declared.operators.BinOp.TheVariants as Ops
 use Rattle.tm_terms.specs.declared.places.Place.{Place}
 use Rattle.tm_terms.specs.declared.tokens.Name.{Name}
-use Rattle.tm_typed.specs.declared.types.Scalar.{Scalar}
-use Rattle.tm_typed.specs.declared.types.Scalar.TheVariants as Scalars
-use Rattle.tm_typed.specs.declared.scopes.ObjectNumber.TheVariants.{Static, Local}
-use Rattle.tm_typed.specs.declared.files.TypedTask.{TypedTask}
-use Rattle.tm_typed.specs.Types.{first_types}
-use Rattle.tm_typed.specs.TypedTrees.{RvalueTree, a_constant, a_load, a_binary, an_assignment, a_probe, an_object}
-use Rattle.tm_typed.specs.TypedStatements.{TypedTree, declares, evaluates, locks, unlocks, yields, loops_while, TypedTrees, no_statements, and_statement}
-use Rattle.tm_typed.specs.Files.{TypedFunctionTree}
-use Rattle.tm_laid.specs.declared.paths.CallPath.{CallPath}
-use Rattle.tm_laid.specs.declared.objects.LaidObject.{LaidObject}
-use Rattle.tm_laid.specs.declared.objects.Initial.TheVariants as Initials
-use Rattle.tm_laid.specs.Layouts.{LaidTree}
+use Rattle.concrete_values.specs.tm_typed.declared.types.Scalar.{Scalar}
+use Rattle.concrete_values.specs.tm_typed.declared.types.Scalar.TheVariants as Scalars
+use Rattle.concrete_values.specs.tm_typed.declared.scopes.ObjectNumber.TheVariants.{Static, Local}
+use Rattle.concrete_values.specs.tm_typed.declared.files.TypedTask.{TypedTask}
+use Rattle.concrete_values.specs.tm_typed.Types.{first_types}
+use Rattle.concrete_values.specs.tm_typed.TypedTrees.{RvalueTree, a_constant, a_load, a_binary, an_assignment, a_probe}
+use Rattle.concrete_values.specs.tm_typed.TypedTrees.{an_object}
+use Rattle.concrete_values.specs.tm_typed.TypedStatements.{TypedTree, declares, evaluates, locks, unlocks, yields}
+use Rattle.concrete_values.specs.tm_typed.TypedStatements.{loops_while, TypedTrees, no_statements, and_statement}
+use Rattle.concrete_values.specs.tm_typed.Files.{TypedFunctionTree}
+use Rattle.concrete_values.specs.tm_laid.declared.paths.CallPath.{CallPath}
+use Rattle.concrete_values.specs.tm_laid.declared.objects.LaidObject.{LaidObject}
+use Rattle.concrete_values.specs.tm_laid.declared.objects.Initial.TheVariants as Initials
+use Rattle.concrete_values.specs.tm_laid.Layouts.{LaidTree}
 use Rattle.concrete_values.specs.declared.values.Value.TheVariants.{Number}
 use Rattle.concrete_values.specs.Values.{is_true, number_of, pointer_of, number_in}
 use Rattle.concrete_values.specs.Operators.{binary}

@@ -2,7 +2,7 @@
 use Rattle.std.specs.Prelude.{◌≡◌, ◌≢◌, ℕ, true, false, map}
 use Rattle.tm_cint.specs.declared.Class.{Class}
 use Rattle.tm_terms.specs.declared.places.Place.{Place}
-use Rattle.tm_laid.specs.Layouts.{LaidTree}
+use Rattle.concrete_values.specs.tm_laid.Layouts.{LaidTree}
 use Rattle.concrete_values.specs.declared.actions.Next.{Next}
 use Rattle.concrete_values.specs.declared.actions.Next.TheVariants as Acts
 use Rattle.concrete_steps.specs.declared.worlds.Status.TheVariants.{Blocked, Done}

@@ -1,18 +1,22 @@
 -- What the form of an expression tells: its place, and whether its value is a pointer.
 use Rattle.std.specs.Prelude.{Bool, true, false, get_or}
 use Rattle.tm_terms.specs.declared.places.Place.{Place}
-use Rattle.tm_typed.specs.TypedTrees.{RvalueTree, a_constant, a_folded, a_null, a_load, an_address, a_structure}
-use Rattle.tm_typed.specs.TypedTrees.{the_same, a_unary, a_binary, a_comparison_of_pointers, a_move, a_not, an_and}
-use Rattle.tm_typed.specs.TypedTrees.{an_or, a_choice, an_assignment, a_compound, a_compound_move, a_unit_step}
-use Rattle.tm_typed.specs.TypedTrees.{a_pointer_step, a_function_call, an_input_value, a_probe, a_comma, a_conversion}
-use Rattle.tm_typed.specs.TypedTrees.{a_discard, lvalue_place}
-use Rattle.tm_typed.specs.declared.types.CType.{CType}
-use Rattle.tm_typed.specs.declared.types.Scalar.{Scalar}
-use Rattle.tm_typed.specs.declared.types.Scalar.TheVariants as Scalars
-use Rattle.tm_typed.specs.TypeRows.{is_pointer_type}
-use Rattle.tm_typed.specs.Files.{TypedFunctionTree, no_typed_function}
-use Rattle.tm_laid.specs.TypeCells.{entry_of}
-use Rattle.tm_laid.specs.Layouts.{LaidTree}
+use Rattle.concrete_values.specs.tm_typed.TypedTrees.{RvalueTree, a_constant, a_folded, a_null, a_load, an_address}
+use Rattle.concrete_values.specs.tm_typed.TypedTrees.{a_structure}
+use Rattle.concrete_values.specs.tm_typed.TypedTrees.{the_same, a_unary, a_binary, a_comparison_of_pointers, a_move}
+use Rattle.concrete_values.specs.tm_typed.TypedTrees.{a_not, an_and}
+use Rattle.concrete_values.specs.tm_typed.TypedTrees.{an_or, a_choice, an_assignment, a_compound, a_compound_move}
+use Rattle.concrete_values.specs.tm_typed.TypedTrees.{a_unit_step}
+use Rattle.concrete_values.specs.tm_typed.TypedTrees.{a_pointer_step, a_function_call, an_input_value, a_probe, a_comma}
+use Rattle.concrete_values.specs.tm_typed.TypedTrees.{a_conversion}
+use Rattle.concrete_values.specs.tm_typed.TypedTrees.{a_discard, lvalue_place}
+use Rattle.concrete_values.specs.tm_typed.declared.types.CType.{CType}
+use Rattle.concrete_values.specs.tm_typed.declared.types.Scalar.{Scalar}
+use Rattle.concrete_values.specs.tm_typed.declared.types.Scalar.TheVariants as Scalars
+use Rattle.concrete_values.specs.tm_typed.TypeRows.{is_pointer_type}
+use Rattle.concrete_values.specs.tm_typed.Files.{TypedFunctionTree, no_typed_function}
+use Rattle.concrete_values.specs.tm_laid.TypeCells.{entry_of}
+use Rattle.concrete_values.specs.tm_laid.Layouts.{LaidTree}
 
 -- that of its operator, or of the name or constant
 abbrev pub rvalue_place : RvalueTree → Place

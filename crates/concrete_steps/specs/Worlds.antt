@@ -6,12 +6,12 @@ use Rattle.tm_cint.specs.Conversions.{is_zero}
 use Rattle.tm_cint.specs.declared.Class.{Class}
 use Rattle.tm_cint.specs.declared.Class.TheVariants as Classes
 use Rattle.tm_terms.specs.declared.places.Place.{Place}
-use Rattle.tm_typed.specs.declared.types.Scalar.{Scalar}
-use Rattle.tm_typed.specs.declared.types.Scalar.TheVariants as Scalars
-use Rattle.tm_typed.specs.declared.files.TypedTask.{TypedTask}
-use Rattle.tm_laid.specs.declared.objects.Initial.{Initial}
-use Rattle.tm_laid.specs.declared.objects.Initial.TheVariants as Initials
-use Rattle.tm_laid.specs.Layouts.{LaidTree, object_at, cell_at, cell_of}
+use Rattle.concrete_values.specs.tm_typed.declared.types.Scalar.{Scalar}
+use Rattle.concrete_values.specs.tm_typed.declared.types.Scalar.TheVariants as Scalars
+use Rattle.concrete_values.specs.tm_typed.declared.files.TypedTask.{TypedTask}
+use Rattle.concrete_values.specs.tm_laid.declared.objects.Initial.{Initial}
+use Rattle.concrete_values.specs.tm_laid.declared.objects.Initial.TheVariants as Initials
+use Rattle.concrete_values.specs.tm_laid.Layouts.{LaidTree, object_at, cell_at, cell_of}
 use Rattle.concrete_values.specs.declared.values.Pointer.TheVariants as Pointers
 use Rattle.concrete_values.specs.declared.values.Value.{Value}
 use Rattle.concrete_values.specs.declared.values.Value.TheVariants.{Number, Pointer as APointer}

@@ -1,9 +1,9 @@
 -- The actions of a task, and the answers that fit them.
 use Rattle.std.specs.Prelude.{ℕ, ℤ, pos, ◌&&◌, int_le, Bool, true, false, if◌then◌else◌, Option, Some, None, is_some}
 use Rattle.tm_cint.specs.IntTypes.{is_in}
-use Rattle.tm_terms.specs.declared.places.Place.{Place}
-use Rattle.tm_typed.specs.declared.types.Scalar.{Scalar}
-use Rattle.tm_typed.specs.declared.types.Scalar.TheVariants as Scalars
+use Rattle.tm_laid.specs.tm_terms.declared.places.Place.{Place}
+use Rattle.tm_laid.specs.tm_typed.declared.types.Scalar.{Scalar}
+use Rattle.tm_laid.specs.tm_typed.declared.types.Scalar.TheVariants as Scalars
 use Rattle.tm_laid.specs.Layouts.{LaidTree}
 use Rattle.concrete_values.specs.declared.values.Pointer.{Pointer}
 use Rattle.concrete_values.specs.declared.values.Pointer.TheVariants as Pointers

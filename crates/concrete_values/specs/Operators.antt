@@ -6,8 +6,8 @@ use Rattle.tm_cint.specs.declared.operators.BinOp.{BinOp}
 use Rattle.tm_cint.specs.declared.operators.BinOp.TheVariants as Ops
 use Rattle.tm_cint.specs.Conversions.{converted_value, represents_all}
 use Rattle.tm_cint.specs.Operators.{outcome, is_same}
-use Rattle.tm_typed.specs.declared.expressions.Unary.{Unary}
-use Rattle.tm_typed.specs.declared.expressions.Unary.TheVariants as Unaries
+use Rattle.tm_laid.specs.tm_typed.declared.expressions.Unary.{Unary}
+use Rattle.tm_laid.specs.tm_typed.declared.expressions.Unary.TheVariants as Unaries
 use Rattle.concrete_values.specs.declared.values.Value.{Value}
 use Rattle.concrete_values.specs.declared.values.Value.TheVariants.{Number}
 use Rattle.concrete_values.specs.Values.{number_of, number_in}

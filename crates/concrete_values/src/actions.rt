@@ -7,9 +7,7 @@ ghost use Rattle.concrete_values.specs.Actions.{done_to, answer_of};
 use crate::pointers::{is_pointer, size_of};
 use crate::values::{Answer, Pointer, Value, nothing, pointer_of};
 use tm_cint::Class;
-use tm_laid::Laid;
-use tm_terms::Place;
-use tm_typed::Scalar;
+use tm_laid::{Laid, Place, Scalar};
 
 /// What a task does next: an action for which it waits for the answer, or what ends it.
 #[derive(Clone, Copy)]

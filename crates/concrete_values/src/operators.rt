@@ -7,7 +7,7 @@ ghost use Rattle.concrete_values.specs.Operators.{number_result, right_number, b
 
 use crate::values::{Value, number_in, number_of};
 use tm_cint::{BinOp, Class, IntType, arith, convert};
-use tm_typed::Unary;
+use tm_laid::Unary;
 
 // A number as a value, or the class of an error.
 fn number_result(number: Result<i128, Class>) -> Result<Value, Class>

@@ -1,3 +1,4 @@
 pub mod Congruences
 pub mod Quotients
 pub mod Ranges
+pub mod low

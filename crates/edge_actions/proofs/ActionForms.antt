@@ -14,10 +14,10 @@ use Rattle.tm_typed.specs.declared.types.Scalar.{Scalar}
 use Rattle.tm_typed.specs.declared.types.Scalar.TheVariants as Scalars
 use Rattle.tm_typed.specs.declared.expressions.Unary.TheVariants as Unaries
 use Rattle.tm_laid.specs.Layouts.{LaidTree, object_at, abstract_at}
-use Rattle.concrete_values.specs.declared.values.Pointer.{Pointer}
-use Rattle.concrete_values.specs.declared.values.Pointer.TheVariants as Pointers
-use Rattle.concrete_values.specs.declared.values.Value.{Value}
-use Rattle.concrete_values.specs.declared.values.Value.TheVariants as Constant
+use Rattle.flow_graph.specs.concrete_values.declared.values.Pointer.{Pointer}
+use Rattle.flow_graph.specs.concrete_values.declared.values.Pointer.TheVariants as Pointers
+use Rattle.flow_graph.specs.concrete_values.declared.values.Value.{Value}
+use Rattle.flow_graph.specs.concrete_values.declared.values.Value.TheVariants as Constant
 use Rattle.flow_graph.specs.declared.operations.Test.{Test}
 use Rattle.flow_graph.specs.declared.operations.Test.TheVariants as Tests
 use Rattle.flow_graph.specs.declared.operations.Operation.{Operation}

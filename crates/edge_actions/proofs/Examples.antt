@@ -1,14 +1,14 @@
 -- Edges as actions on a small layout, with the spots and constants that one finds by hand.
 use Rattle.std.specs.Prelude.{◌≡◌, ℕ, true, false, pos, negsuc, [], ◌∷◌, Some, None, refl}
 use Rattle.strided_dom.specs.Progression.{single, row, empty}
-use Rattle.tm_cint.specs.declared.int_types.IntType.TheVariants.{Int, Char}
-use Rattle.tm_cint.specs.declared.operators.BinOp.TheVariants.{Lt, Ge, Ne}
+use Rattle.tm_terms.specs.tm_cint.declared.int_types.IntType.TheVariants.{Int, Char}
+use Rattle.tm_terms.specs.tm_cint.declared.operators.BinOp.TheVariants.{Lt, Ge, Ne}
 use Rattle.tm_typed.specs.declared.types.Scalar.TheVariants as Scalars
 use Rattle.tm_typed.specs.Files.{TypedFileTree}
 use Rattle.tm_terms.specs.declared.places.Place.{Place}
 use Rattle.tm_laid.specs.declared.objects.LaidObject.{LaidObject}
 use Rattle.tm_laid.specs.Layouts.{LaidTree}
-use Rattle.concrete_values.specs.declared.values.Pointer.TheVariants as Pointers
+use Rattle.flow_graph.specs.concrete_values.declared.values.Pointer.TheVariants as Pointers
 use Rattle.flow_graph.specs.declared.operations.Into.TheVariants as Into
 use Rattle.flow_graph.specs.declared.operations.Test.TheVariants as Tests
 use Rattle.flow_graph.specs.declared.operations.Operation.TheVariants as Op

@@ -5,14 +5,17 @@ use Rattle.std.proofs.lemmas.List.{append-nil, append_assoc, drop_more, get_or_p
 use Rattle.std.specs.List.{list_all, list_any}
 use Rattle.std.specs.Ordering.{nat_cmp}
 use Rattle.std.specs.FinMap.{find, is_sorted, get, entries, get-entries, entries_sorted}
-use Rattle.tm_lattice.specs.laws.Keys.{AllAbove, AllAbove-rest, is_sorted-rest, find-here, find-there, find_below, AllAbove-lower}
+use Rattle.tm_lattice.specs.laws.Keys.{AllAbove, AllAbove-rest, is_sorted-rest, find-here, find-there}
+use Rattle.tm_lattice.specs.laws.Keys.{find_below, AllAbove-lower}
 use Rattle.std.proofs.lemmas.Int.{ints}
-use Rattle.strided_dom.specs.Progression.{Progression, Has, IsLeastNumber, IsGreatestNumber, first_of, last_of}
+use Rattle.strided_dom.specs.Progression.{Progression, Has, IsLeastNumber, IsGreatestNumber, first_of}
+use Rattle.strided_dom.specs.Progression.{last_of}
 use Rattle.strided_dom.proofs.Members.{spaced_from, not_in_empty}
 use Rattle.pointer_dom.specs.OffsetSets.{OffsetSet, IsOffsetSet, no_offset}
 use Rattle.pointer_dom.specs.PointerSets.{Pointers, offsets_or_none, offsets_at}
 use Rattle.tm_typed.specs.declared.types.Scalar.{Scalar}
-use Rattle.tm_laid.specs.Layouts.{LaidTree, object_at, no_object, cell_at, cell_of, abstract_of, is_same_scalar}
+use Rattle.tm_laid.specs.Layouts.{LaidTree, object_at, no_object, cell_at, cell_of, abstract_of}
+use Rattle.tm_laid.specs.Layouts.{is_same_scalar}
 use Rattle.transfer_rows.specs.Actions.{Spot}
 use Rattle.transfer_rows.specs.Accesses.{has_number, leads, targets_at}
 use Rattle.transfer_rows.proofs.Leading.{number_is, is_number}

@@ -3,3 +3,4 @@ pub mod Examples
 pub mod LeadingCells
 pub mod Lists
 pub mod Ranges
+pub mod low

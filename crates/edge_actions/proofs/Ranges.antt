@@ -3,7 +3,7 @@ use Rattle.std.specs.Prelude.{◌≡◌, zero, suc, ℤ, pos, negsuc, ◌-ℤ◌
 use Rattle.std.proofs.Common.{arith}
 use Rattle.std.proofs.lemmas.Int.{ints}
 use Rattle.strided_dom.specs.Progression.{Progression, Has, IsSpaced, IsExactly, IsInReach}
-use Rattle.tm_numbers.proofs.Congruences.{cong_up}
+use Rattle.strided_dom.proofs.low.tm_numbers.Congruences.{cong_up}
 use Rattle.pointer_dom.specs.laws.OffsetLaws.{same_members}
 use Rattle.edge_actions.specs.Layouts.{numbers_up, numbers_between}
 

@@ -2,22 +2,22 @@
 use Rattle.std.specs.Prelude.{ℕ, ◌+◌, ◌&&◌, nat_le, nat_lt, pos, Bool, true, false, cond, not, Option, Some, None}
 use Rattle.std.specs.FinMap as map
 use Rattle.strided_dom.specs.Progression.{single}
-use Rattle.tm_cint.specs.declared.operators.BinOp.TheVariants.{Eq, Ne}
+use Rattle.tm_terms.specs.tm_cint.declared.operators.BinOp.TheVariants.{Eq, Ne}
 use Rattle.tm_typed.specs.declared.expressions.Unary.{Unary}
 use Rattle.tm_typed.specs.declared.expressions.Unary.TheVariants.{Negate, Complement}
-use Rattle.tm_cint.specs.declared.int_types.IntType.{IntType}
+use Rattle.tm_terms.specs.tm_cint.declared.int_types.IntType.{IntType}
 use Rattle.tm_laid.specs.Layouts.{LaidTree, laid_tree, object_at, abstract_at, is_alive, stands_at}
-use Rattle.concrete_values.specs.declared.values.Pointer.{Pointer}
-use Rattle.concrete_values.specs.declared.values.Pointer.TheVariants.{Null, Invalid, To}
-use Rattle.concrete_values.specs.declared.values.Value.{Value}
-use Rattle.concrete_values.specs.declared.values.Value.TheVariants as Constant
+use Rattle.flow_graph.specs.concrete_values.declared.values.Pointer.{Pointer}
+use Rattle.flow_graph.specs.concrete_values.declared.values.Pointer.TheVariants.{Null, Invalid, To}
+use Rattle.flow_graph.specs.concrete_values.declared.values.Value.{Value}
+use Rattle.flow_graph.specs.concrete_values.declared.values.Value.TheVariants as Constant
 use Rattle.flow_graph.specs.declared.operations.Test.{Test}
 use Rattle.flow_graph.specs.declared.operations.Test.TheVariants.{Numbers, Pointers, Truth, Case}
 use Rattle.flow_graph.specs.declared.operations.Operation.{Operation}
 use Rattle.flow_graph.specs.declared.operations.Operation.TheVariants as Op
 use Rattle.pointer_dom.specs.PointerSets.{Pointers as PointerSet, no_pointer, pointer_to}
 use Rattle.pointer_dom.specs.Values.{Values}
-use Rattle.interfere_set.specs.Stores.{reader_of}
+use Rattle.transfer_rows.specs.interfere_set.Stores.{reader_of}
 use Rattle.transfer_rows.specs.StateForms.{only_numbers, only_pointers}
 use Rattle.transfer_rows.specs.Actions.{Calculation, constant, copied, negated, complemented, operated, converted}
 use Rattle.transfer_rows.specs.Actions.{compared}

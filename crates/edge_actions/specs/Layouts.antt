@@ -4,11 +4,12 @@ use Rattle.std.specs.Prelude.{length}
 use Rattle.std.specs.Prelude.{Option, Some, None}
 use Rattle.std.specs.FinMap as map
 use Rattle.strided_dom.specs.Progression.{Progression, empty, single, row}
-use Rattle.tm_cint.specs.declared.int_types.IntType.{IntType}
-use Rattle.tm_cint.specs.IntTypes.{lo_of, hi_of}
+use Rattle.tm_terms.specs.tm_cint.declared.int_types.IntType.{IntType}
+use Rattle.tm_terms.specs.tm_cint.IntTypes.{lo_of, hi_of}
 use Rattle.tm_typed.specs.declared.types.Scalar.{Scalar}
 use Rattle.tm_typed.specs.declared.types.Scalar.TheVariants.{Int, Pointer}
-use Rattle.tm_laid.specs.Layouts.{LaidTree, path_at, object_at, cell_at, cell_of, abstract_of, abstract_at, is_shared}
+use Rattle.tm_laid.specs.Layouts.{LaidTree, path_at, object_at, cell_at, cell_of, abstract_of, abstract_at}
+use Rattle.tm_laid.specs.Layouts.{is_shared}
 use Rattle.tm_laid.specs.Layouts.{is_same_scalar}
 use Rattle.pointer_dom.specs.PointerSets.{Pointers}
 use Rattle.pointer_dom.specs.Values.{Values}

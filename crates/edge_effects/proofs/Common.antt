@@ -3,9 +3,9 @@ use Rattle.std.specs.Prelude.{◌≡◌, ◌≢◌, ◌↔◌, ◌⊎◌, ℕ, B
 use Rattle.std.proofs.Common.{sym, ap, ◌∙◌, inl, inr}
 use Rattle.std.proofs.lemmas.Bool.{eq-eqb, ne_eqb}
 use Rattle.pointer_dom.specs.Values.{Values, no_value}
-use Rattle.transfer_rows.specs.StateForms.{is_no_value}
-use Rattle.transfer_rows.specs.Accesses.{is_among}
-use Rattle.transfer_rows.proofs.Steps.{no_value_is, none_is_none}
+use Rattle.calculations.specs.transfer_rows.StateForms.{is_no_value}
+use Rattle.calculations.specs.transfer_rows.Accesses.{is_among}
+use Rattle.calculations.proofs.low.transfer_rows.Steps.{no_value_is, none_is_none}
 
 pub decided : (b : Bool) → (b ≡ true) ⊎ (b ≡ false)
 decided true = inl refl

@@ -2,17 +2,18 @@
 use Rattle.std.specs.Prelude.{◌≡◌, ◌↔◌, ℕ, IsTrue, List, [], Some, None}
 use Rattle.std.proofs.Common.{sym, ap, subst, ◌∙◌}
 use Rattle.std.specs.Option.{option_map}
-use Rattle.tm_cint.specs.declared.Class.{Class}
+use Rattle.tm_typed.specs.tm_cint.declared.Class.{Class}
 use Rattle.pointer_dom.specs.Values.{Values}
 use Rattle.interfere_set.specs.Stores.{Interferences, no_interference}
 use Rattle.transfer_int.specs.Outcomes.{notes}
-use Rattle.transfer_rows.specs.StateForms.{State, value_of}
-use Rattle.transfer_rows.specs.Actions.{Spot, Around, Calculation, constant, skips, gives, loads, loads_any}
-use Rattle.transfer_rows.specs.Calculations.{calculated}
-use Rattle.transfer_rows.specs.Accesses.{targets_at, single_of}
-use Rattle.transfer_rows.specs.Rows.{given, arrived, loaded, new_copy, after_load_any, effect}
-use Rattle.transfer_rows.specs.Contributions.{added}
-use Rattle.transfer_rows.specs.Reports.{targets_of, CalculationMayFail, IsListed}
+use Rattle.calculations.specs.transfer_rows.StateForms.{State, value_of}
+use Rattle.calculations.specs.transfer_rows.Actions.{Spot, Around, Calculation, constant, skips, gives, loads}
+use Rattle.calculations.specs.transfer_rows.Actions.{loads_any}
+use Rattle.calculations.specs.transfer_rows.Calculations.{calculated}
+use Rattle.calculations.specs.transfer_rows.Accesses.{targets_at, single_of}
+use Rattle.calculations.specs.transfer_rows.Rows.{given, arrived, loaded, new_copy, after_load_any, effect}
+use Rattle.calculations.specs.transfer_rows.Contributions.{added}
+use Rattle.calculations.specs.transfer_rows.Reports.{targets_of, CalculationMayFail, IsListed}
 use Rattle.calculations.specs.declared.values.Calculated.{Calculated}
 use Rattle.calculations.specs.Given.{no_class, IsCalculated}
 use Rattle.transfer_int.specs.declared.outcomes.Classes.{Classes}

@@ -10,12 +10,12 @@ use Rattle.tm_lattice.specs.Tables.{Table}
 use Rattle.tm_lattice.specs.laws.TableLaws.{same_table, get-insert_here, get-insert_there}
 use Rattle.tm_lattice.specs.laws.SelectedLaws.{changed_at, get-changed_table}
 use Rattle.pointer_dom.specs.Values.{Values, no_value}
-use Rattle.transfer_rows.specs.StateForms.{Temp, Cell, State, is_no_value}
-use Rattle.transfer_rows.specs.Actions.{Around}
-use Rattle.transfer_rows.specs.Accesses.{is_among}
-use Rattle.transfer_rows.specs.Rows.{kept_copy, dropped, given, arrived}
-use Rattle.transfer_rows.proofs.TableChanges.{get-kept}
-use Rattle.transfer_rows.proofs.Steps.{none_is_none}
+use Rattle.calculations.specs.transfer_rows.StateForms.{Temp, Cell, State, is_no_value}
+use Rattle.calculations.specs.transfer_rows.Actions.{Around}
+use Rattle.calculations.specs.transfer_rows.Accesses.{is_among}
+use Rattle.calculations.specs.transfer_rows.Rows.{kept_copy, dropped, given, arrived}
+use Rattle.calculations.proofs.low.transfer_rows.TableChanges.{get-kept}
+use Rattle.calculations.proofs.low.transfer_rows.Steps.{none_is_none}
 use Rattle.edge_effects.proofs.Common.{among_more_here, among_more_there}
 
 module _ {V : Type 0} (before : Table V) where

@@ -1,13 +1,13 @@
 -- What the code of an edge gives.
 use Rattle.std.specs.Prelude.{◌≡◌, ◌↔◌, IsTrue}
-use Rattle.tm_cint.specs.declared.Class.{Class}
+use Rattle.tm_typed.specs.tm_cint.declared.Class.{Class}
 use Rattle.transfer_int.specs.Outcomes.{notes}
 use Rattle.interfere_set.specs.Stores.{Interferences}
-use Rattle.transfer_rows.specs.StateForms.{State}
-use Rattle.transfer_rows.specs.Actions.{Around, Action}
-use Rattle.transfer_rows.specs.Rows.{after}
-use Rattle.transfer_rows.specs.Contributions.{added}
-use Rattle.transfer_rows.specs.Reports.{targets_of, IsListed}
+use Rattle.calculations.specs.transfer_rows.StateForms.{State}
+use Rattle.calculations.specs.transfer_rows.Actions.{Around, Action}
+use Rattle.calculations.specs.transfer_rows.Rows.{after}
+use Rattle.calculations.specs.transfer_rows.Contributions.{added}
+use Rattle.calculations.specs.transfer_rows.Reports.{targets_of, IsListed}
 use Rattle.edge_effects.specs.declared.views.After.{After}
 
 -- the state after the action, what it adds to the store, the abstract cells that it reaches, and exactly the classes of

@@ -1,6 +1,6 @@
 -- Which copies end.
 use Rattle.std.specs.Prelude.{ℕ, ◌+◌, ◌&&◌, nat_le, nat_lt, Bool, true, false}
-use Rattle.transfer_rows.specs.Accesses.{is_among}
+use Rattle.calculations.specs.transfer_rows.Accesses.{is_among}
 use Rattle.edge_effects.specs.declared.temps.Ending.{Ending}
 use Rattle.edge_effects.specs.declared.temps.Ending.TheVariants.{Nowhere, Everywhere, Among, Between}
 

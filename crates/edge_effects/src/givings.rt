@@ -2,7 +2,7 @@
 ghost use Rattle.std.specs.Prelude.{◌≡◌, IfOk};
 ghost use Rattle.tm_laid.specs.Layouts.{laid_tree};
 ghost use Rattle.interfere_set.specs.Stores.{Interferences};
-ghost use Rattle.transfer_rows.specs.Actions.{Calculation, constant, gives, skips};
+ghost use Rattle.calculations.specs.transfer_rows.Actions.{Calculation, constant, gives, skips};
 ghost use Rattle.calculations.specs.Given.{IsCalculated};
 ghost use Rattle.edge_actions.specs.Edges.{around_of, pointer_value, pointer_within};
 ghost use Rattle.edge_effects.specs.Effects.{IsAfter};

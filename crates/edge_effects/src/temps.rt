@@ -3,9 +3,9 @@ ghost use Rattle.std.specs.Prelude.{◌≡◌, IfOk, Option};
 ghost use Rattle.std.specs.Option.{option_map};
 ghost use Rattle.std.specs.FinMap.{retain_keys, insert};
 ghost use Rattle.tm_lattice.specs.Tables.{Table};
-ghost use Rattle.transfer_rows.specs.StateForms.{Temp};
-ghost use Rattle.transfer_rows.specs.Accesses.{is_among};
-ghost use Rattle.transfer_rows.specs.Rows.{kept_copy, dropped, given, arrived};
+ghost use Rattle.calculations.specs.transfer_rows.StateForms.{Temp};
+ghost use Rattle.calculations.specs.transfer_rows.Accesses.{is_among};
+ghost use Rattle.calculations.specs.transfer_rows.Rows.{kept_copy, dropped, given, arrived};
 ghost use Rattle.edge_actions.specs.Edges.{around_of};
 ghost use Rattle.edge_effects.specs.Endings.{is_ended};
 

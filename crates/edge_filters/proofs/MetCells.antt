@@ -12,10 +12,10 @@ use Rattle.tm_lattice.specs.laws.SelectedLaws.{changed_at, get-changed_table}
 use Rattle.pointer_dom.specs.OffsetSets.{OffsetSet, IsOffsetSet, HasNoOffset, IsOffsetsBelow}
 use Rattle.pointer_dom.specs.PointerSets.{Pointers, IsMeet, IsMeetAt}
 use Rattle.pointer_dom.specs.Values.{Values, IsValues, IsValuesBelow, IsValuesMeet}
-use Rattle.operator_values.specs.MetValues.{met_values}
-use Rattle.operator_values.proofs.OneAnswer.{one_meet}
-use Rattle.transfer_rows.specs.StateForms.{Cell}
-use Rattle.transfer_rows.specs.Rows.{met_where}
+use Rattle.calculations.specs.operator_values.MetValues.{met_values}
+use Rattle.calculations.proofs.low.operator_values.OneAnswer.{one_meet}
+use Rattle.calculations.specs.transfer_rows.StateForms.{Cell}
+use Rattle.calculations.specs.transfer_rows.Rows.{met_where}
 
 -- ---- a value that has only what is left is what both have
 

@@ -3,11 +3,11 @@ ghost use Rattle.std.specs.Prelude.{◌≡◌, IfOk, Option};
 ghost use Rattle.std.specs.Option.{option_map};
 ghost use Rattle.tm_lattice.specs.Tables.{changed_table};
 ghost use Rattle.pointer_dom.specs.Values.{Values};
-ghost use Rattle.operator_values.specs.MetValues.{met_values};
-ghost use Rattle.transfer_rows.specs.Actions.{temporary, fixed};
-ghost use Rattle.transfer_rows.specs.Rows.{met_where, refined, is_contradicted, after_refined, side_refined};
-ghost use Rattle.transfer_rows.specs.StateForms.{is_no_value, own_of};
-ghost use Rattle.transfer_rows.specs.Rows.{then_refined, arrived};
+ghost use Rattle.calculations.specs.operator_values.MetValues.{met_values};
+ghost use Rattle.calculations.specs.transfer_rows.Actions.{temporary, fixed};
+ghost use Rattle.calculations.specs.transfer_rows.Rows.{met_where, refined, is_contradicted, after_refined, side_refined};
+ghost use Rattle.calculations.specs.transfer_rows.StateForms.{is_no_value, own_of};
+ghost use Rattle.calculations.specs.transfer_rows.Rows.{then_refined, arrived};
 ghost use Rattle.edge_actions.specs.Edges.{around_of};
 
 use cell_env::{CellState, State, TempState};

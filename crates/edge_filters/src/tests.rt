@@ -2,10 +2,10 @@
 ghost use Rattle.std.specs.Prelude.{◌≡◌, IfOk, cond};
 ghost use Rattle.strided_dom.specs.Progression.{single, IsInReach};
 ghost use Rattle.tm_cint.specs.Operators.{IsComparison};
-ghost use Rattle.interfere_set.specs.Stores.{Interferences};
-ghost use Rattle.transfer_rows.specs.StateForms.{only_numbers, only_pointers};
-ghost use Rattle.transfer_rows.specs.Actions.{temporary, fixed, numbers_compare, pointers_compare, usable, refines};
-ghost use Rattle.transfer_rows.specs.Rows.{after_filter};
+ghost use Rattle.calculations.specs.interfere_set.Stores.{Interferences};
+ghost use Rattle.calculations.specs.transfer_rows.StateForms.{only_numbers, only_pointers};
+ghost use Rattle.calculations.specs.transfer_rows.Actions.{temporary, fixed, numbers_compare, pointers_compare, usable, refines};
+ghost use Rattle.calculations.specs.transfer_rows.Rows.{after_filter};
 ghost use Rattle.edge_actions.specs.Edges.{around_of, filter_of, only_null};
 ghost use Rattle.edge_effects.specs.Effects.{IsAfter};
 ghost use Rattle.edge_filters.specs.Tests.{IsTestable};

@@ -2,9 +2,9 @@
 use Rattle.std.specs.Prelude.{◌≡◌, refl, ℕ, pos, List, [], ◌∷◌, Option, Some, None, false, true}
 use Rattle.std.specs.FinMap.{insert, empty as no_entry}
 use Rattle.strided_dom.specs.Progression.{single}
-use Rattle.tm_cint.specs.declared.int_types.IntType.TheVariants.{Int}
-use Rattle.tm_typed.specs.declared.types.Scalar.TheVariants as Scalars
-use Rattle.tm_typed.specs.Files.{TypedFileTree}
+use Rattle.tm_laid.specs.tm_cint.declared.int_types.IntType.TheVariants.{Int}
+use Rattle.tm_laid.specs.tm_typed.declared.types.Scalar.TheVariants as Scalars
+use Rattle.tm_laid.specs.tm_typed.Files.{TypedFileTree}
 use Rattle.tm_laid.specs.declared.objects.LaidObject.{LaidObject}
 use Rattle.tm_laid.specs.declared.objects.Initial.TheVariants as Initials
 use Rattle.tm_laid.specs.declared.cells.LaidCell.{LaidCell}
@@ -16,10 +16,10 @@ use Rattle.mutex_configs.specs.declared.nodes.ConfiguredNode.{ConfiguredNode}
 use Rattle.pointer_dom.specs.PointerSets.{pointer_to}
 use Rattle.pointer_dom.specs.Values.{Values, no_value, joined_values}
 use Rattle.cell_env.specs.States.{joined_state}
-use Rattle.transfer_rows.specs.StateForms.{Cell, State, only_numbers, only_pointers}
+use Rattle.edge_actions.specs.transfer_rows.StateForms.{Cell, State, only_numbers, only_pointers}
 use Rattle.edge_actions.specs.Layouts.{open_value}
-use Rattle.least_tables.specs.Solutions.{at}
-use Rattle.program_equations.specs.Entries.{initial_of, first_state, later_state, ended_in}
+use Rattle.body_systems.specs.least_tables.Solutions.{at}
+use Rattle.body_systems.specs.program_equations.Entries.{initial_of, first_state, later_state, ended_in}
 
 abbrev object : Option ℕ → ℕ → ℕ → ℕ → LaidObject
 object owner first cells told = record no_object {

@@ -5,16 +5,16 @@ use Rattle.std.proofs.lemmas.List.{get_or-set_same, get_or-set_other, get_or-rep
 use Rattle.std.proofs.lemmas.Bool.{eqb-true, eqb-false}
 use Rattle.std.proofs.lemmas.Option.{slice_get-get_or}
 use Rattle.strided_dom.specs.Progression.{IsInReach, Has, empty, single}
-use Rattle.tm_typed.specs.declared.types.Scalar.{Scalar}
-use Rattle.tm_typed.specs.declared.types.Scalar.TheVariants as Scalars
+use Rattle.tm_laid.specs.tm_typed.declared.types.Scalar.{Scalar}
+use Rattle.tm_laid.specs.tm_typed.declared.types.Scalar.TheVariants as Scalars
 use Rattle.tm_laid.specs.declared.objects.Initial.{Initial}
 use Rattle.tm_laid.specs.declared.objects.Initial.TheVariants as Initials
 use Rattle.tm_laid.specs.Layouts.{LaidTree, abstract_at, cell_at}
-use Rattle.transfer_int.proofs.BitSets.{value_reaches}
+use Rattle.edge_actions.proofs.low.transfer_int.BitSets.{value_reaches}
 use Rattle.pointer_dom.specs.Values.{Values, no_value, joined_values}
-use Rattle.transfer_rows.specs.StateForms.{only_numbers}
-use Rattle.typed_values.specs.Types.{IsOfType}
-use Rattle.program_equations.specs.Entries.{initial_value, initial_or_none, initial_at, initial_below}
+use Rattle.edge_actions.specs.transfer_rows.StateForms.{only_numbers}
+use Rattle.body_systems.specs.typed_values.Types.{IsOfType}
+use Rattle.body_systems.specs.program_equations.Entries.{initial_value, initial_or_none, initial_at, initial_below}
 use Rattle.entry_states.specs.Beginnings.{BeginsInTypes, AreInitialValues}
 use Rattle.entry_states.specs.reading.Joining.{with_joined, AreJoinedBelow}
 

@@ -2,3 +2,4 @@ mod Examples
 pub mod Joins
 pub mod Marks
 pub mod States
+pub mod low

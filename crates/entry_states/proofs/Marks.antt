@@ -9,11 +9,11 @@ use Rattle.flow_graph.specs.Graphs.{Edges}
 use Rattle.tm_lattice.specs.Tables.{joined_at}
 use Rattle.pointer_dom.specs.Values.{joined_values}
 use Rattle.cell_env.specs.States.{joined_state}
-use Rattle.transfer_rows.specs.StateForms.{State}
-use Rattle.least_tables.specs.Solutions.{NodeTable}
+use Rattle.edge_actions.specs.transfer_rows.StateForms.{State}
+use Rattle.body_systems.specs.least_tables.Solutions.{NodeTable}
 use Rattle.mutex_configs.specs.declared.nodes.ConfiguredNode.{ConfiguredNode}
 use Rattle.mutex_configs.specs.Nodes.{entry_node}
-use Rattle.program_equations.specs.Entries.{is_left, is_end, ended_below, ended_in}
+use Rattle.body_systems.specs.program_equations.Entries.{is_left, is_end, ended_below, ended_in}
 use Rattle.entry_states.specs.reading.Leaving.{AreLeft}
 
 pub none_marked : (count : ℕ) (marks : List Bool) → marks ≡ replicate count false → AreLeft [] count marks

@@ -8,9 +8,9 @@ use Rattle.tm_lattice.specs.Tables.{Table}
 use Rattle.tm_laid.specs.declared.cells.AbstractCell.{AbstractCell}
 use Rattle.tm_laid.specs.Layouts.{LaidTree, abstract_at, no_abstract_cell}
 use Rattle.pointer_dom.specs.Values.{Values, no_value}
-use Rattle.transfer_rows.specs.StateForms.{Cell, State}
+use Rattle.edge_actions.specs.transfer_rows.StateForms.{Cell, State}
 use Rattle.edge_actions.specs.Layouts.{is_reachable}
-use Rattle.program_equations.specs.Entries.{entry_cell, entry_cells, entry_state, first_state, initial_of}
+use Rattle.body_systems.specs.program_equations.Entries.{entry_cell, entry_cells, entry_state, first_state, initial_of}
 use Rattle.entry_states.specs.Beginnings.{AreInitialValues}
 use Rattle.entry_states.specs.reading.Holdings.{value_or_none}
 

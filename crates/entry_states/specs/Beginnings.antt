@@ -1,9 +1,9 @@
 -- Layouts in which bodies begin, and what is listed of their abstract cells.
 use Rattle.std.specs.Prelude.{◌≡◌, ℕ, ◌<◌, ◌≤◌, List, length, get_or}
 use Rattle.tm_laid.specs.Layouts.{LaidTree, abstract_at, cell_at}
-use Rattle.typed_values.specs.Types.{IsOfType}
+use Rattle.body_systems.specs.typed_values.Types.{IsOfType}
 use Rattle.pointer_dom.specs.Values.{Values, no_value}
-use Rattle.program_equations.specs.Entries.{initial_at, initial_of}
+use Rattle.body_systems.specs.program_equations.Entries.{initial_at, initial_of}
 
 -- cells hold values of their types at first, and there are few abstract cells
 pub record BeginsInTypes (laid : LaidTree) : Type 0 where

@@ -3,8 +3,8 @@ ghost use Rattle.std.specs.Prelude.{◌≡◌, ◌≤◌, IfOk, length};
 ghost use Rattle.std.specs.Option.{option_copied};
 ghost use Rattle.tm_laid.specs.Layouts.{laid_tree, path_at};
 ghost use Rattle.edge_actions.specs.Layouts.{is_reachable};
-ghost use Rattle.program_equations.specs.Readings.{read_layout};
-ghost use Rattle.program_equations.specs.Entries.{entry_cell, entry_state, first_state, later_state};
+ghost use Rattle.body_systems.specs.program_equations.Readings.{read_layout};
+ghost use Rattle.body_systems.specs.program_equations.Entries.{entry_cell, entry_state, first_state, later_state};
 ghost use Rattle.entry_states.specs.Beginnings.{BeginsInTypes, AreInitialValues};
 ghost use Rattle.entry_states.specs.reading.Holdings.{held_value};
 

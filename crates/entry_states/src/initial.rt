@@ -4,8 +4,8 @@ ghost use Rattle.strided_dom.specs.Progression.{IsInReach};
 ghost use Rattle.tm_laid.specs.declared.objects.Initial.TheVariants as Initials;
 ghost use Rattle.tm_laid.specs.Layouts.{laid_tree, cell_at};
 ghost use Rattle.pointer_dom.specs.Values.{no_value};
-ghost use Rattle.program_equations.specs.Readings.{read_layout};
-ghost use Rattle.program_equations.specs.Entries.{initial_value};
+ghost use Rattle.body_systems.specs.program_equations.Readings.{read_layout};
+ghost use Rattle.body_systems.specs.program_equations.Entries.{initial_value};
 ghost use Rattle.entry_states.specs.Beginnings.{BeginsInTypes, AreInitialValues};
 ghost use Rattle.entry_states.specs.reading.Joining.{with_joined};
 

@@ -10,6 +10,7 @@ mod ends;
 mod entries;
 mod initial;
 
+pub use body_systems::{BodyFacts, BodyOverStore, BodyState, BodySystem};
 pub use ends::ended_state;
 pub use entries::{first_state, later_state};
 pub use initial::initial_values;

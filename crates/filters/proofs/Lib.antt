@@ -1,3 +1,4 @@
 pub mod Refinements
 pub mod PointerFilters
 pub mod PointerLaws
+pub mod low

@@ -2,10 +2,11 @@
 use Rattle.std.proofs.Common.{◌≡◌, ◌≢◌, ℤ, pos, ◌+ℤ◌, ◌-ℤ◌, ◌≤ℤ◌, nat_abs, Bool, true, false, int_le, refl, sym, subst, arith, to_z, of_z}
 use Rattle.std.specs.Int.{w128}
 use Rattle.std.proofs.lemmas.Int.{ints, to_z-of_z}
-use Rattle.strided_dom.specs.Progression.{Progression, empty, Has, IsSubset, IsExactly, IsHull, IsSpaced, IsInReach, IsLeastNumber, IsGreatestNumber}
+use Rattle.strided_dom.specs.Progression.{Progression, empty, Has, IsSubset, IsExactly, IsHull, IsSpaced}
+use Rattle.strided_dom.specs.Progression.{IsInReach, IsLeastNumber, IsGreatestNumber}
 use Rattle.strided_dom.specs.Combinations.{IsAnother}
 use Rattle.strided_dom.proofs.Members.{not_in_empty}
-use Rattle.tm_numbers.proofs.Congruences.{cong_up}
+use Rattle.strided_dom.proofs.low.tm_numbers.Congruences.{cong_up}
 use Rattle.strided_dom.proofs.Reach.{kept}
 use Rattle.filters.specs.Partners.{HasPartner, Compares, IsAssumed}
 use Rattle.tm_cint.specs.Operators.{IsComparison}

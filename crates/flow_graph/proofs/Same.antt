@@ -1,7 +1,7 @@
 -- A graph runs in one way alone.
 use Rattle.std.proofs.Common.{◌≡◌, ℕ, List, [], ◌∷◌, refl, sym, ◌∙◌, subst}
 use Rattle.std.specs.Prelude.{Some, None}
-use Rattle.tm_laid.specs.Layouts.{LaidTree}
+use Rattle.concrete_values.specs.tm_laid.Layouts.{LaidTree}
 use Rattle.concrete_values.specs.declared.values.Answer.{Answer}
 use Rattle.concrete_values.specs.declared.actions.Next.{Next}
 use Rattle.concrete_values.specs.declared.actions.Next.TheVariants.{Spins, Misfit}

@@ -1,8 +1,8 @@
 -- Graphs: the edges that leave a node, heads and regions, the cells that are written there, and live temporaries.
 use Rattle.std.specs.Prelude.{◌≡◌, ◌⊎◌, ℕ, ◌+◌, ◌==◌, ◌≤◌, ◌<◌, true, if◌then◌else◌, List, [], ◌∷◌, Some}
 use Rattle.tm_cint.specs.Operators.{IsComparison}
-use Rattle.tm_typed.specs.declared.types.Scalar.{Scalar}
-use Rattle.tm_laid.specs.Layouts.{LaidTree, object_at, abstract_at, is_same_scalar}
+use Rattle.concrete_values.specs.tm_typed.declared.types.Scalar.{Scalar}
+use Rattle.concrete_values.specs.tm_laid.Layouts.{LaidTree, object_at, abstract_at, is_same_scalar}
 use Rattle.flow_graph.specs.declared.operations.Test.{Test}
 use Rattle.flow_graph.specs.declared.operations.Test.TheVariants as Tests
 use Rattle.flow_graph.specs.declared.operations.Into.{Into}

@@ -4,8 +4,8 @@ use Rattle.std.specs.Prelude.{Ok, Err}
 use Rattle.tm_cint.specs.declared.Class.{Class}
 use Rattle.tm_cint.specs.declared.operators.BinOp.{BinOp}
 use Rattle.tm_cint.specs.declared.operators.BinOp.TheVariants as Bins
-use Rattle.tm_terms.specs.declared.places.Place.{Place}
-use Rattle.tm_laid.specs.Layouts.{LaidTree}
+use Rattle.concrete_values.specs.tm_terms.declared.places.Place.{Place}
+use Rattle.concrete_values.specs.tm_laid.Layouts.{LaidTree}
 use Rattle.concrete_values.specs.declared.values.Value.{Value}
 use Rattle.concrete_values.specs.Values.{nothing, is_true}
 use Rattle.concrete_values.specs.Operators.{unary, binary, converted, is_case}

@@ -1,6 +1,6 @@
 -- The run of a graph over a list of answers, and the action that follows it.
 use Rattle.std.specs.Prelude.{◌≡◌, ℕ, suc, ◌==◌, leb, ◌&&◌, Bool, if◌then◌else◌, List, [], ◌∷◌, Some, None}
-use Rattle.tm_laid.specs.Layouts.{LaidTree}
+use Rattle.concrete_values.specs.tm_laid.Layouts.{LaidTree}
 use Rattle.concrete_values.specs.declared.values.Value.{Value}
 use Rattle.concrete_values.specs.declared.values.Answer.{Answer}
 use Rattle.concrete_values.specs.Values.{nothing}

@@ -1,6 +1,6 @@
 //! What runs of graphs keep, each law the contract of a function that does nothing.
 ghost use Rattle.std.specs.Prelude.{◌≡◌, ℕ, List, not};
-ghost use Rattle.tm_laid.specs.Layouts.{LaidTree};
+ghost use Rattle.concrete_values.specs.tm_laid.Layouts.{LaidTree};
 ghost use Rattle.concrete_values.specs.declared.values.Answer.{Answer};
 ghost use Rattle.concrete_values.specs.declared.actions.Next.{Next};
 ghost use Rattle.flow_graph.specs.declared.operations.Test.{Test};

@@ -1,8 +1,6 @@
 //! The operations of edges.
-use concrete_values::Value;
+use concrete_values::{Place, Scalar, Unary, Value};
 use tm_cint::{BinOp, IntType};
-use tm_terms::Place;
-use tm_typed::{Scalar, Unary};
 
 /// What an `Assume` lets through. Each test has its opposite.
 #[derive(Clone, Copy)]

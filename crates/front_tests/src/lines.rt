@@ -7,7 +7,7 @@ use tm_cint::Class;
 use tm_terms::{Alarm, Kind, Limit, Place, Refusal, Report, plain, refusal_line, usage_line};
 
 // A refusal and its line.
-static REFUSALS: [(Kind, Option<Limit>, &str); 6] = [
+static REFUSALS: [(Kind, Option<Limit>, &str); 5] = [
     (
         Kind::Limit,
         Some(Limit::Source),
@@ -25,7 +25,6 @@ static REFUSALS: [(Kind, Option<Limit>, &str); 6] = [
     ),
     (Kind::Lexical, None, "12:7 refused Lexical\n"),
     (Kind::NotLvalue, None, "12:7 refused NotLvalue\n"),
-    (Kind::Unbuilt, None, "12:7 refused Unbuilt\n"),
 ];
 
 fn is_refused(

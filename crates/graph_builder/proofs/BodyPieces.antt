@@ -13,8 +13,9 @@ use Rattle.tm_laid.specs.Layouts.{LaidTree}
 use Rattle.concrete_values.specs.Values.{nothing}
 use Rattle.flow_graph.specs.declared.operations.Operation.{Operation}
 use Rattle.flow_graph.specs.declared.operations.Operation.TheVariants as Op
-use Rattle.lowering.specs.Built.{Building, Sites, result_of, fallen_piece, place_result, function_piece}
-use Rattle.lowering.specs.Built.{ByReturn, is_return, nodes_by}
+use Rattle.body_builder.specs.lowering.Built.{Building, Sites, result_of, fallen_piece, place_result}
+use Rattle.body_builder.specs.lowering.Built.{function_piece}
+use Rattle.body_builder.specs.lowering.Built.{ByReturn, is_return, nodes_by}
 use Rattle.statement_builder.specs.declared.passed.Pending.{Pending}
 use Rattle.statement_builder.specs.Waiting.{way_of, waiting}
 use Rattle.graph_builder.specs.reading.Bodies.{result_placed, ended, body_piece}

@@ -8,7 +8,7 @@ use Rattle.tm_terms.specs.declared.refusals.Limit.TheVariants as Limits
 use Rattle.tm_terms.specs.Limits.{limit_number}
 use Rattle.tm_laid.specs.Layouts.{LaidTree, first_path}
 use Rattle.flow_graph.specs.declared.graphs.Graph.{Graph}
-use Rattle.lowering.specs.Built.{Building, path_piece, function_end, task_end, entry, built}
+use Rattle.body_builder.specs.lowering.Built.{Building, path_piece, function_end, task_end, entry, built}
 use Rattle.body_builder.specs.declared.fragments.Fragment.{Fragment}
 use Rattle.body_builder.specs.Fragments.{edges_of, so_far}
 use Rattle.graph_builder.specs.declared.ends.End.{End}

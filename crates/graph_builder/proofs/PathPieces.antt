@@ -1,9 +1,9 @@
 -- The body of a path by the body of its function.
 use Rattle.std.proofs.Common.{◌≡◌, ℕ, suc, ◌+◌, List, ap, arith}
 use Rattle.tm_laid.specs.Layouts.{LaidTree}
-use Rattle.concrete_steps.specs.Places.{result_type}
-use Rattle.concrete_steps.specs.NextAction.{function_at}
-use Rattle.lowering.specs.Built.{Building, nothing_piece, function_piece, path_piece}
+use Rattle.body_builder.specs.concrete_steps.Places.{result_type}
+use Rattle.body_builder.specs.concrete_steps.NextAction.{function_at}
+use Rattle.body_builder.specs.lowering.Built.{Building, nothing_piece, function_piece, path_piece}
 use Rattle.body_builder.specs.Fragments.{calls_on}
 
 pub nothing_left : (close : List ℕ → Building → Building) (laid : LaidTree) (depth path : ℕ) (b : Building)

@@ -4,7 +4,7 @@ use Rattle.std.proofs.lemmas.List.{append_assoc, append-nil, reverse-append, rev
 use Rattle.tm_laid.specs.Layouts.{LaidTree}
 use Rattle.flow_graph.specs.declared.graphs.Edge.{Edge}
 use Rattle.flow_graph.specs.Graphs.{Edges}
-use Rattle.lowering.specs.Built.{Building, path_piece, function_end}
+use Rattle.body_builder.specs.lowering.Built.{Building, path_piece, function_end}
 use Rattle.body_builder.specs.declared.fragments.Call.{Call}
 use Rattle.body_builder.specs.declared.fragments.Item.{Item}
 use Rattle.body_builder.specs.declared.fragments.Item.TheVariants as Items

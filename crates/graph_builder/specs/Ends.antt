@@ -1,7 +1,7 @@
 -- How what is built for a body ends.
 use Rattle.std.specs.Prelude.{ℕ, List, if◌then◌else◌, nat_lt, length}
 use Rattle.tm_laid.specs.Layouts.{LaidTree}
-use Rattle.lowering.specs.Built.{Building, function_end, task_end}
+use Rattle.body_builder.specs.lowering.Built.{Building, function_end, task_end}
 use Rattle.graph_builder.specs.declared.ends.End.{End}
 use Rattle.graph_builder.specs.declared.ends.End.TheVariants as Ends
 

@@ -6,7 +6,7 @@ use Rattle.tm_terms.specs.declared.refusals.Limit.TheVariants as Limits
 use Rattle.tm_terms.specs.Limits.{limit_number}
 use Rattle.tm_laid.specs.Layouts.{LaidTree, beyond}
 use Rattle.flow_graph.specs.declared.graphs.Graph.{Graph}
-use Rattle.lowering.specs.Built.{built, graph_of}
+use Rattle.body_builder.specs.lowering.Built.{built, graph_of}
 
 -- the graph of a body
 pub record IsGraphOf (laid : LaidTree) (body : ℕ) (graph : Graph) : Type 0 where

@@ -2,11 +2,11 @@
 ghost use Rattle.std.specs.Prelude.{◌≡◌, OnOk, IfOk, option_map, map};
 ghost use Rattle.tm_cint.specs.IntTypes.{lo_of, hi_of};
 ghost use Rattle.flow_graph.specs.declared.operations.Operation.TheVariants as Op;
-ghost use Rattle.concrete_steps.specs.Places.{result_type};
-ghost use Rattle.concrete_steps.specs.NextAction.{function_at};
+ghost use Rattle.body_builder.specs.concrete_steps.Places.{result_type};
+ghost use Rattle.body_builder.specs.concrete_steps.NextAction.{function_at};
 ghost use Rattle.tm_typed.specs.TypedStatements.{as_typed_trees};
-ghost use Rattle.lowering.specs.Built.{nothing_piece, fallen_piece, result_of, result_at, is_return, nodes_by};
-ghost use Rattle.lowering.specs.Built.{function_piece};
+ghost use Rattle.body_builder.specs.lowering.Built.{nothing_piece, fallen_piece, result_of, result_at, is_return, nodes_by};
+ghost use Rattle.body_builder.specs.lowering.Built.{function_piece};
 ghost use Rattle.body_builder.specs.Fragments.{tree_in, so_far, calls_on, IsPart};
 ghost use Rattle.statement_builder.specs.Waiting.{waiting};
 ghost use Rattle.graph_builder.specs.Ends.{closing};

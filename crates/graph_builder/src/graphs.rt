@@ -4,7 +4,7 @@ ghost use Rattle.std.specs.Result.{result_map_both};
 ghost use Rattle.tm_terms.specs.declared.refusals.Fail.TheVariants as Fails;
 ghost use Rattle.tm_terms.specs.declared.refusals.Limit.TheVariants as Limits;
 ghost use Rattle.tm_laid.specs.Layouts.{laid_tree, beyond, first_path};
-ghost use Rattle.lowering.specs.Built.{built};
+ghost use Rattle.body_builder.specs.lowering.Built.{built};
 ghost use Rattle.body_builder.specs.Fragments.{tree_in, so_far};
 ghost use Rattle.graph_builder.specs.Ends.{end_of};
 ghost use Rattle.graph_builder.specs.Lowered.{IsLowered};

@@ -1,6 +1,6 @@
 //! What is built for call paths.
 ghost use Rattle.std.specs.Prelude.{◌≡◌, IfOk};
-ghost use Rattle.lowering.specs.Built.{path_piece};
+ghost use Rattle.body_builder.specs.lowering.Built.{path_piece};
 ghost use Rattle.body_builder.specs.Fragments.{tree_in, so_far, IsPart, AreSizes};
 ghost use Rattle.graph_builder.specs.Ends.{closing};
 

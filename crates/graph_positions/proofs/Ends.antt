@@ -8,7 +8,8 @@ use Rattle.concrete_values.specs.declared.actions.Next.{Next}
 use Rattle.concrete_values.specs.declared.actions.Next.TheVariants.{Spins, Misfit}
 use Rattle.concrete_values.specs.Actions.{answer_of}
 use Rattle.flow_graph.specs.Graphs.{Edges}
-use Rattle.flow_graph.specs.Runs.{Memory, Move, Goes, GoesRound, Awaits, Halts, move, at_entry, Runs, goes, spins, halts, awaits, answered, unfit}
+use Rattle.flow_graph.specs.Runs.{Memory, Move, Goes, GoesRound, Awaits, Halts, move, at_entry, Runs, goes}
+use Rattle.flow_graph.specs.Runs.{spins, halts, awaits, answered, unfit}
 use Rattle.flow_graph.specs.Positions.{Reaches, here, went, gave, Is, StandsAt}
 use Rattle.flow_graph.proofs.Positions.{reaches_then}
 use Rattle.flow_graph.proofs.Same.{same_next}

@@ -1,6 +1,6 @@
 -- Layouts of files.
 use Rattle.std.specs.Prelude.{◌≤◌, length}
-use Rattle.tm_typed.specs.TypedFiles.{typed_file_tree}
+use Rattle.tm_laid.specs.tm_typed.TypedFiles.{typed_file_tree}
 use Rattle.tm_laid.specs.declared.layouts.Laid.{Laid}
 use Rattle.tm_laid.specs.Layable.{IsLayable}
 

@@ -1,7 +1,7 @@
 //! What positions stand on, and where they stand.
 ghost use Rattle.std.specs.Prelude.{◌≡◌, ℕ, List, Ok};
-ghost use Rattle.tm_typed.specs.declared.files.TypedFile.{TypedFile};
-ghost use Rattle.tm_typed.specs.TypedFiles.{typed_file_tree};
+ghost use Rattle.tm_laid.specs.tm_typed.declared.files.TypedFile.{TypedFile};
+ghost use Rattle.tm_laid.specs.tm_typed.TypedFiles.{typed_file_tree};
 ghost use Rattle.tm_laid.specs.declared.layouts.Laid.{Laid};
 ghost use Rattle.tm_laid.specs.Layouts.{LaidTree, laid_tree, laid_out};
 ghost use Rattle.tm_laid.specs.Layable.{IsLayable};

@@ -7,8 +7,8 @@ use Rattle.tm_typed.specs.declared.files.TypedFile.{TypedFile}
 use Rattle.tm_typed.specs.Files.{TypedFileTree, IsTyped}
 use Rattle.tm_typed.specs.TypedFiles.{typed_file_tree}
 use Rattle.tm_laid.specs.Layable.{IsLayable}
-use Rattle.call_graph.specs.Graphs.{lists}
-use Rattle.call_graph.specs.Orders.{IsWholeOrder}
+use Rattle.c_typing.specs.call_graph.Graphs.{lists}
+use Rattle.c_typing.specs.call_graph.Orders.{IsWholeOrder}
 use Rattle.typed_file_laws.specs.Layouts.{AreLayable}
 use Rattle.typed_file_laws.proofs.Layable.{comes}
 

@@ -1,15 +1,18 @@
 -- As many cells are laid out as the limits count.
 use Rattle.std.proofs.Common.{◌≡◌, refl, ℕ, zero, suc, ◌+◌, ◌*◌, Bool, true, false, cond, List, [], ◌∷◌, length, map, arith}
 use Rattle.std.proofs.lemmas.List.{length-append, length-map}
-use Rattle.tm_typed.specs.declared.types.CType.{CType}
-use Rattle.tm_typed.specs.declared.types.CType.TheVariants as Types
-use Rattle.tm_typed.specs.declared.scopes.Member.{Member}
-use Rattle.tm_typed.specs.Files.{TypedFileTree}
-use Rattle.tm_laid.specs.declared.objects.DeclaredObject.{DeclaredObject}
-use Rattle.tm_laid.specs.TypeCells.{entry_of, structure_in, is_smashed, summed, count_by, cell_count, abstract_by, abstract_count, type_depth, cells_of_type, abstract_cells_of_type}
-use Rattle.tm_laid.specs.TypeCells.{elements, in_members, cells_by, type_cells, abstracts_by, type_abstracts}
-use Rattle.tm_laid.specs.Objects.{objects_from, laid_cell, cells_from, laid_abstract, abstracts_from}
-use Rattle.tm_laid.specs.Layouts.{summed_types}
+use Rattle.cell_layout.specs.tm_typed.declared.types.CType.{CType}
+use Rattle.cell_layout.specs.tm_typed.declared.types.CType.TheVariants as Types
+use Rattle.cell_layout.specs.tm_typed.declared.scopes.Member.{Member}
+use Rattle.cell_layout.specs.tm_typed.Files.{TypedFileTree}
+use Rattle.cell_layout.specs.tm_laid.declared.objects.DeclaredObject.{DeclaredObject}
+use Rattle.cell_layout.specs.tm_laid.TypeCells.{entry_of, structure_in, is_smashed, summed, count_by, cell_count}
+use Rattle.cell_layout.specs.tm_laid.TypeCells.{abstract_by, abstract_count, type_depth, cells_of_type}
+use Rattle.cell_layout.specs.tm_laid.TypeCells.{abstract_cells_of_type}
+use Rattle.cell_layout.specs.tm_laid.TypeCells.{elements, in_members, cells_by, type_cells, abstracts_by}
+use Rattle.cell_layout.specs.tm_laid.TypeCells.{type_abstracts}
+use Rattle.cell_layout.specs.tm_laid.Objects.{objects_from, laid_cell, cells_from, laid_abstract, abstracts_from}
+use Rattle.cell_layout.specs.tm_laid.Layouts.{summed_types}
 
 elements_length : {A : Type 0} (at : ℕ → List A) (c : ℕ) → ((s : ℕ) → length (at s) ≡ c) → (n step start : ℕ) → length (elements at n step start) ≡ n * c
 elements_length at c h zero step start = omega arith

@@ -2,12 +2,13 @@
 use Rattle.std.proofs.Common.{◌≡◌, refl, sym, subst, ◌≤◌, Bool, true, false, cond, length, arith, Option, Some, None}
 use Rattle.std.specs.Prelude.{Ok}
 use Rattle.std.proofs.lemmas.Bool.{ltb-false}
-use Rattle.tm_terms.specs.declared.refusals.Limit.{Limit}
-use Rattle.tm_terms.specs.declared.refusals.Limit.TheVariants as Limits
-use Rattle.tm_typed.specs.Files.{TypedFileTree}
-use Rattle.tm_laid.specs.Paths.{paths_of}
-use Rattle.tm_laid.specs.TypeCells.{cells_of_type, abstract_cells_of_type}
-use Rattle.tm_laid.specs.Layouts.{LaidTree, layout_of, laid_count, declared_objects, is_exceeded, unless_beyond, laid_out}
+use Rattle.cell_layout.specs.tm_terms.declared.refusals.Limit.{Limit}
+use Rattle.cell_layout.specs.tm_terms.declared.refusals.Limit.TheVariants as Limits
+use Rattle.cell_layout.specs.tm_typed.Files.{TypedFileTree}
+use Rattle.cell_layout.specs.tm_laid.Paths.{paths_of}
+use Rattle.cell_layout.specs.tm_laid.TypeCells.{cells_of_type, abstract_cells_of_type}
+use Rattle.cell_layout.specs.tm_laid.Layouts.{LaidTree, layout_of, laid_count, declared_objects, is_exceeded}
+use Rattle.cell_layout.specs.tm_laid.Layouts.{unless_beyond, laid_out}
 use Rattle.cell_layout.specs.reading.Limits.{IsAllWithin}
 use Rattle.cell_layout.proofs.PathSteps.{paths_few}
 use Rattle.cell_layout.proofs.Whole.{over_all, cells_few, abstracts_few}

@@ -1,7 +1,7 @@
 -- The limits of layouts.
 use Rattle.std.specs.Prelude.{◌≡◌, ◌≤◌, length}
-use Rattle.tm_typed.specs.Files.{TypedFileTree}
-use Rattle.tm_laid.specs.Layouts.{LaidTree, layout_of}
+use Rattle.cell_layout.specs.tm_typed.Files.{TypedFileTree}
+use Rattle.cell_layout.specs.tm_laid.Layouts.{LaidTree, layout_of}
 
 -- the layout of this file, with as many tasks, mutexes, call paths, cells and abstract cells as the limits allow
 pub record IsLimited (file : TypedFileTree) (laid : LaidTree) : Type 0 where

@@ -3,12 +3,12 @@ use Rattle.std.proofs.Common.{ap, sym, subst, ◌∙◌, ℕ, ◌<◌, List, len
 use Rattle.std.specs.Prelude.{All}
 use Rattle.tm_terms.specs.declared.tokens.Name.{Name}
 use Rattle.tm_trees.specs.FileTrees.{ItemTree}
-use Rattle.tm_typed.specs.declared.files.TypedFile.{TypedFile}
-use Rattle.tm_typed.specs.Files.{TypedFileTree, IsTyped}
-use Rattle.tm_typed.specs.TypedFiles.{typed_file_tree}
+use Rattle.tm_laid.specs.tm_typed.declared.files.TypedFile.{TypedFile}
+use Rattle.tm_laid.specs.tm_typed.Files.{TypedFileTree, IsTyped}
+use Rattle.tm_laid.specs.tm_typed.TypedFiles.{typed_file_tree}
 use Rattle.tm_laid.specs.Layable.{IsLayable}
-use Rattle.call_graph.specs.Graphs.{lists}
-use Rattle.call_graph.specs.Orders.{IsWholeOrder}
+use Rattle.c_typing.specs.call_graph.Graphs.{lists}
+use Rattle.c_typing.specs.call_graph.Orders.{IsWholeOrder}
 use Rattle.typed_file_laws.specs.Layouts.{AreLayable}
 use Rattle.typed_file_laws.proofs.Layable.{comes}
 

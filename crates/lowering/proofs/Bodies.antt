@@ -2,19 +2,19 @@
 use Rattle.std.proofs.Common.{◌≡◌, ◌≢◌, ◌⊎◌, inl, inr, ℕ, zero, suc, ◌<◌, ◌≤◌, Bool, true, false, List, [], ◌∷◌, ◌++◌}
 use Rattle.std.proofs.Common.{length, refl, sym, ◌∙◌, ap, subst, arith}
 use Rattle.std.specs.Prelude.{if◌then◌else◌, nat_lt, Option, Some, None}
-use Rattle.tm_cint.specs.IntTypes.{lo_of, hi_of}
-use Rattle.tm_terms.specs.declared.places.Place.{Place}
-use Rattle.tm_typed.specs.declared.types.CType.{CType}
-use Rattle.tm_typed.specs.declared.types.CType.TheVariants as Types
-use Rattle.tm_typed.specs.declared.scopes.ObjectNumber.TheVariants.{Local}
-use Rattle.tm_typed.specs.Functions.{TypedBodyTree}
-use Rattle.tm_laid.specs.Layouts.{LaidTree, callee, object_of, first_path}
-use Rattle.concrete_values.specs.declared.values.Value.{Value}
-use Rattle.concrete_values.specs.declared.values.Answer.{Answer}
-use Rattle.concrete_values.specs.declared.actions.Next.TheVariants as Acts
-use Rattle.concrete_values.specs.Values.{nothing}
-use Rattle.concrete_values.specs.Pointers.{base}
-use Rattle.concrete_values.specs.Actions.{store_at}
+use Rattle.concrete_steps.specs.tm_cint.IntTypes.{lo_of, hi_of}
+use Rattle.concrete_steps.specs.tm_terms.declared.places.Place.{Place}
+use Rattle.concrete_steps.specs.tm_typed.declared.types.CType.{CType}
+use Rattle.concrete_steps.specs.tm_typed.declared.types.CType.TheVariants as Types
+use Rattle.concrete_steps.specs.tm_typed.declared.scopes.ObjectNumber.TheVariants.{Local}
+use Rattle.concrete_steps.specs.tm_typed.Functions.{TypedBodyTree}
+use Rattle.concrete_steps.specs.tm_laid.Layouts.{LaidTree, callee, object_of, first_path}
+use Rattle.concrete_steps.specs.concrete_values.declared.values.Value.{Value}
+use Rattle.concrete_steps.specs.concrete_values.declared.values.Answer.{Answer}
+use Rattle.concrete_steps.specs.concrete_values.declared.actions.Next.TheVariants as Acts
+use Rattle.concrete_steps.specs.concrete_values.Values.{nothing}
+use Rattle.concrete_steps.specs.concrete_values.Pointers.{base}
+use Rattle.concrete_steps.specs.concrete_values.Actions.{store_at}
 use Rattle.concrete_steps.specs.Places.{result_type}
 use Rattle.concrete_steps.specs.NextAction.{After, last, scalar_at, passed_then, fallen_then, function_at, exits_of}
 use Rattle.concrete_steps.specs.NextAction.{here_with, code_then as body_code_then, body_then, next}

@@ -1,22 +1,22 @@
 -- What the table and the interpreter say alike of values.
 use Rattle.std.proofs.Common.{◌≡◌, Bool, true, false, pos, refl, sym, ap}
 use Rattle.std.specs.Prelude.{if◌then◌else◌, Result, Ok, Err, Some, None}
-use Rattle.tm_cint.specs.declared.Class.{Class}
-use Rattle.tm_cint.specs.declared.int_types.IntType.{IntType}
-use Rattle.tm_cint.specs.declared.int_types.IntType.TheVariants as Ints
-use Rattle.tm_cint.specs.declared.operators.BinOp.{BinOp}
-use Rattle.tm_cint.specs.declared.operators.BinOp.TheVariants as Bins
-use Rattle.tm_cint.specs.Conversions.{represents_all, converted_value}
-use Rattle.tm_cint.specs.Operators.{IsComparison}
-use Rattle.tm_terms.specs.declared.places.Place.{Place}
-use Rattle.tm_typed.specs.Rules.{is_comparison}
-use Rattle.tm_laid.specs.Layouts.{LaidTree}
-use Rattle.concrete_values.specs.declared.values.Value.{Value}
-use Rattle.concrete_values.specs.declared.values.Value.TheVariants.{Number, Pointer as APointer}
-use Rattle.concrete_values.specs.declared.values.Pointer.TheVariants as Pointers
-use Rattle.concrete_values.specs.Values.{nothing, number_of}
-use Rattle.concrete_values.specs.Operators.{binary, converted}
-use Rattle.concrete_values.specs.Pointers.{usable}
+use Rattle.concrete_steps.specs.tm_cint.declared.Class.{Class}
+use Rattle.concrete_steps.specs.tm_cint.declared.int_types.IntType.{IntType}
+use Rattle.concrete_steps.specs.tm_cint.declared.int_types.IntType.TheVariants as Ints
+use Rattle.concrete_steps.specs.tm_cint.declared.operators.BinOp.{BinOp}
+use Rattle.concrete_steps.specs.tm_cint.declared.operators.BinOp.TheVariants as Bins
+use Rattle.concrete_steps.specs.tm_cint.Conversions.{represents_all, converted_value}
+use Rattle.concrete_steps.specs.tm_cint.Operators.{IsComparison}
+use Rattle.concrete_steps.specs.tm_terms.declared.places.Place.{Place}
+use Rattle.concrete_steps.specs.tm_typed.Rules.{is_comparison}
+use Rattle.concrete_steps.specs.tm_laid.Layouts.{LaidTree}
+use Rattle.concrete_steps.specs.concrete_values.declared.values.Value.{Value}
+use Rattle.concrete_steps.specs.concrete_values.declared.values.Value.TheVariants.{Number, Pointer as APointer}
+use Rattle.concrete_steps.specs.concrete_values.declared.values.Pointer.TheVariants as Pointers
+use Rattle.concrete_steps.specs.concrete_values.Values.{nothing, number_of}
+use Rattle.concrete_steps.specs.concrete_values.Operators.{binary, converted}
+use Rattle.concrete_steps.specs.concrete_values.Pointers.{usable}
 use Rattle.concrete_steps.specs.NextAction.{After, result_then, as_branch, value_used}
 use Rattle.flow_graph.specs.Operations.{given_by, is_given_true}
 use Rattle.lowering.specs.Table.{Conversion, conversion}

@@ -2,12 +2,12 @@
 use Rattle.std.proofs.Common.{◌≡◌, ◌≢◌, ◌⊎◌, inr, ℕ, zero, suc, ◌<◌, ◌≤◌, Bool, true, false, List, [], ◌∷◌, ◌++◌}
 use Rattle.std.proofs.Common.{length, refl, sym, ◌∙◌, ap, subst, arith}
 use Rattle.std.specs.Prelude.{if◌then◌else◌, Option, Some, None}
-use Rattle.tm_terms.specs.declared.places.Place.{Place}
-use Rattle.tm_laid.specs.Layouts.{LaidTree}
-use Rattle.concrete_values.specs.declared.values.Value.{Value}
-use Rattle.concrete_values.specs.declared.values.Answer.{Answer}
-use Rattle.concrete_values.specs.declared.actions.Next.{Next}
-use Rattle.concrete_values.specs.Values.{truth_value}
+use Rattle.concrete_steps.specs.tm_terms.declared.places.Place.{Place}
+use Rattle.concrete_steps.specs.tm_laid.Layouts.{LaidTree}
+use Rattle.concrete_steps.specs.concrete_values.declared.values.Value.{Value}
+use Rattle.concrete_steps.specs.concrete_values.declared.values.Answer.{Answer}
+use Rattle.concrete_steps.specs.concrete_values.declared.actions.Next.{Next}
+use Rattle.concrete_steps.specs.concrete_values.Values.{truth_value}
 use Rattle.concrete_steps.specs.NextAction.{After}
 use Rattle.flow_graph.specs.declared.operations.Test.{Test}
 use Rattle.flow_graph.specs.declared.operations.Operation.{Operation}

@@ -2,24 +2,24 @@
 use Rattle.std.proofs.Common.{◌≡◌, ℕ, ◌<◌, Bool, true, false, pos, refl, sym, ◌∙◌, ap, arith}
 use Rattle.std.specs.Prelude.{if◌then◌else◌, Result, Ok, Err, Some, None}
 use Rattle.std.proofs.Math.Path.{fun_ext}
-use Rattle.tm_cint.specs.declared.Class.{Class}
-use Rattle.tm_cint.specs.declared.int_types.IntType.{IntType}
-use Rattle.tm_cint.specs.declared.int_types.IntType.TheVariants as Ints
-use Rattle.tm_cint.specs.declared.operators.BinOp.{BinOp}
-use Rattle.tm_cint.specs.Conversions.{represents_all}
-use Rattle.tm_cint.specs.Operators.{IsComparison}
-use Rattle.tm_terms.specs.declared.places.Place.{Place}
-use Rattle.tm_typed.specs.declared.types.Scalar.{Scalar}
-use Rattle.tm_typed.specs.declared.types.Scalar.TheVariants as Scalars
-use Rattle.tm_typed.specs.declared.expressions.Step.{Step as StepBy}
-use Rattle.tm_typed.specs.TypedTrees.{RvalueTree}
-use Rattle.tm_laid.specs.Layouts.{LaidTree}
-use Rattle.concrete_values.specs.declared.values.Value.{Value}
-use Rattle.concrete_values.specs.declared.values.Value.TheVariants.{Number}
-use Rattle.concrete_values.specs.Values.{truth_value, is_true}
-use Rattle.concrete_values.specs.Operators.{binary, converted}
-use Rattle.concrete_values.specs.Pointers.{moved, usable}
-use Rattle.concrete_values.specs.Actions.{load_at, store_at}
+use Rattle.concrete_steps.specs.tm_cint.declared.Class.{Class}
+use Rattle.concrete_steps.specs.tm_cint.declared.int_types.IntType.{IntType}
+use Rattle.concrete_steps.specs.tm_cint.declared.int_types.IntType.TheVariants as Ints
+use Rattle.concrete_steps.specs.tm_cint.declared.operators.BinOp.{BinOp}
+use Rattle.concrete_steps.specs.tm_cint.Conversions.{represents_all}
+use Rattle.concrete_steps.specs.tm_cint.Operators.{IsComparison}
+use Rattle.concrete_steps.specs.tm_terms.declared.places.Place.{Place}
+use Rattle.concrete_steps.specs.tm_typed.declared.types.Scalar.{Scalar}
+use Rattle.concrete_steps.specs.tm_typed.declared.types.Scalar.TheVariants as Scalars
+use Rattle.concrete_steps.specs.tm_typed.declared.expressions.Step.{Step as StepBy}
+use Rattle.concrete_steps.specs.tm_typed.TypedTrees.{RvalueTree}
+use Rattle.concrete_steps.specs.tm_laid.Layouts.{LaidTree}
+use Rattle.concrete_steps.specs.concrete_values.declared.values.Value.{Value}
+use Rattle.concrete_steps.specs.concrete_values.declared.values.Value.TheVariants.{Number}
+use Rattle.concrete_steps.specs.concrete_values.Values.{truth_value, is_true}
+use Rattle.concrete_steps.specs.concrete_values.Operators.{binary, converted}
+use Rattle.concrete_steps.specs.concrete_values.Pointers.{moved, usable}
+use Rattle.concrete_steps.specs.concrete_values.Actions.{load_at, store_at}
 use Rattle.concrete_steps.specs.NextAction.{After, act_then, result_then, Use, as_value, as_branch, value_used}
 use Rattle.concrete_steps.specs.NextAction.{truth_used, converted_result, step_operator, step_value}
 use Rattle.concrete_steps.specs.NextAction.{Here, expr_then}

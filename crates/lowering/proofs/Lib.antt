@@ -18,3 +18,4 @@ pub mod Bodies
 mod OwnSteps
 pub mod Own
 mod cases
+pub mod low

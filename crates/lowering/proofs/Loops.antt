@@ -2,9 +2,9 @@
 use Rattle.std.proofs.Common.{◌≡◌, ◌≢◌, ◌⊎◌, inl, inr, ℕ, suc, ◌≤◌, Bool, true, List, [], ◌∷◌, ◌++◌, length, refl, sym}
 use Rattle.std.proofs.Common.{◌∙◌, subst, arith}
 use Rattle.std.specs.Prelude.{Option, Some, None}
-use Rattle.tm_laid.specs.Layouts.{LaidTree}
-use Rattle.concrete_values.specs.declared.values.Value.{Value}
-use Rattle.concrete_values.specs.declared.values.Answer.{Answer}
+use Rattle.concrete_steps.specs.tm_laid.Layouts.{LaidTree}
+use Rattle.concrete_steps.specs.concrete_values.declared.values.Value.{Value}
+use Rattle.concrete_steps.specs.concrete_values.declared.values.Answer.{Answer}
 use Rattle.concrete_steps.specs.NextAction.{After, Exits, inside}
 use Rattle.flow_graph.specs.declared.operations.Operation.TheVariants as Op
 use Rattle.flow_graph.specs.Graphs.{Edges}

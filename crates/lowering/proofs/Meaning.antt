@@ -1,11 +1,11 @@
 -- What steps do: each operation with the values of its variables, and what comes after it.
 use Rattle.std.specs.Prelude.{ℕ, Bool, true, false, if◌then◌else◌, List, [], ◌∷◌, ◌++◌, get_or, Option, Some, None}
-use Rattle.tm_terms.specs.declared.places.Place.{Place}
-use Rattle.tm_laid.specs.Layouts.{LaidTree}
-use Rattle.concrete_values.specs.declared.values.Value.{Value}
-use Rattle.concrete_values.specs.declared.actions.Next.TheVariants.{Fault, Misfit}
-use Rattle.concrete_values.specs.Values.{nothing, truth_value}
-use Rattle.concrete_values.specs.Operators.{is_case}
+use Rattle.concrete_steps.specs.tm_terms.declared.places.Place.{Place}
+use Rattle.concrete_steps.specs.tm_laid.Layouts.{LaidTree}
+use Rattle.concrete_steps.specs.concrete_values.declared.values.Value.{Value}
+use Rattle.concrete_steps.specs.concrete_values.declared.actions.Next.TheVariants.{Fault, Misfit}
+use Rattle.concrete_steps.specs.concrete_values.Values.{nothing, truth_value}
+use Rattle.concrete_steps.specs.concrete_values.Operators.{is_case}
 use Rattle.concrete_steps.specs.NextAction.{After, last, act_then, Exits, loop_over, inside}
 use Rattle.flow_graph.specs.Operations.{Doing, gives, shut, asks, fails, doing, given, holds}
 use Rattle.lowering.specs.Steps.{Steps, no_more, first_then, Step, operate, value_of, only_do, truth_of, choose}

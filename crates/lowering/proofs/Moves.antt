@@ -3,12 +3,12 @@ use Rattle.std.proofs.Common.{◌≡◌, ℕ, suc, ◌+◌, ◌<◌, ◌≤◌, 
 use Rattle.std.proofs.Common.{subst, arith}
 use Rattle.std.specs.Prelude.{if◌then◌else◌, ◌&&◌, Option, Some, None, not}
 use Rattle.std.proofs.lemmas.Bool.{eq-eqb, ne_eqb, lt-leb, le-leb}
-use Rattle.tm_laid.specs.Layouts.{LaidTree}
-use Rattle.concrete_values.specs.declared.values.Value.{Value}
-use Rattle.concrete_values.specs.declared.values.Answer.{Answer}
-use Rattle.concrete_values.specs.declared.actions.Next.{Next}
-use Rattle.concrete_values.specs.declared.actions.Next.TheVariants.{Ended, Spins, Fault}
-use Rattle.concrete_values.specs.Actions.{answer_of}
+use Rattle.concrete_steps.specs.tm_laid.Layouts.{LaidTree}
+use Rattle.concrete_steps.specs.concrete_values.declared.values.Value.{Value}
+use Rattle.concrete_steps.specs.concrete_values.declared.values.Answer.{Answer}
+use Rattle.concrete_steps.specs.concrete_values.declared.actions.Next.{Next}
+use Rattle.concrete_steps.specs.concrete_values.declared.actions.Next.TheVariants.{Ended, Spins, Fault}
+use Rattle.concrete_steps.specs.concrete_values.Actions.{answer_of}
 use Rattle.concrete_steps.specs.NextAction.{After, last, fit_then}
 use Rattle.flow_graph.specs.declared.graphs.Edge.{Edge}
 use Rattle.flow_graph.specs.declared.operations.Test.{Test}

@@ -2,13 +2,13 @@
 use Rattle.std.proofs.Common.{◌≡◌, inl, inr, ℕ, zero, suc, Bool, true, false, List, [], ◌∷◌, ◌++◌, length, refl}
 use Rattle.std.proofs.Common.{subst}
 use Rattle.std.specs.Prelude.{if◌then◌else◌, nat_lt, Option, Some, None}
-use Rattle.tm_terms.specs.declared.places.Place.{Place}
-use Rattle.tm_typed.specs.declared.types.CType.{CType}
-use Rattle.tm_typed.specs.declared.types.CType.TheVariants as Types
-use Rattle.tm_typed.specs.declared.scopes.ObjectNumber.TheVariants.{Local}
-use Rattle.tm_typed.specs.Functions.{TypedBodyTree}
-use Rattle.tm_laid.specs.Layouts.{LaidTree, first_path, callee, object_of}
-use Rattle.concrete_values.specs.Values.{truth_value}
+use Rattle.concrete_steps.specs.tm_terms.declared.places.Place.{Place}
+use Rattle.concrete_steps.specs.tm_typed.declared.types.CType.{CType}
+use Rattle.concrete_steps.specs.tm_typed.declared.types.CType.TheVariants as Types
+use Rattle.concrete_steps.specs.tm_typed.declared.scopes.ObjectNumber.TheVariants.{Local}
+use Rattle.concrete_steps.specs.tm_typed.Functions.{TypedBodyTree}
+use Rattle.concrete_steps.specs.tm_laid.Layouts.{LaidTree, first_path, callee, object_of}
+use Rattle.concrete_steps.specs.concrete_values.Values.{truth_value}
 use Rattle.concrete_steps.specs.Places.{result_type}
 use Rattle.concrete_steps.specs.NextAction.{function_at}
 use Rattle.flow_graph.specs.declared.graphs.Edge.{Edge}

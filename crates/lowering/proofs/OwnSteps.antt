@@ -1,25 +1,35 @@
 -- The table clears local objects of the path alone.
 use Rattle.std.proofs.Common.{ℕ, zero, suc, Bool, true, false, List, [], ◌∷◌}
 use Rattle.std.specs.Prelude.{if◌then◌else◌, Option, Some, None}
-use Rattle.tm_cint.specs.declared.int_types.IntType.{IntType}
-use Rattle.tm_cint.specs.declared.operators.BinOp.{BinOp}
-use Rattle.tm_terms.specs.declared.places.Place.{Place}
-use Rattle.tm_typed.specs.declared.types.Scalar.{Scalar}
-use Rattle.tm_typed.specs.declared.types.Scalar.TheVariants as Scalars
-use Rattle.tm_typed.specs.declared.scopes.ObjectNumber.TheVariants.{Local}
-use Rattle.tm_typed.specs.TypedTrees.{RvalueTree, a_constant, a_folded, a_null, a_load, an_address, a_structure}
-use Rattle.tm_typed.specs.TypedTrees.{the_same, a_unary, a_binary, a_comparison_of_pointers, a_move, a_not, an_and}
-use Rattle.tm_typed.specs.TypedTrees.{an_or, a_choice, an_assignment, a_compound, a_compound_move, a_unit_step}
-use Rattle.tm_typed.specs.TypedTrees.{a_pointer_step, a_function_call, an_input_value, a_probe, a_comma, a_conversion}
-use Rattle.tm_typed.specs.TypedTrees.{a_discard, LvalueTree, an_object, an_element, a_pointed_element, a_pointed}
-use Rattle.tm_typed.specs.TypedTrees.{an_arrow, a_part, RvalueTrees, no_rvalues, and_rvalue, lvalue_place}
-use Rattle.tm_typed.specs.TypedStatements.{GivenTree, LocalInitialiserTree, LocalTree, TypedTree, evaluates, declares}
-use Rattle.tm_typed.specs.TypedStatements.{runs_block, branches, branches_else, loops_while, loops_do, loops_for}
-use Rattle.tm_typed.specs.TypedStatements.{selects, breaks, continues, returns, locks, unlocks, yields, TypedTrees}
-use Rattle.tm_typed.specs.TypedStatements.{no_statements, and_statement, TypedCase, a_label, a_default_label}
-use Rattle.tm_typed.specs.TypedStatements.{a_labelled_step, TypedCases, no_typed_cases, and_typed_case}
-use Rattle.tm_typed.specs.Rules.{is_comparison}
-use Rattle.tm_laid.specs.Layouts.{LaidTree, object_of, object_at}
+use Rattle.concrete_steps.specs.tm_cint.declared.int_types.IntType.{IntType}
+use Rattle.concrete_steps.specs.tm_cint.declared.operators.BinOp.{BinOp}
+use Rattle.concrete_steps.specs.tm_terms.declared.places.Place.{Place}
+use Rattle.concrete_steps.specs.tm_typed.declared.types.Scalar.{Scalar}
+use Rattle.concrete_steps.specs.tm_typed.declared.types.Scalar.TheVariants as Scalars
+use Rattle.concrete_steps.specs.tm_typed.declared.scopes.ObjectNumber.TheVariants.{Local}
+use Rattle.concrete_steps.specs.tm_typed.TypedTrees.{RvalueTree, a_constant, a_folded, a_null, a_load, an_address}
+use Rattle.concrete_steps.specs.tm_typed.TypedTrees.{a_structure}
+use Rattle.concrete_steps.specs.tm_typed.TypedTrees.{the_same, a_unary, a_binary, a_comparison_of_pointers, a_move}
+use Rattle.concrete_steps.specs.tm_typed.TypedTrees.{a_not, an_and}
+use Rattle.concrete_steps.specs.tm_typed.TypedTrees.{an_or, a_choice, an_assignment, a_compound, a_compound_move}
+use Rattle.concrete_steps.specs.tm_typed.TypedTrees.{a_unit_step}
+use Rattle.concrete_steps.specs.tm_typed.TypedTrees.{a_pointer_step, a_function_call, an_input_value, a_probe, a_comma}
+use Rattle.concrete_steps.specs.tm_typed.TypedTrees.{a_conversion}
+use Rattle.concrete_steps.specs.tm_typed.TypedTrees.{a_discard, LvalueTree, an_object, an_element, a_pointed_element}
+use Rattle.concrete_steps.specs.tm_typed.TypedTrees.{a_pointed}
+use Rattle.concrete_steps.specs.tm_typed.TypedTrees.{an_arrow, a_part, RvalueTrees, no_rvalues, and_rvalue}
+use Rattle.concrete_steps.specs.tm_typed.TypedTrees.{lvalue_place}
+use Rattle.concrete_steps.specs.tm_typed.TypedStatements.{GivenTree, LocalInitialiserTree, LocalTree, TypedTree}
+use Rattle.concrete_steps.specs.tm_typed.TypedStatements.{evaluates, declares}
+use Rattle.concrete_steps.specs.tm_typed.TypedStatements.{runs_block, branches, branches_else, loops_while, loops_do}
+use Rattle.concrete_steps.specs.tm_typed.TypedStatements.{loops_for}
+use Rattle.concrete_steps.specs.tm_typed.TypedStatements.{selects, breaks, continues, returns, locks, unlocks, yields}
+use Rattle.concrete_steps.specs.tm_typed.TypedStatements.{TypedTrees}
+use Rattle.concrete_steps.specs.tm_typed.TypedStatements.{no_statements, and_statement, TypedCase, a_label}
+use Rattle.concrete_steps.specs.tm_typed.TypedStatements.{a_default_label}
+use Rattle.concrete_steps.specs.tm_typed.TypedStatements.{a_labelled_step, TypedCases, no_typed_cases, and_typed_case}
+use Rattle.concrete_steps.specs.tm_typed.Rules.{is_comparison}
+use Rattle.concrete_steps.specs.tm_laid.Layouts.{LaidTree, object_of, object_at}
 use Rattle.concrete_steps.specs.Places.{rvalue_place, is_pointer_scalar, gives_pointer}
 use Rattle.concrete_steps.specs.NextAction.{scalar_at, is_given, rest_of}
 use Rattle.flow_graph.specs.declared.operations.Into.{Into}

@@ -1,11 +1,12 @@
 -- Operations over other temporaries.
 use Rattle.std.proofs.Common.{◌≡◌, ℕ, ◌<◌, true, false, refl, ◌∙◌, ap}
 use Rattle.std.specs.Prelude.{Option, Some, None}
-use Rattle.tm_laid.specs.Layouts.{LaidTree}
-use Rattle.concrete_values.specs.Values.{is_true}
-use Rattle.concrete_values.specs.Operators.{unary, binary, converted, is_case}
-use Rattle.concrete_values.specs.Pointers.{part, element, moved, dereferenced, usable, is_compared, compared}
-use Rattle.concrete_values.specs.Actions.{load_at, store_at}
+use Rattle.concrete_steps.specs.tm_laid.Layouts.{LaidTree}
+use Rattle.concrete_steps.specs.concrete_values.Values.{is_true}
+use Rattle.concrete_steps.specs.concrete_values.Operators.{unary, binary, converted, is_case}
+use Rattle.concrete_steps.specs.concrete_values.Pointers.{part, element, moved, dereferenced, usable, is_compared}
+use Rattle.concrete_steps.specs.concrete_values.Pointers.{compared}
+use Rattle.concrete_steps.specs.concrete_values.Actions.{load_at, store_at}
 use Rattle.flow_graph.specs.declared.operations.Test.{Test}
 use Rattle.flow_graph.specs.declared.operations.Test.TheVariants as Tests
 use Rattle.flow_graph.specs.declared.operations.Operation.{Operation}

@@ -2,22 +2,26 @@
 use Rattle.std.proofs.Common.{◌≡◌, ℕ, zero, suc, Bool, true, false, List, [], ◌∷◌, refl, sym, ◌∙◌, ap, arith}
 use Rattle.std.specs.Prelude.{if◌then◌else◌, Option, Some, None}
 use Rattle.std.proofs.Math.Path.{fun_ext}
-use Rattle.tm_terms.specs.declared.places.Place.{Place}
-use Rattle.tm_typed.specs.declared.types.Scalar.{Scalar}
-use Rattle.tm_typed.specs.declared.types.Scalar.TheVariants as Scalars
-use Rattle.tm_typed.specs.declared.scopes.ObjectNumber.TheVariants.{Local}
-use Rattle.tm_typed.specs.TypedTrees.{RvalueTree}
-use Rattle.tm_typed.specs.TypedStatements.{GivenTree, LocalInitialiserTree, LocalTree, TypedTree, evaluates, declares}
-use Rattle.tm_typed.specs.TypedStatements.{runs_block, branches, branches_else, loops_while, loops_do, loops_for}
-use Rattle.tm_typed.specs.TypedStatements.{selects, breaks, continues, returns, locks, unlocks, yields, TypedTrees}
-use Rattle.tm_typed.specs.TypedStatements.{no_statements, and_statement, a_label, a_default_label, a_labelled_step}
-use Rattle.tm_typed.specs.TypedStatements.{TypedCases, no_typed_cases, and_typed_case}
-use Rattle.tm_laid.specs.Layouts.{LaidTree, object_at, object_of}
-use Rattle.concrete_values.specs.declared.values.Value.{Value}
-use Rattle.concrete_values.specs.Operators.{is_case}
-use Rattle.concrete_values.specs.Pointers.{base, part}
-use Rattle.concrete_values.specs.Actions.{store_at, clear_at}
-use Rattle.concrete_values.proofs.Bases.{part_of_base}
+use Rattle.concrete_steps.specs.tm_terms.declared.places.Place.{Place}
+use Rattle.concrete_steps.specs.tm_typed.declared.types.Scalar.{Scalar}
+use Rattle.concrete_steps.specs.tm_typed.declared.types.Scalar.TheVariants as Scalars
+use Rattle.concrete_steps.specs.tm_typed.declared.scopes.ObjectNumber.TheVariants.{Local}
+use Rattle.concrete_steps.specs.tm_typed.TypedTrees.{RvalueTree}
+use Rattle.concrete_steps.specs.tm_typed.TypedStatements.{GivenTree, LocalInitialiserTree, LocalTree, TypedTree}
+use Rattle.concrete_steps.specs.tm_typed.TypedStatements.{evaluates, declares}
+use Rattle.concrete_steps.specs.tm_typed.TypedStatements.{runs_block, branches, branches_else, loops_while, loops_do}
+use Rattle.concrete_steps.specs.tm_typed.TypedStatements.{loops_for}
+use Rattle.concrete_steps.specs.tm_typed.TypedStatements.{selects, breaks, continues, returns, locks, unlocks, yields}
+use Rattle.concrete_steps.specs.tm_typed.TypedStatements.{TypedTrees}
+use Rattle.concrete_steps.specs.tm_typed.TypedStatements.{no_statements, and_statement, a_label, a_default_label}
+use Rattle.concrete_steps.specs.tm_typed.TypedStatements.{a_labelled_step}
+use Rattle.concrete_steps.specs.tm_typed.TypedStatements.{TypedCases, no_typed_cases, and_typed_case}
+use Rattle.concrete_steps.specs.tm_laid.Layouts.{LaidTree, object_at, object_of}
+use Rattle.concrete_steps.specs.concrete_values.declared.values.Value.{Value}
+use Rattle.concrete_steps.specs.concrete_values.Operators.{is_case}
+use Rattle.concrete_steps.specs.concrete_values.Pointers.{base, part}
+use Rattle.concrete_steps.specs.concrete_values.Actions.{store_at, clear_at}
+use Rattle.concrete_steps.proofs.low.concrete_values.Bases.{part_of_base}
 use Rattle.concrete_steps.specs.NextAction.{After, act_then, as_value, as_branch, Here, expr_then, unused_then}
 use Rattle.concrete_steps.specs.NextAction.{condition_then, scalar_at, zero_of, is_given, cell_then, rest_of}
 use Rattle.concrete_steps.specs.NextAction.{cells_then, initialiser_then, local_then, locals_then, Exits, loop_over}

@@ -2,30 +2,36 @@
 use Rattle.std.proofs.Common.{◌≡◌, ℕ, Bool, true, false, pos, List, ◌∷◌, refl, sym, ◌∙◌, ap, arith}
 use Rattle.std.specs.Prelude.{if◌then◌else◌, Result, Some, None}
 use Rattle.std.proofs.Math.Path.{fun_ext}
-use Rattle.tm_cint.specs.declared.Class.{Class}
-use Rattle.tm_cint.specs.declared.int_types.IntType.{IntType}
-use Rattle.tm_cint.specs.declared.int_types.IntType.TheVariants as Ints
-use Rattle.tm_cint.specs.declared.operators.BinOp.{BinOp}
-use Rattle.tm_terms.specs.declared.places.Place.{Place}
-use Rattle.tm_typed.specs.declared.types.Scalar.TheVariants as Scalars
-use Rattle.tm_typed.specs.declared.expressions.Step.{Step as StepBy}
-use Rattle.tm_typed.specs.Rules.{is_comparison}
-use Rattle.tm_typed.specs.TypedTrees.{RvalueTree, a_constant, a_folded, a_null, a_load, an_address, a_structure}
-use Rattle.tm_typed.specs.TypedTrees.{the_same, a_unary, a_binary, a_comparison_of_pointers, a_move, a_not, an_and}
-use Rattle.tm_typed.specs.TypedTrees.{an_or, a_choice, an_assignment, a_compound, a_compound_move, a_unit_step}
-use Rattle.tm_typed.specs.TypedTrees.{a_pointer_step, a_function_call, an_input_value, a_probe, a_comma, a_conversion}
-use Rattle.tm_typed.specs.TypedTrees.{a_discard, LvalueTree, an_object, an_element, a_pointed_element, a_pointed}
-use Rattle.tm_typed.specs.TypedTrees.{an_arrow, a_part, RvalueTrees, no_rvalues, and_rvalue, lvalue_place}
-use Rattle.tm_laid.specs.Layouts.{LaidTree}
-use Rattle.concrete_values.specs.declared.values.Value.{Value}
-use Rattle.concrete_values.specs.declared.values.Value.TheVariants.{Number, Pointer as APointer}
-use Rattle.concrete_values.specs.declared.values.Pointer.TheVariants as Pointers
-use Rattle.concrete_values.specs.declared.actions.Next.{Next}
-use Rattle.concrete_values.specs.declared.actions.Next.TheVariants as Acts
-use Rattle.concrete_values.specs.Values.{nothing, truth_value}
-use Rattle.concrete_values.specs.Operators.{unary, binary, converted}
-use Rattle.concrete_values.specs.Pointers.{part, element, moved, dereferenced, usable, is_compared}
-use Rattle.concrete_values.specs.Actions.{load_at, store_at}
+use Rattle.concrete_steps.specs.tm_cint.declared.Class.{Class}
+use Rattle.concrete_steps.specs.tm_cint.declared.int_types.IntType.{IntType}
+use Rattle.concrete_steps.specs.tm_cint.declared.int_types.IntType.TheVariants as Ints
+use Rattle.concrete_steps.specs.tm_cint.declared.operators.BinOp.{BinOp}
+use Rattle.concrete_steps.specs.tm_terms.declared.places.Place.{Place}
+use Rattle.concrete_steps.specs.tm_typed.declared.types.Scalar.TheVariants as Scalars
+use Rattle.concrete_steps.specs.tm_typed.declared.expressions.Step.{Step as StepBy}
+use Rattle.concrete_steps.specs.tm_typed.Rules.{is_comparison}
+use Rattle.concrete_steps.specs.tm_typed.TypedTrees.{RvalueTree, a_constant, a_folded, a_null, a_load, an_address}
+use Rattle.concrete_steps.specs.tm_typed.TypedTrees.{a_structure}
+use Rattle.concrete_steps.specs.tm_typed.TypedTrees.{the_same, a_unary, a_binary, a_comparison_of_pointers, a_move}
+use Rattle.concrete_steps.specs.tm_typed.TypedTrees.{a_not, an_and}
+use Rattle.concrete_steps.specs.tm_typed.TypedTrees.{an_or, a_choice, an_assignment, a_compound, a_compound_move}
+use Rattle.concrete_steps.specs.tm_typed.TypedTrees.{a_unit_step}
+use Rattle.concrete_steps.specs.tm_typed.TypedTrees.{a_pointer_step, a_function_call, an_input_value, a_probe, a_comma}
+use Rattle.concrete_steps.specs.tm_typed.TypedTrees.{a_conversion}
+use Rattle.concrete_steps.specs.tm_typed.TypedTrees.{a_discard, LvalueTree, an_object, an_element, a_pointed_element}
+use Rattle.concrete_steps.specs.tm_typed.TypedTrees.{a_pointed}
+use Rattle.concrete_steps.specs.tm_typed.TypedTrees.{an_arrow, a_part, RvalueTrees, no_rvalues, and_rvalue}
+use Rattle.concrete_steps.specs.tm_typed.TypedTrees.{lvalue_place}
+use Rattle.concrete_steps.specs.tm_laid.Layouts.{LaidTree}
+use Rattle.concrete_steps.specs.concrete_values.declared.values.Value.{Value}
+use Rattle.concrete_steps.specs.concrete_values.declared.values.Value.TheVariants.{Number, Pointer as APointer}
+use Rattle.concrete_steps.specs.concrete_values.declared.values.Pointer.TheVariants as Pointers
+use Rattle.concrete_steps.specs.concrete_values.declared.actions.Next.{Next}
+use Rattle.concrete_steps.specs.concrete_values.declared.actions.Next.TheVariants as Acts
+use Rattle.concrete_steps.specs.concrete_values.Values.{nothing, truth_value}
+use Rattle.concrete_steps.specs.concrete_values.Operators.{unary, binary, converted}
+use Rattle.concrete_steps.specs.concrete_values.Pointers.{part, element, moved, dereferenced, usable, is_compared}
+use Rattle.concrete_steps.specs.concrete_values.Actions.{load_at, store_at}
 use Rattle.concrete_steps.specs.Places.{rvalue_place, is_pointer_scalar, gives_pointer}
 use Rattle.concrete_steps.specs.NextAction.{After, act_then, result_then, as_value, as_branch, value_used}
 use Rattle.concrete_steps.specs.NextAction.{compound_result, step_operator, step_value}

@@ -1,14 +1,14 @@
 -- The graph of a body: nodes are numbered as they are placed, and an edge is placed when both its ends are.
 use Rattle.std.specs.Prelude.{ℕ, zero, suc, nat_lt, Bool, true, false, if◌then◌else◌, List, [], ◌∷◌, ◌++◌, length}
 use Rattle.std.specs.Prelude.{get_or, Option, Some, None, option_map}
-use Rattle.tm_cint.specs.IntTypes.{lo_of, hi_of}
-use Rattle.tm_terms.specs.declared.places.Place.{Place}
-use Rattle.tm_typed.specs.declared.scopes.ObjectNumber.TheVariants as Numbers
-use Rattle.tm_typed.specs.declared.types.CType.{CType}
-use Rattle.tm_typed.specs.declared.types.CType.TheVariants as Types
-use Rattle.tm_typed.specs.Functions.{TypedBodyTree}
-use Rattle.tm_laid.specs.Layouts.{LaidTree, first_path, callee, object_of}
-use Rattle.concrete_values.specs.Values.{nothing, truth_value}
+use Rattle.concrete_steps.specs.tm_cint.IntTypes.{lo_of, hi_of}
+use Rattle.concrete_steps.specs.tm_terms.declared.places.Place.{Place}
+use Rattle.concrete_steps.specs.tm_typed.declared.scopes.ObjectNumber.TheVariants as Numbers
+use Rattle.concrete_steps.specs.tm_typed.declared.types.CType.{CType}
+use Rattle.concrete_steps.specs.tm_typed.declared.types.CType.TheVariants as Types
+use Rattle.concrete_steps.specs.tm_typed.Functions.{TypedBodyTree}
+use Rattle.concrete_steps.specs.tm_laid.Layouts.{LaidTree, first_path, callee, object_of}
+use Rattle.concrete_steps.specs.concrete_values.Values.{nothing, truth_value}
 use Rattle.flow_graph.specs.declared.graphs.Edge.{Edge}
 use Rattle.flow_graph.specs.declared.operations.Test.{Test}
 use Rattle.flow_graph.specs.declared.operations.Test.TheVariants as Tests

@@ -1,19 +1,28 @@
 -- What lowering needs of typed bodies, which the typing table sees to: each operand has a value, `break` and `continue`
 -- stand where they may, and a function with a result gives one back.
 use Rattle.std.specs.Prelude.{◌≡◌, ◌<◌, ℕ, Bool, true, false, List, [], ◌∷◌, Option, Some, None, length}
-use Rattle.tm_typed.specs.TypedTrees.{RvalueTree, a_constant, a_folded, a_null, a_load, an_address, a_structure}
-use Rattle.tm_typed.specs.TypedTrees.{the_same, a_unary, a_binary, a_comparison_of_pointers, a_move, a_not, an_and}
-use Rattle.tm_typed.specs.TypedTrees.{an_or, a_choice, an_assignment, a_compound, a_compound_move, a_unit_step}
-use Rattle.tm_typed.specs.TypedTrees.{a_pointer_step, a_function_call, an_input_value, a_probe, a_comma, a_conversion}
-use Rattle.tm_typed.specs.TypedTrees.{a_discard, LvalueTree, an_object, an_element, a_pointed_element, a_pointed}
-use Rattle.tm_typed.specs.TypedTrees.{an_arrow, a_part, RvalueTrees, no_rvalues, and_rvalue}
-use Rattle.tm_typed.specs.TypedStatements.{GivenTree, LocalInitialiserTree, LocalTree, TypedTree, evaluates, declares}
-use Rattle.tm_typed.specs.TypedStatements.{runs_block, branches, branches_else, loops_while, loops_do, loops_for}
-use Rattle.tm_typed.specs.TypedStatements.{selects, breaks, continues, returns, locks, unlocks, yields, TypedTrees}
-use Rattle.tm_typed.specs.TypedStatements.{no_statements, and_statement, TypedCase, a_label, a_default_label}
-use Rattle.tm_typed.specs.TypedStatements.{a_labelled_step, TypedCases, no_typed_cases, and_typed_case}
-use Rattle.tm_typed.specs.Functions.{TypedBodyTree}
-use Rattle.tm_laid.specs.Layouts.{LaidTree, first_path, callee}
+use Rattle.concrete_steps.specs.tm_typed.TypedTrees.{RvalueTree, a_constant, a_folded, a_null, a_load, an_address}
+use Rattle.concrete_steps.specs.tm_typed.TypedTrees.{a_structure}
+use Rattle.concrete_steps.specs.tm_typed.TypedTrees.{the_same, a_unary, a_binary, a_comparison_of_pointers, a_move}
+use Rattle.concrete_steps.specs.tm_typed.TypedTrees.{a_not, an_and}
+use Rattle.concrete_steps.specs.tm_typed.TypedTrees.{an_or, a_choice, an_assignment, a_compound, a_compound_move}
+use Rattle.concrete_steps.specs.tm_typed.TypedTrees.{a_unit_step}
+use Rattle.concrete_steps.specs.tm_typed.TypedTrees.{a_pointer_step, a_function_call, an_input_value, a_probe, a_comma}
+use Rattle.concrete_steps.specs.tm_typed.TypedTrees.{a_conversion}
+use Rattle.concrete_steps.specs.tm_typed.TypedTrees.{a_discard, LvalueTree, an_object, an_element, a_pointed_element}
+use Rattle.concrete_steps.specs.tm_typed.TypedTrees.{a_pointed}
+use Rattle.concrete_steps.specs.tm_typed.TypedTrees.{an_arrow, a_part, RvalueTrees, no_rvalues, and_rvalue}
+use Rattle.concrete_steps.specs.tm_typed.TypedStatements.{GivenTree, LocalInitialiserTree, LocalTree, TypedTree}
+use Rattle.concrete_steps.specs.tm_typed.TypedStatements.{evaluates, declares}
+use Rattle.concrete_steps.specs.tm_typed.TypedStatements.{runs_block, branches, branches_else, loops_while, loops_do}
+use Rattle.concrete_steps.specs.tm_typed.TypedStatements.{loops_for}
+use Rattle.concrete_steps.specs.tm_typed.TypedStatements.{selects, breaks, continues, returns, locks, unlocks, yields}
+use Rattle.concrete_steps.specs.tm_typed.TypedStatements.{TypedTrees}
+use Rattle.concrete_steps.specs.tm_typed.TypedStatements.{no_statements, and_statement, TypedCase, a_label}
+use Rattle.concrete_steps.specs.tm_typed.TypedStatements.{a_default_label}
+use Rattle.concrete_steps.specs.tm_typed.TypedStatements.{a_labelled_step, TypedCases, no_typed_cases, and_typed_case}
+use Rattle.concrete_steps.specs.tm_typed.Functions.{TypedBodyTree}
+use Rattle.concrete_steps.specs.tm_laid.Layouts.{LaidTree, first_path, callee}
 use Rattle.concrete_steps.specs.Places.{result_type}
 use Rattle.concrete_steps.specs.NextAction.{function_at}
 use Rattle.lowering.specs.Table.{is_value_type, has_value}

@@ -1,7 +1,7 @@
 -- Whose objects a body clears.
 use Rattle.std.specs.Prelude.{◌≡◌, ℕ}
-use Rattle.tm_typed.specs.declared.scopes.ObjectNumber.TheVariants.{Local}
-use Rattle.tm_laid.specs.Layouts.{LaidTree, first_path, callee, object_of}
+use Rattle.concrete_steps.specs.tm_typed.declared.scopes.ObjectNumber.TheVariants.{Local}
+use Rattle.concrete_steps.specs.tm_laid.Layouts.{LaidTree, first_path, callee, object_of}
 
 -- the call paths of a body: its first one, and those of the calls on them
 pub data IsPathOf (laid : LaidTree) (body : ℕ) : ℕ → Type 0 where

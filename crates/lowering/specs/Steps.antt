@@ -1,7 +1,7 @@
 -- What is done for an expression or a statement: operations in order, over variables. The variables of a list of steps
 -- are numbered from 0 on, in the order in which the steps give them.
 use Rattle.std.specs.Prelude.{ℕ, ℤ, Bool, Option}
-use Rattle.tm_terms.specs.declared.places.Place.{Place}
+use Rattle.concrete_steps.specs.tm_terms.declared.places.Place.{Place}
 use Rattle.flow_graph.specs.declared.operations.Test.{Test}
 use Rattle.flow_graph.specs.declared.operations.Operation.{Operation}
 

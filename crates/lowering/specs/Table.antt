@@ -1,33 +1,43 @@
 -- The lowering table: for each form of an expression and of a statement its operations in order.
 use Rattle.std.specs.Prelude.{ℕ, zero, suc, pos, ◌==◌, ◌&&◌, Bool, true, false, if◌then◌else◌, List, [], ◌∷◌, Option}
 use Rattle.std.specs.Prelude.{Some, None}
-use Rattle.tm_cint.specs.declared.int_types.IntType.{IntType}
-use Rattle.tm_cint.specs.declared.int_types.IntType.TheVariants as Ints
-use Rattle.tm_cint.specs.declared.operators.BinOp.{BinOp}
-use Rattle.tm_cint.specs.Conversions.{represents_all}
-use Rattle.tm_terms.specs.declared.places.Place.{Place}
-use Rattle.tm_typed.specs.declared.types.Scalar.{Scalar}
-use Rattle.tm_typed.specs.declared.types.Scalar.TheVariants as Scalars
-use Rattle.tm_typed.specs.declared.types.CType.{CType}
-use Rattle.tm_typed.specs.declared.types.CType.TheVariants as Types
-use Rattle.tm_typed.specs.declared.expressions.Step.{Step as StepBy}
-use Rattle.tm_typed.specs.declared.scopes.ObjectNumber.TheVariants as Numbers
-use Rattle.tm_typed.specs.Rules.{is_comparison}
-use Rattle.tm_typed.specs.TypedTrees.{RvalueTree, a_constant, a_folded, a_null, a_load, an_address, a_structure}
-use Rattle.tm_typed.specs.TypedTrees.{the_same, a_unary, a_binary, a_comparison_of_pointers, a_move, a_not, an_and}
-use Rattle.tm_typed.specs.TypedTrees.{an_or, a_choice, an_assignment, a_compound, a_compound_move, a_unit_step}
-use Rattle.tm_typed.specs.TypedTrees.{a_pointer_step, a_function_call, an_input_value, a_probe, a_comma, a_conversion}
-use Rattle.tm_typed.specs.TypedTrees.{a_discard, LvalueTree, an_object, an_element, a_pointed_element, a_pointed}
-use Rattle.tm_typed.specs.TypedTrees.{an_arrow, a_part, RvalueTrees, no_rvalues, and_rvalue, lvalue_place}
-use Rattle.tm_typed.specs.TypedStatements.{GivenTree, LocalInitialiserTree, LocalTree, TypedTree, evaluates, declares}
-use Rattle.tm_typed.specs.TypedStatements.{runs_block, branches, branches_else, loops_while, loops_do, loops_for}
-use Rattle.tm_typed.specs.TypedStatements.{selects, breaks, continues, returns, locks, unlocks, yields, TypedTrees}
-use Rattle.tm_typed.specs.TypedStatements.{no_statements, and_statement, TypedCase, a_label, a_default_label}
-use Rattle.tm_typed.specs.TypedStatements.{a_labelled_step, TypedCases, no_typed_cases, and_typed_case}
-use Rattle.tm_laid.specs.TypeCells.{entry_of}
-use Rattle.tm_laid.specs.Layouts.{LaidTree, callee, object_of, object_at}
-use Rattle.concrete_values.specs.declared.values.Value.TheVariants.{Number, Pointer as APointer}
-use Rattle.concrete_values.specs.declared.values.Pointer.TheVariants as Pointers
+use Rattle.concrete_steps.specs.tm_cint.declared.int_types.IntType.{IntType}
+use Rattle.concrete_steps.specs.tm_cint.declared.int_types.IntType.TheVariants as Ints
+use Rattle.concrete_steps.specs.tm_cint.declared.operators.BinOp.{BinOp}
+use Rattle.concrete_steps.specs.tm_cint.Conversions.{represents_all}
+use Rattle.concrete_steps.specs.tm_terms.declared.places.Place.{Place}
+use Rattle.concrete_steps.specs.tm_typed.declared.types.Scalar.{Scalar}
+use Rattle.concrete_steps.specs.tm_typed.declared.types.Scalar.TheVariants as Scalars
+use Rattle.concrete_steps.specs.tm_typed.declared.types.CType.{CType}
+use Rattle.concrete_steps.specs.tm_typed.declared.types.CType.TheVariants as Types
+use Rattle.concrete_steps.specs.tm_typed.declared.expressions.Step.{Step as StepBy}
+use Rattle.concrete_steps.specs.tm_typed.declared.scopes.ObjectNumber.TheVariants as Numbers
+use Rattle.concrete_steps.specs.tm_typed.Rules.{is_comparison}
+use Rattle.concrete_steps.specs.tm_typed.TypedTrees.{RvalueTree, a_constant, a_folded, a_null, a_load, an_address}
+use Rattle.concrete_steps.specs.tm_typed.TypedTrees.{a_structure}
+use Rattle.concrete_steps.specs.tm_typed.TypedTrees.{the_same, a_unary, a_binary, a_comparison_of_pointers, a_move}
+use Rattle.concrete_steps.specs.tm_typed.TypedTrees.{a_not, an_and}
+use Rattle.concrete_steps.specs.tm_typed.TypedTrees.{an_or, a_choice, an_assignment, a_compound, a_compound_move}
+use Rattle.concrete_steps.specs.tm_typed.TypedTrees.{a_unit_step}
+use Rattle.concrete_steps.specs.tm_typed.TypedTrees.{a_pointer_step, a_function_call, an_input_value, a_probe, a_comma}
+use Rattle.concrete_steps.specs.tm_typed.TypedTrees.{a_conversion}
+use Rattle.concrete_steps.specs.tm_typed.TypedTrees.{a_discard, LvalueTree, an_object, an_element, a_pointed_element}
+use Rattle.concrete_steps.specs.tm_typed.TypedTrees.{a_pointed}
+use Rattle.concrete_steps.specs.tm_typed.TypedTrees.{an_arrow, a_part, RvalueTrees, no_rvalues, and_rvalue}
+use Rattle.concrete_steps.specs.tm_typed.TypedTrees.{lvalue_place}
+use Rattle.concrete_steps.specs.tm_typed.TypedStatements.{GivenTree, LocalInitialiserTree, LocalTree, TypedTree}
+use Rattle.concrete_steps.specs.tm_typed.TypedStatements.{evaluates, declares}
+use Rattle.concrete_steps.specs.tm_typed.TypedStatements.{runs_block, branches, branches_else, loops_while, loops_do}
+use Rattle.concrete_steps.specs.tm_typed.TypedStatements.{loops_for}
+use Rattle.concrete_steps.specs.tm_typed.TypedStatements.{selects, breaks, continues, returns, locks, unlocks, yields}
+use Rattle.concrete_steps.specs.tm_typed.TypedStatements.{TypedTrees}
+use Rattle.concrete_steps.specs.tm_typed.TypedStatements.{no_statements, and_statement, TypedCase, a_label}
+use Rattle.concrete_steps.specs.tm_typed.TypedStatements.{a_default_label}
+use Rattle.concrete_steps.specs.tm_typed.TypedStatements.{a_labelled_step, TypedCases, no_typed_cases, and_typed_case}
+use Rattle.concrete_steps.specs.tm_laid.TypeCells.{entry_of}
+use Rattle.concrete_steps.specs.tm_laid.Layouts.{LaidTree, callee, object_of, object_at}
+use Rattle.concrete_steps.specs.concrete_values.declared.values.Value.TheVariants.{Number, Pointer as APointer}
+use Rattle.concrete_steps.specs.concrete_values.declared.values.Pointer.TheVariants as Pointers
 use Rattle.flow_graph.specs.declared.operations.Test.{Test}
 use Rattle.flow_graph.specs.declared.operations.Test.TheVariants as Tests
 use Rattle.flow_graph.specs.declared.operations.Into.{Into}

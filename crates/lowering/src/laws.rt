@@ -3,9 +3,9 @@
 //! has at most one `default`, a function with a result gives one back, and each call has its call path. That each
 //! program that is typed and laid out is so, no law of this crate says.
 ghost use Rattle.std.specs.Prelude.{◌≡◌, ◌↔◌, ℕ, List};
-ghost use Rattle.tm_laid.specs.Layouts.{LaidTree};
-ghost use Rattle.concrete_values.specs.declared.actions.Next.{Next};
-ghost use Rattle.concrete_values.specs.declared.values.Answer.{Answer};
+ghost use Rattle.concrete_steps.specs.tm_laid.Layouts.{LaidTree};
+ghost use Rattle.concrete_steps.specs.concrete_values.declared.actions.Next.{Next};
+ghost use Rattle.concrete_steps.specs.concrete_values.declared.values.Answer.{Answer};
 ghost use Rattle.concrete_steps.specs.NextAction.{next};
 ghost use Rattle.flow_graph.specs.declared.graphs.Edge.{Edge};
 ghost use Rattle.flow_graph.specs.declared.operations.Operation.TheVariants as Op;

@@ -1,11 +1,11 @@
 -- The graphs of bodies can be configured.
 use Rattle.std.proofs.Common.{◌≡◌, ◌<◌, ◌≤◌, ℕ, sym, subst, length, arith, All, get_or}
-use Rattle.tm_laid.specs.Layouts.{LaidTree}
-use Rattle.flow_graph.specs.declared.graphs.Edge.{Edge}
-use Rattle.flow_graph.specs.declared.graphs.Graph.{Graph}
-use Rattle.flow_graph.specs.declared.operations.Operation.{Operation}
-use Rattle.flow_graph.specs.declared.operations.Operation.TheVariants as Op
-use Rattle.flow_graph.specs.Graphs.{Edges}
+use Rattle.cell_layout.specs.tm_laid.Layouts.{LaidTree}
+use Rattle.lowering.specs.flow_graph.declared.graphs.Edge.{Edge}
+use Rattle.lowering.specs.flow_graph.declared.graphs.Graph.{Graph}
+use Rattle.lowering.specs.flow_graph.declared.operations.Operation.{Operation}
+use Rattle.lowering.specs.flow_graph.declared.operations.Operation.TheVariants as Op
+use Rattle.lowering.specs.flow_graph.Graphs.{Edges}
 use Rattle.lowering.specs.Built.{built, graph_of}
 use Rattle.mutex_configs.specs.Sets.{IsOfSixteen}
 use Rattle.mutex_configs.specs.Graphs.{IsGraph}

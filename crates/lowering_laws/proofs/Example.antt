@@ -4,25 +4,26 @@
 --   __task(1) void t(void){f()+1;}
 use Rattle.std.proofs.Common.{◌≡◌, refl, inr, ℕ, zero, suc, ◌<◌, true, false, List, [], ◌∷◌, arith}
 use Rattle.std.specs.Prelude.{Contains, Some, None, Result, Ok, Err}
-use Rattle.tm_terms.specs.declared.places.Place.{Place}
-use Rattle.tm_terms.specs.declared.tokens.Name.{Name}
-use Rattle.tm_terms.specs.declared.tokens.IntConstant.{IntConstant}
-use Rattle.tm_terms.specs.declared.tokens.Longs.TheVariants as Suffix
-use Rattle.tm_terms.specs.declared.types_named.SpecWord.TheVariants as Specs
-use Rattle.tm_terms.specs.declared.types_named.Basic.TheVariants as Basics
-use Rattle.tm_terms.specs.declared.exprs.Binary.TheVariants as Binaries
-use Rattle.tm_terms.specs.declared.exprs.Infix.TheVariants as Infixes
-use Rattle.tm_terms.specs.declared.refusals.Refusal.{Refusal}
-use Rattle.tm_terms.specs.ExprTrees.{a_call, an_infix, an_integer, no_arguments}
-use Rattle.tm_trees.specs.DeclarationTrees.{a_plain, and_specifier, no_specifiers}
-use Rattle.tm_trees.specs.FileTrees.{ItemTree, a_function, a_return, a_step, a_task, a_value, and_part, no_parts}
-use Rattle.tm_trees.specs.FileTrees.{only_void}
-use Rattle.tm_typed.specs.Rules.{working_type, right_type, values_fold}
-use Rattle.tm_typed.specs.CallGraph.{Reaches, by_call, by_calls, calls_in}
-use Rattle.tm_typed.specs.Files.{FileState, first_file_state, items_in, file_of, IsAcyclic, IsTyped}
-use Rattle.tm_laid.specs.CallTrees.{call_tree}
-use Rattle.tm_laid.specs.TypeCells.{cell_count, abstract_count}
-use Rattle.tm_laid.specs.Layouts.{layout_of, laid_count, laid_out}
+use Rattle.call_graph.specs.tm_terms.declared.places.Place.{Place}
+use Rattle.call_graph.specs.tm_terms.declared.tokens.Name.{Name}
+use Rattle.call_graph.specs.tm_terms.declared.tokens.IntConstant.{IntConstant}
+use Rattle.call_graph.specs.tm_terms.declared.tokens.Longs.TheVariants as Suffix
+use Rattle.call_graph.specs.tm_terms.declared.types_named.SpecWord.TheVariants as Specs
+use Rattle.call_graph.specs.tm_terms.declared.types_named.Basic.TheVariants as Basics
+use Rattle.call_graph.specs.tm_terms.declared.exprs.Binary.TheVariants as Binaries
+use Rattle.call_graph.specs.tm_terms.declared.exprs.Infix.TheVariants as Infixes
+use Rattle.call_graph.specs.tm_terms.declared.refusals.Refusal.{Refusal}
+use Rattle.call_graph.specs.tm_terms.ExprTrees.{a_call, an_infix, an_integer, no_arguments}
+use Rattle.call_graph.specs.tm_trees.DeclarationTrees.{a_plain, and_specifier, no_specifiers}
+use Rattle.call_graph.specs.tm_trees.FileTrees.{ItemTree, a_function, a_return, a_step, a_task, a_value, and_part}
+use Rattle.call_graph.specs.tm_trees.FileTrees.{no_parts}
+use Rattle.call_graph.specs.tm_trees.FileTrees.{only_void}
+use Rattle.call_graph.specs.tm_typed.Rules.{working_type, right_type, values_fold}
+use Rattle.call_graph.specs.tm_typed.CallGraph.{Reaches, by_call, by_calls, calls_in}
+use Rattle.call_graph.specs.tm_typed.Files.{FileState, first_file_state, items_in, file_of, IsAcyclic, IsTyped}
+use Rattle.cell_layout.specs.tm_laid.CallTrees.{call_tree}
+use Rattle.cell_layout.specs.tm_laid.TypeCells.{cell_count, abstract_count}
+use Rattle.cell_layout.specs.tm_laid.Layouts.{layout_of, laid_count, laid_out}
 use Rattle.lowering.specs.Lowerable.{IsLowerable}
 use Rattle.lowering_laws.specs.LaidFiles.{IsLaidFile}
 use Rattle.lowering_laws.proofs.Lowered.{lowerable}

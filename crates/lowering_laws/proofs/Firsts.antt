@@ -1,34 +1,44 @@
 -- In each `for` of a typed statement an expression or a declaration stands first.
 use Rattle.std.specs.Prelude.{Bool, true, false, not, ◌||◌, Option, Some, None, Ok}
-use Rattle.tm_cint.specs.declared.int_types.IntType.{IntType}
-use Rattle.tm_terms.specs.declared.places.Place.{Place}
-use Rattle.tm_terms.specs.declared.refusals.Kind.TheVariants as Kinds
-use Rattle.tm_terms.specs.ExprTrees.{Tree}
-use Rattle.tm_trees.specs.FileTrees.{ForFirstTree, by_expression, by_declaration, StatementTree, a_block, a_value}
-use Rattle.tm_trees.specs.FileTrees.{an_if, an_if_else, a_while, a_do, a_for, a_switch, a_break, a_continue, a_return}
-use Rattle.tm_trees.specs.FileTrees.{a_lock}
-use Rattle.tm_trees.specs.FileTrees.{an_unlock, a_yield, PartTree, a_local, a_step, PartTrees, no_parts, and_part}
-use Rattle.tm_trees.specs.FileTrees.{CaseTree, a_case, a_default, a_case_step, CaseTrees, no_cases, and_case}
-use Rattle.tm_typed.specs.Scopes.{named, ctype_of}
-use Rattle.tm_typed.specs.TypeNames.{is_void}
-use Rattle.tm_typed.specs.TypedTrees.{RvalueTree}
-use Rattle.tm_typed.specs.Refusals.{then_with, row, row_unless}
-use Rattle.tm_typed.specs.Operands.{valued, given, is_structure}
-use Rattle.tm_typed.specs.States.{State}
-use Rattle.tm_typed.specs.Evaluation.{typed_in}
-use Rattle.tm_typed.specs.Declarations.{local_declaration}
-use Rattle.tm_typed.specs.WellTyped.{OnAnswer}
-use Rattle.tm_typed.specs.TypedStatements.{TypedTree, evaluates, declares, runs_block, branches, branches_else}
-use Rattle.tm_typed.specs.TypedStatements.{loops_while, loops_do, loops_for, selects, breaks, continues, returns, locks}
-use Rattle.tm_typed.specs.TypedStatements.{unlocks, yields, TypedTrees, no_statements, and_statement, TypedCase}
-use Rattle.tm_typed.specs.TypedStatements.{a_label, a_default_label, a_labelled_step, TypedCases, no_typed_cases}
-use Rattle.tm_typed.specs.TypedStatements.{and_typed_case}
-use Rattle.tm_typed.specs.StatementRules.{Around, looping, switching, Labels, no_labels, with_label, default_rules}
-use Rattle.tm_typed.specs.StatementRules.{break_rules, continue_rules, return_rules, return_value_rules, mutex_rules}
-use Rattle.tm_typed.specs.StatementTyping.{condition_in, optional_value_in, optional_condition_in, return_in}
-use Rattle.tm_typed.specs.StatementTyping.{selector_in, label_in, first_in, enter, leave, statement_in, part_in}
-use Rattle.tm_typed.specs.StatementTyping.{parts_in, case_in, cases_in}
-use Rattle.typing_laws.proofs.Steps.{then_on, then_any}
+use Rattle.call_graph.specs.tm_cint.declared.int_types.IntType.{IntType}
+use Rattle.call_graph.specs.tm_terms.declared.places.Place.{Place}
+use Rattle.call_graph.specs.tm_terms.declared.refusals.Kind.TheVariants as Kinds
+use Rattle.call_graph.specs.tm_terms.ExprTrees.{Tree}
+use Rattle.call_graph.specs.tm_trees.FileTrees.{ForFirstTree, by_expression, by_declaration, StatementTree, a_block}
+use Rattle.call_graph.specs.tm_trees.FileTrees.{a_value}
+use Rattle.call_graph.specs.tm_trees.FileTrees.{an_if, an_if_else, a_while, a_do, a_for, a_switch, a_break, a_continue}
+use Rattle.call_graph.specs.tm_trees.FileTrees.{a_return}
+use Rattle.call_graph.specs.tm_trees.FileTrees.{a_lock}
+use Rattle.call_graph.specs.tm_trees.FileTrees.{an_unlock, a_yield, PartTree, a_local, a_step, PartTrees, no_parts}
+use Rattle.call_graph.specs.tm_trees.FileTrees.{and_part}
+use Rattle.call_graph.specs.tm_trees.FileTrees.{CaseTree, a_case, a_default, a_case_step, CaseTrees, no_cases, and_case}
+use Rattle.call_graph.specs.tm_typed.Scopes.{named, ctype_of}
+use Rattle.call_graph.specs.tm_typed.TypeNames.{is_void}
+use Rattle.call_graph.specs.tm_typed.TypedTrees.{RvalueTree}
+use Rattle.call_graph.specs.tm_typed.Refusals.{then_with, row, row_unless}
+use Rattle.call_graph.specs.tm_typed.Operands.{valued, given, is_structure}
+use Rattle.call_graph.specs.tm_typed.States.{State}
+use Rattle.call_graph.specs.tm_typed.Evaluation.{typed_in}
+use Rattle.call_graph.specs.tm_typed.Declarations.{local_declaration}
+use Rattle.call_graph.specs.tm_typed.WellTyped.{OnAnswer}
+use Rattle.call_graph.specs.tm_typed.TypedStatements.{TypedTree, evaluates, declares, runs_block, branches}
+use Rattle.call_graph.specs.tm_typed.TypedStatements.{branches_else}
+use Rattle.call_graph.specs.tm_typed.TypedStatements.{loops_while, loops_do, loops_for, selects, breaks, continues}
+use Rattle.call_graph.specs.tm_typed.TypedStatements.{returns, locks}
+use Rattle.call_graph.specs.tm_typed.TypedStatements.{unlocks, yields, TypedTrees, no_statements, and_statement}
+use Rattle.call_graph.specs.tm_typed.TypedStatements.{TypedCase}
+use Rattle.call_graph.specs.tm_typed.TypedStatements.{a_label, a_default_label, a_labelled_step, TypedCases}
+use Rattle.call_graph.specs.tm_typed.TypedStatements.{no_typed_cases}
+use Rattle.call_graph.specs.tm_typed.TypedStatements.{and_typed_case}
+use Rattle.call_graph.specs.tm_typed.StatementRules.{Around, looping, switching, Labels, no_labels, with_label}
+use Rattle.call_graph.specs.tm_typed.StatementRules.{default_rules}
+use Rattle.call_graph.specs.tm_typed.StatementRules.{break_rules, continue_rules, return_rules, return_value_rules}
+use Rattle.call_graph.specs.tm_typed.StatementRules.{mutex_rules}
+use Rattle.call_graph.specs.tm_typed.StatementTyping.{condition_in, optional_value_in, optional_condition_in, return_in}
+use Rattle.call_graph.specs.tm_typed.StatementTyping.{selector_in, label_in, first_in, enter, leave, statement_in}
+use Rattle.call_graph.specs.tm_typed.StatementTyping.{part_in}
+use Rattle.call_graph.specs.tm_typed.StatementTyping.{parts_in, case_in, cases_in}
+use Rattle.typed_file_laws.proofs.low.typing_laws.Steps.{then_on, then_any}
 
 abbrev pub IsFirst : TypedTree → Type 0
 IsFirst (evaluates e) = Unit {0}

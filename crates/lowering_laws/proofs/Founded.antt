@@ -1,15 +1,16 @@
 -- What typing leaves behind of a typed file.
 use Rattle.std.proofs.Common.{◌≡◌, refl, sym, subst, inl, inr, ℕ, ◌<◌, List, length}
 use Rattle.std.specs.Prelude.{All, Contains, Option, Some, None, Result, Ok, Err}
-use Rattle.tm_terms.specs.declared.places.Place.{Place}
-use Rattle.tm_terms.specs.declared.tokens.Name.{Name}
-use Rattle.tm_terms.specs.declared.refusals.Refusal.{Refusal}
-use Rattle.tm_trees.specs.FileTrees.{ItemTree}
-use Rattle.tm_typed.specs.CallGraph.{AreCalleesFirst, calls_in}
-use Rattle.tm_typed.specs.Files.{FileState, TypedFileTree, first_file_state, items_in, file_of, undefined_use}
-use Rattle.tm_typed.specs.Files.{IsAcyclic, Closes, Ends, IsTyped}
-use Rattle.tm_typed.specs.WellTyped.{OnAnswer}
-use Rattle.tm_laid.specs.Layable.{IsLayable}
+use Rattle.call_graph.specs.tm_terms.declared.places.Place.{Place}
+use Rattle.call_graph.specs.tm_terms.declared.tokens.Name.{Name}
+use Rattle.call_graph.specs.tm_terms.declared.refusals.Refusal.{Refusal}
+use Rattle.call_graph.specs.tm_trees.FileTrees.{ItemTree}
+use Rattle.call_graph.specs.tm_typed.CallGraph.{AreCalleesFirst, calls_in}
+use Rattle.call_graph.specs.tm_typed.Files.{FileState, TypedFileTree, first_file_state, items_in, file_of}
+use Rattle.call_graph.specs.tm_typed.Files.{undefined_use}
+use Rattle.call_graph.specs.tm_typed.Files.{IsAcyclic, Closes, Ends, IsTyped}
+use Rattle.call_graph.specs.tm_typed.WellTyped.{OnAnswer}
+use Rattle.cell_layout.specs.tm_laid.Layable.{IsLayable}
 use Rattle.call_graph.specs.Orders.{IsWholeOrder}
 use Rattle.typed_file_laws.specs.LawfulFiles.{IsLawfulFile}
 use Rattle.typed_file_laws.proofs.ItemSteps.{file_lawful}

@@ -1,15 +1,15 @@
 -- Graphs of the bodies of a file that is typed and laid out.
 use Rattle.std.proofs.Common.{◌≡◌, sym, subst, ℕ, ◌<◌, List, length, arith}
 use Rattle.std.specs.Prelude.{◌↔◌}
-use Rattle.tm_laid.specs.Layouts.{LaidTree}
-use Rattle.concrete_values.specs.declared.actions.Next.{Next}
-use Rattle.concrete_values.specs.declared.values.Answer.{Answer}
-use Rattle.concrete_steps.specs.NextAction.{next}
-use Rattle.flow_graph.specs.Graphs.{IsLive, IsPlain}
-use Rattle.flow_graph.specs.Runs.{GraphNext}
-use Rattle.flow_graph.specs.Positions.{RunsAlong}
-use Rattle.flow_graph.proofs.Same.{same_next}
-use Rattle.flow_graph.proofs.Positions.{runs_along}
+use Rattle.cell_layout.specs.tm_laid.Layouts.{LaidTree}
+use Rattle.lowering.specs.concrete_values.declared.actions.Next.{Next}
+use Rattle.lowering.specs.concrete_values.declared.values.Answer.{Answer}
+use Rattle.lowering.specs.concrete_steps.NextAction.{next}
+use Rattle.lowering.specs.flow_graph.Graphs.{IsLive, IsPlain}
+use Rattle.lowering.specs.flow_graph.Runs.{GraphNext}
+use Rattle.lowering.specs.flow_graph.Positions.{RunsAlong}
+use Rattle.lowering.proofs.low.flow_graph.Same.{same_next}
+use Rattle.lowering.proofs.low.flow_graph.Positions.{runs_along}
 use Rattle.lowering.specs.Built.{graph_of}
 use Rattle.lowering.specs.Lowerable.{IsLowerable}
 use Rattle.lowering.proofs.Bodies.{graph_is_next, graph_is_plain, nothing_live}

@@ -12,3 +12,4 @@ pub mod TableGraphs
 pub mod Configured
 pub mod GraphLaws
 mod Example
+pub mod low

@@ -6,22 +6,23 @@ use Rattle.std.proofs.lemmas.Bool.{cases_lt}
 use Rattle.std.proofs.lemmas.Option.{none-some, same_Some, slice_get_within, get_or_from_slice_get}
 use Rattle.std.proofs.lemmas.List.{get_or_past}
 use Rattle.std.proofs.lemmas.List.Elements.{All-get_or}
-use Rattle.tm_terms.specs.declared.refusals.Limit.{Limit}
-use Rattle.tm_terms.specs.declared.tokens.Name.{Name}
-use Rattle.tm_trees.specs.FileTrees.{ItemTree}
-use Rattle.tm_typed.specs.declared.files.LocalEntry.{LocalEntry}
-use Rattle.tm_typed.specs.Scopes.{Function}
-use Rattle.tm_typed.specs.CallGraph.{calls_in}
-use Rattle.tm_typed.specs.StatementRules.{in_body}
-use Rattle.tm_typed.specs.Functions.{TypedBodyTree}
-use Rattle.tm_typed.specs.Files.{TypedFunctionTree, no_typed_function, TypedFileTree, IsTyped}
-use Rattle.tm_typed.specs.WellTyped.{OnAnswer}
-use Rattle.tm_laid.specs.Paths.{bodies_of}
-use Rattle.tm_laid.specs.TypeCells.{entry_of}
-use Rattle.tm_laid.specs.Layouts.{LaidTree, layout_of, unless_beyond, is_exceeded, laid_limits, laid_out, path_at}
-use Rattle.tm_laid.specs.Layouts.{callee}
-use Rattle.tm_laid.specs.Layable.{IsLayable}
-use Rattle.typing_laws.proofs.Steps.{from_answer}
+use Rattle.call_graph.specs.tm_terms.declared.refusals.Limit.{Limit}
+use Rattle.call_graph.specs.tm_terms.declared.tokens.Name.{Name}
+use Rattle.call_graph.specs.tm_trees.FileTrees.{ItemTree}
+use Rattle.call_graph.specs.tm_typed.declared.files.LocalEntry.{LocalEntry}
+use Rattle.call_graph.specs.tm_typed.Scopes.{Function}
+use Rattle.call_graph.specs.tm_typed.CallGraph.{calls_in}
+use Rattle.call_graph.specs.tm_typed.StatementRules.{in_body}
+use Rattle.call_graph.specs.tm_typed.Functions.{TypedBodyTree}
+use Rattle.call_graph.specs.tm_typed.Files.{TypedFunctionTree, no_typed_function, TypedFileTree, IsTyped}
+use Rattle.call_graph.specs.tm_typed.WellTyped.{OnAnswer}
+use Rattle.cell_layout.specs.tm_laid.Paths.{bodies_of}
+use Rattle.cell_layout.specs.tm_laid.TypeCells.{entry_of}
+use Rattle.cell_layout.specs.tm_laid.Layouts.{LaidTree, layout_of, unless_beyond, is_exceeded, laid_limits, laid_out}
+use Rattle.cell_layout.specs.tm_laid.Layouts.{path_at}
+use Rattle.cell_layout.specs.tm_laid.Layouts.{callee}
+use Rattle.cell_layout.specs.tm_laid.Layable.{IsLayable}
+use Rattle.typed_file_laws.proofs.low.typing_laws.Steps.{from_answer}
 use Rattle.typed_file_laws.specs.TypedBodies.{called, file_context, IsBodyOf}
 use Rattle.typed_file_laws.specs.Mentions.{StatementsMention}
 use Rattle.typed_file_laws.specs.Sites.{is_defined_object, function_of_file}
@@ -29,7 +30,7 @@ use Rattle.typed_file_laws.proofs.TypedBodies.{bodies_are_well_formed}
 use Rattle.typed_file_laws.proofs.MentionFiles.{sites_stand}
 use Rattle.cell_layout.specs.Laws.{GoesOnBy}
 use Rattle.cell_layout.proofs.PathCalls.{calls_lead}
-use Rattle.concrete_steps.specs.Places.{result_type}
+use Rattle.lowering.specs.concrete_steps.Places.{result_type}
 use Rattle.lowering.specs.Table.{is_value_type}
 use Rattle.lowering.specs.Lowerable.{IsBody, IsLowerable}
 use Rattle.lowering_laws.specs.LaidFiles.{IsLaidFile}

@@ -1,22 +1,28 @@
 -- Each operand of a well-formed expression has a value.
 use Rattle.std.proofs.Common.{◌≡◌, refl, sym, ap, ◌∙◌, ℕ, Bool, true, false, List, [], ◌∷◌}
 use Rattle.std.specs.Prelude.{slice_get, Some}
-use Rattle.tm_cint.specs.declared.int_types.IntType.TheVariants as Ints
-use Rattle.tm_typed.specs.declared.types.Scalar.{Scalar}
-use Rattle.tm_typed.specs.declared.types.Scalar.TheVariants as Scalars
-use Rattle.tm_typed.specs.declared.types.CType.{CType}
-use Rattle.tm_typed.specs.declared.types.CType.TheVariants as Types
-use Rattle.tm_typed.specs.Scopes.{Function, ctype_of}
-use Rattle.tm_typed.specs.Operands.{kept_sort}
-use Rattle.tm_typed.specs.TypedTrees.{RvalueTree, a_constant, a_folded, a_null, a_load, an_address, a_structure}
-use Rattle.tm_typed.specs.TypedTrees.{the_same, a_unary, a_binary, a_comparison_of_pointers, a_move, a_not, an_and}
-use Rattle.tm_typed.specs.TypedTrees.{an_or, a_choice, an_assignment, a_compound, a_compound_move, a_unit_step}
-use Rattle.tm_typed.specs.TypedTrees.{a_pointer_step, a_function_call, an_input_value, a_probe, a_comma, a_conversion}
-use Rattle.tm_typed.specs.TypedTrees.{a_discard, LvalueTree, an_object, an_element, a_pointed_element, a_pointed}
-use Rattle.tm_typed.specs.TypedTrees.{an_arrow, a_part, RvalueTrees, no_rvalues, and_rvalue}
-use Rattle.tm_typed.specs.WellTyped.{ValueKind, a_number, a_pointer, no_value, kind_of_scalar, kind_of, IsCondition}
-use Rattle.tm_typed.specs.WellTyped.{Context, IsRvalue, IsLvalue, AreArguments}
-use Rattle.tm_laid.specs.Layouts.{LaidTree}
+use Rattle.call_graph.specs.tm_cint.declared.int_types.IntType.TheVariants as Ints
+use Rattle.call_graph.specs.tm_typed.declared.types.Scalar.{Scalar}
+use Rattle.call_graph.specs.tm_typed.declared.types.Scalar.TheVariants as Scalars
+use Rattle.call_graph.specs.tm_typed.declared.types.CType.{CType}
+use Rattle.call_graph.specs.tm_typed.declared.types.CType.TheVariants as Types
+use Rattle.call_graph.specs.tm_typed.Scopes.{Function, ctype_of}
+use Rattle.call_graph.specs.tm_typed.Operands.{kept_sort}
+use Rattle.call_graph.specs.tm_typed.TypedTrees.{RvalueTree, a_constant, a_folded, a_null, a_load, an_address}
+use Rattle.call_graph.specs.tm_typed.TypedTrees.{a_structure}
+use Rattle.call_graph.specs.tm_typed.TypedTrees.{the_same, a_unary, a_binary, a_comparison_of_pointers, a_move, a_not}
+use Rattle.call_graph.specs.tm_typed.TypedTrees.{an_and}
+use Rattle.call_graph.specs.tm_typed.TypedTrees.{an_or, a_choice, an_assignment, a_compound, a_compound_move}
+use Rattle.call_graph.specs.tm_typed.TypedTrees.{a_unit_step}
+use Rattle.call_graph.specs.tm_typed.TypedTrees.{a_pointer_step, a_function_call, an_input_value, a_probe, a_comma}
+use Rattle.call_graph.specs.tm_typed.TypedTrees.{a_conversion}
+use Rattle.call_graph.specs.tm_typed.TypedTrees.{a_discard, LvalueTree, an_object, an_element, a_pointed_element}
+use Rattle.call_graph.specs.tm_typed.TypedTrees.{a_pointed}
+use Rattle.call_graph.specs.tm_typed.TypedTrees.{an_arrow, a_part, RvalueTrees, no_rvalues, and_rvalue}
+use Rattle.call_graph.specs.tm_typed.WellTyped.{ValueKind, a_number, a_pointer, no_value, kind_of_scalar, kind_of}
+use Rattle.call_graph.specs.tm_typed.WellTyped.{IsCondition}
+use Rattle.call_graph.specs.tm_typed.WellTyped.{Context, IsRvalue, IsLvalue, AreArguments}
+use Rattle.cell_layout.specs.tm_laid.Layouts.{LaidTree}
 use Rattle.typed_file_laws.specs.Mentions.{Mentions, LvalueMentions, AllMention}
 use Rattle.lowering.specs.Table.{is_value_type, call_has_value, has_value}
 use Rattle.lowering.specs.Lowerable.{Valued, ValuedAt, AllValued, Used}

@@ -6,9 +6,9 @@ use Rattle.std.proofs.lemmas.Bool.{cases_lt, cases_eq}
 use Rattle.std.proofs.lemmas.List.{append_assoc, append-nil}
 use Rattle.std.proofs.lemmas.List.Elements.{All-nil, All-cons, All-head, All-tail, All-append, All-weaker}
 use Rattle.std.proofs.lemmas.List.Elements.{Contains-get_or, Contains-append_left, Contains-append_right}
-use Rattle.tm_typed.specs.CallGraph.{Reaches, by_call, by_calls, AreBehind, calls_in}
+use Rattle.call_graph.specs.tm_typed.CallGraph.{Reaches, by_call, by_calls, AreBehind, calls_in}
 use Rattle.call_graph.specs.Orders.{IsWholeOrder}
-use Rattle.typing_laws.proofs.Reaching.{Decided, reaches_decided}
+use Rattle.typed_file_laws.proofs.low.typing_laws.Reaching.{Decided, reaches_decided}
 
 -- ## Orders
 

@@ -5,11 +5,13 @@ use Rattle.std.specs.Prelude.{All}
 use Rattle.std.proofs.lemmas.Bool.{cases_lt}
 use Rattle.std.proofs.lemmas.List.{get_or_past}
 use Rattle.std.proofs.lemmas.List.Elements.{All-nil, All-cons, All-append, All-weaker}
-use Rattle.tm_typed.specs.Files.{TypedFileTree}
-use Rattle.tm_laid.specs.CallTrees.{CallTree, a_call_of, CallTrees, no_calls, and_call, trees_of, weight, weights, one}
-use Rattle.tm_laid.specs.Paths.{bodies_of, tree_of, body_trees, numbers_from, tree_callees, called_callees, paths_of}
-use Rattle.tm_laid.specs.Paths.{first_paths_of, callees_of}
-use Rattle.tm_laid.specs.Layouts.{laid_count}
+use Rattle.call_graph.specs.tm_typed.Files.{TypedFileTree}
+use Rattle.cell_layout.specs.tm_laid.CallTrees.{CallTree, a_call_of, CallTrees, no_calls, and_call, trees_of, weight}
+use Rattle.cell_layout.specs.tm_laid.CallTrees.{weights, one}
+use Rattle.cell_layout.specs.tm_laid.Paths.{bodies_of, tree_of, body_trees, numbers_from, tree_callees, called_callees}
+use Rattle.cell_layout.specs.tm_laid.Paths.{paths_of}
+use Rattle.cell_layout.specs.tm_laid.Paths.{first_paths_of, callees_of}
+use Rattle.cell_layout.specs.tm_laid.Layouts.{laid_count}
 use Rattle.cell_layout.proofs.PathSteps.{paths_counted}
 
 abbrev AreBelow : ℕ → List ℕ → Type 0

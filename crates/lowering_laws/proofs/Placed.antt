@@ -3,39 +3,43 @@
 use Rattle.std.proofs.Common.{List, [], ◌∷◌, ℕ}
 use Rattle.std.specs.Prelude.{All, Option, Some, None, Result, Ok, Err, is_some, ◌||◌}
 use Rattle.std.proofs.lemmas.List.Elements.{All-nil, All-push, All-set}
-use Rattle.tm_terms.specs.declared.places.Place.{Place}
-use Rattle.tm_terms.specs.declared.tokens.Name.{Name}
-use Rattle.tm_terms.specs.declared.refusals.Kind.TheVariants as Kinds
-use Rattle.tm_terms.specs.declared.refusals.Refusal.{Refusal}
-use Rattle.tm_terms.specs.ExprTrees.{Tree}
-use Rattle.tm_trees.specs.FileTrees.{PartTree, a_local, a_step, PartTrees, no_parts, and_part, FunctionTree, ItemTree}
-use Rattle.tm_trees.specs.FileTrees.{a_declaration, a_function, an_empty_item, a_mutex, a_task}
-use Rattle.tm_typed.specs.declared.scopes.Named.{Named}
-use Rattle.tm_typed.specs.declared.scopes.Named.TheVariants as Names
-use Rattle.tm_typed.specs.declared.scopes.Binding.{Binding}
-use Rattle.tm_typed.specs.Types.{void_number}
-use Rattle.tm_typed.specs.Scopes.{named_here}
-use Rattle.tm_typed.specs.Refusals.{then_with}
-use Rattle.tm_typed.specs.WellTyped.{OnAnswer}
-use Rattle.tm_typed.specs.States.{State, in_scope}
-use Rattle.tm_typed.specs.Evaluation.{measured, folded_value}
-use Rattle.tm_typed.specs.Specifiers.{base}
-use Rattle.tm_typed.specs.Declarators.{declared_pointers}
-use Rattle.tm_typed.specs.Structures.{is_declared_here, specified}
-use Rattle.tm_typed.specs.Declarations.{linked, local_declaration, file_declaration}
-use Rattle.tm_typed.specs.TypedStatements.{TypedTree, declares, TypedTrees, and_statement}
-use Rattle.tm_typed.specs.StatementRules.{Around, in_body}
-use Rattle.tm_typed.specs.StatementTyping.{enter, statement_in, part_in, parts_in}
-use Rattle.tm_typed.specs.Functions.{parameters_in, left_names, left_tags, to_file, entered_with, names_here}
-use Rattle.tm_typed.specs.Functions.{body_begins, Head, with_function, number_of, function_rules, TypedBodyTree}
-use Rattle.tm_typed.specs.Functions.{FoundBody, body_in}
-use Rattle.tm_typed.specs.Files.{TypedFunctionTree, FileState, first_file_state, typed_function, declared_function}
-use Rattle.tm_typed.specs.Files.{defined_function, head_of, with_body, headed, with_state, function_in, priority_of}
-use Rattle.tm_typed.specs.Files.{task_scope, with_task, named_task_in, task_in, mutex_in, item_in, items_in}
-use Rattle.typing_laws.specs.Placement.{ArePlaced, AreAllPlaced, HaveLabels, HaveAllLabels}
-use Rattle.typing_laws.proofs.Steps.{then_on, then_any}
-use Rattle.typing_laws.proofs.Jumps.{placed}
-use Rattle.typing_laws.proofs.Labels.{labelled}
+use Rattle.call_graph.specs.tm_terms.declared.places.Place.{Place}
+use Rattle.call_graph.specs.tm_terms.declared.tokens.Name.{Name}
+use Rattle.call_graph.specs.tm_terms.declared.refusals.Kind.TheVariants as Kinds
+use Rattle.call_graph.specs.tm_terms.declared.refusals.Refusal.{Refusal}
+use Rattle.call_graph.specs.tm_terms.ExprTrees.{Tree}
+use Rattle.call_graph.specs.tm_trees.FileTrees.{PartTree, a_local, a_step, PartTrees, no_parts, and_part, FunctionTree}
+use Rattle.call_graph.specs.tm_trees.FileTrees.{ItemTree}
+use Rattle.call_graph.specs.tm_trees.FileTrees.{a_declaration, a_function, an_empty_item, a_mutex, a_task}
+use Rattle.call_graph.specs.tm_typed.declared.scopes.Named.{Named}
+use Rattle.call_graph.specs.tm_typed.declared.scopes.Named.TheVariants as Names
+use Rattle.call_graph.specs.tm_typed.declared.scopes.Binding.{Binding}
+use Rattle.call_graph.specs.tm_typed.Types.{void_number}
+use Rattle.call_graph.specs.tm_typed.Scopes.{named_here}
+use Rattle.call_graph.specs.tm_typed.Refusals.{then_with}
+use Rattle.call_graph.specs.tm_typed.WellTyped.{OnAnswer}
+use Rattle.call_graph.specs.tm_typed.States.{State, in_scope}
+use Rattle.call_graph.specs.tm_typed.Evaluation.{measured, folded_value}
+use Rattle.call_graph.specs.tm_typed.Specifiers.{base}
+use Rattle.call_graph.specs.tm_typed.Declarators.{declared_pointers}
+use Rattle.call_graph.specs.tm_typed.Structures.{is_declared_here, specified}
+use Rattle.call_graph.specs.tm_typed.Declarations.{linked, local_declaration, file_declaration}
+use Rattle.call_graph.specs.tm_typed.TypedStatements.{TypedTree, declares, TypedTrees, and_statement}
+use Rattle.call_graph.specs.tm_typed.StatementRules.{Around, in_body}
+use Rattle.call_graph.specs.tm_typed.StatementTyping.{enter, statement_in, part_in, parts_in}
+use Rattle.call_graph.specs.tm_typed.Functions.{parameters_in, left_names, left_tags, to_file, entered_with, names_here}
+use Rattle.call_graph.specs.tm_typed.Functions.{body_begins, Head, with_function, number_of, function_rules}
+use Rattle.call_graph.specs.tm_typed.Functions.{TypedBodyTree}
+use Rattle.call_graph.specs.tm_typed.Functions.{FoundBody, body_in}
+use Rattle.call_graph.specs.tm_typed.Files.{TypedFunctionTree, FileState, first_file_state, typed_function}
+use Rattle.call_graph.specs.tm_typed.Files.{declared_function}
+use Rattle.call_graph.specs.tm_typed.Files.{defined_function, head_of, with_body, headed, with_state, function_in}
+use Rattle.call_graph.specs.tm_typed.Files.{priority_of}
+use Rattle.call_graph.specs.tm_typed.Files.{task_scope, with_task, named_task_in, task_in, mutex_in, item_in, items_in}
+use Rattle.typed_file_laws.specs.typing_laws.Placement.{ArePlaced, AreAllPlaced, HaveLabels, HaveAllLabels}
+use Rattle.typed_file_laws.proofs.low.typing_laws.Steps.{then_on, then_any}
+use Rattle.typed_file_laws.proofs.low.typing_laws.Jumps.{placed}
+use Rattle.typed_file_laws.proofs.low.typing_laws.Labels.{labelled}
 use Rattle.typed_file_laws.proofs.RuleSteps.{on_row, on_row_unless, some_any}
 use Rattle.lowering_laws.proofs.Firsts.{HaveAllFirsts, all_found}
 

@@ -2,22 +2,22 @@
 use Rattle.std.proofs.Common.{ℕ, zero, suc, ◌<◌, ◌≤◌, Bool, true, false, List, [], ◌∷◌, ◌++◌, length, arith}
 use Rattle.std.specs.Prelude.{if◌then◌else◌, nat_lt, All, Option, Some, None}
 use Rattle.std.proofs.lemmas.List.Elements.{All-nil, All-cons}
-use Rattle.tm_terms.specs.declared.places.Place.{Place}
-use Rattle.tm_typed.specs.declared.types.CType.{CType}
-use Rattle.tm_typed.specs.declared.types.CType.TheVariants as Types
-use Rattle.tm_typed.specs.declared.scopes.ObjectNumber.TheVariants.{Local}
-use Rattle.tm_typed.specs.Functions.{TypedBodyTree}
-use Rattle.tm_laid.specs.Layouts.{LaidTree, first_path, callee, object_of}
-use Rattle.concrete_values.specs.Values.{truth_value}
-use Rattle.concrete_steps.specs.Places.{result_type}
-use Rattle.concrete_steps.specs.NextAction.{function_at}
-use Rattle.flow_graph.specs.declared.graphs.Edge.{Edge}
-use Rattle.flow_graph.specs.declared.operations.Operation.{Operation}
-use Rattle.flow_graph.specs.declared.operations.Operation.TheVariants as Op
-use Rattle.flow_graph.specs.declared.operations.Test.{Test}
-use Rattle.flow_graph.specs.declared.operations.Test.TheVariants as Tests
-use Rattle.flow_graph.specs.Operations.{given}
-use Rattle.flow_graph.specs.Graphs.{Edges}
+use Rattle.call_graph.specs.tm_terms.declared.places.Place.{Place}
+use Rattle.call_graph.specs.tm_typed.declared.types.CType.{CType}
+use Rattle.call_graph.specs.tm_typed.declared.types.CType.TheVariants as Types
+use Rattle.call_graph.specs.tm_typed.declared.scopes.ObjectNumber.TheVariants.{Local}
+use Rattle.call_graph.specs.tm_typed.Functions.{TypedBodyTree}
+use Rattle.cell_layout.specs.tm_laid.Layouts.{LaidTree, first_path, callee, object_of}
+use Rattle.lowering.specs.concrete_values.Values.{truth_value}
+use Rattle.lowering.specs.concrete_steps.Places.{result_type}
+use Rattle.lowering.specs.concrete_steps.NextAction.{function_at}
+use Rattle.lowering.specs.flow_graph.declared.graphs.Edge.{Edge}
+use Rattle.lowering.specs.flow_graph.declared.operations.Operation.{Operation}
+use Rattle.lowering.specs.flow_graph.declared.operations.Operation.TheVariants as Op
+use Rattle.lowering.specs.flow_graph.declared.operations.Test.{Test}
+use Rattle.lowering.specs.flow_graph.declared.operations.Test.TheVariants as Tests
+use Rattle.lowering.specs.flow_graph.Operations.{given}
+use Rattle.lowering.specs.flow_graph.Graphs.{Edges}
 use Rattle.lowering.specs.Steps.{Steps, no_more, first_then, Step, operate, value_of, only_do, truth_of, choose}
 use Rattle.lowering.specs.Steps.{choose_only, call_of, Inputs, no_inputs, and_input, Code, code, Fork, fork_by}
 use Rattle.lowering.specs.Steps.{converse, both_of, either_of, Plan, nothing_more, in_turn, all_steps, one_of}

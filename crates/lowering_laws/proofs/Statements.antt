@@ -3,19 +3,22 @@ use Rattle.std.proofs.Common.{◌≡◌, refl, sym, ap, ◌∙◌, ℕ, Bool, tr
 use Rattle.std.specs.Prelude.{◌||◌, All, Option, Some, None}
 use Rattle.std.proofs.lemmas.Bool.{true≢false}
 use Rattle.std.proofs.lemmas.List.Elements.{All-head, All-tail}
-use Rattle.tm_cint.specs.declared.int_types.IntType.{IntType}
-use Rattle.tm_typed.specs.Scopes.{ctype_of}
-use Rattle.tm_typed.specs.TypedTrees.{RvalueTree}
-use Rattle.tm_typed.specs.TypedStatements.{GivenTree, LocalInitialiserTree, LocalTree, TypedTree, evaluates, declares}
-use Rattle.tm_typed.specs.TypedStatements.{runs_block, branches, branches_else, loops_while, loops_do, loops_for}
-use Rattle.tm_typed.specs.TypedStatements.{selects, breaks, continues, returns, locks, unlocks, yields, TypedTrees}
-use Rattle.tm_typed.specs.TypedStatements.{no_statements, and_statement, a_label, a_default_label}
-use Rattle.tm_typed.specs.TypedStatements.{a_labelled_step, TypedCases, no_typed_cases, and_typed_case}
-use Rattle.tm_typed.specs.StatementRules.{Around, looping, switching, Labels, no_labels, with_label}
-use Rattle.tm_typed.specs.WellTyped.{a_number, Context}
-use Rattle.typing_laws.specs.Placement.{ArePlaced, AreAllPlaced, AreCasesPlaced, AreDifferent}
-use Rattle.typing_laws.specs.Placement.{HaveLabels, HaveAllLabels, HaveCaseLabels}
-use Rattle.tm_laid.specs.Layouts.{LaidTree}
+use Rattle.call_graph.specs.tm_cint.declared.int_types.IntType.{IntType}
+use Rattle.call_graph.specs.tm_typed.Scopes.{ctype_of}
+use Rattle.call_graph.specs.tm_typed.TypedTrees.{RvalueTree}
+use Rattle.call_graph.specs.tm_typed.TypedStatements.{GivenTree, LocalInitialiserTree, LocalTree, TypedTree, evaluates}
+use Rattle.call_graph.specs.tm_typed.TypedStatements.{declares}
+use Rattle.call_graph.specs.tm_typed.TypedStatements.{runs_block, branches, branches_else, loops_while, loops_do}
+use Rattle.call_graph.specs.tm_typed.TypedStatements.{loops_for}
+use Rattle.call_graph.specs.tm_typed.TypedStatements.{selects, breaks, continues, returns, locks, unlocks, yields}
+use Rattle.call_graph.specs.tm_typed.TypedStatements.{TypedTrees}
+use Rattle.call_graph.specs.tm_typed.TypedStatements.{no_statements, and_statement, a_label, a_default_label}
+use Rattle.call_graph.specs.tm_typed.TypedStatements.{a_labelled_step, TypedCases, no_typed_cases, and_typed_case}
+use Rattle.call_graph.specs.tm_typed.StatementRules.{Around, looping, switching, Labels, no_labels, with_label}
+use Rattle.call_graph.specs.tm_typed.WellTyped.{a_number, Context}
+use Rattle.typed_file_laws.specs.typing_laws.Placement.{ArePlaced, AreAllPlaced, AreCasesPlaced, AreDifferent}
+use Rattle.typed_file_laws.specs.typing_laws.Placement.{HaveLabels, HaveAllLabels, HaveCaseLabels}
+use Rattle.cell_layout.specs.tm_laid.Layouts.{LaidTree}
 use Rattle.typed_file_laws.specs.Bodies as Typed
 use Rattle.typed_file_laws.specs.Mentions.{Mentions, MayMention, GivenMention, StatementMentions, StatementsMention}
 use Rattle.typed_file_laws.specs.Mentions.{CasesMention}

@@ -6,31 +6,32 @@ use Rattle.std.proofs.lemmas.Bool.{cases_lt, ltb-false}
 use Rattle.std.proofs.lemmas.Option.{none-some}
 use Rattle.std.proofs.lemmas.List.{get_or_past}
 use Rattle.std.proofs.lemmas.List.Elements.{All-nil, All-cons, All-get_or}
-use Rattle.tm_cint.specs.declared.operators.BinOp.{BinOp}
-use Rattle.tm_cint.specs.declared.operators.BinOp.TheVariants as Bins
-use Rattle.tm_cint.specs.Operators.{IsComparison}
-use Rattle.tm_terms.specs.declared.places.Place.{Place}
-use Rattle.tm_terms.specs.declared.refusals.Limit.{Limit}
-use Rattle.tm_terms.specs.declared.refusals.Limit.TheVariants as Limits
-use Rattle.tm_typed.specs.declared.types.CType.{CType}
-use Rattle.tm_typed.specs.declared.types.CType.TheVariants as Types
-use Rattle.tm_typed.specs.declared.scopes.ObjectNumber.TheVariants.{Local}
-use Rattle.tm_typed.specs.Functions.{TypedBodyTree}
-use Rattle.tm_typed.specs.Files.{TypedFunctionTree, no_typed_function, TypedFileTree}
-use Rattle.tm_typed.specs.WellTyped.{OnAnswer}
-use Rattle.tm_laid.specs.Layouts.{LaidTree, first_path, callee, object_of, path_at, layout_of, laid_count, laid_limits}
-use Rattle.tm_laid.specs.Layouts.{is_exceeded, unless_beyond, laid_out}
-use Rattle.concrete_values.specs.Values.{truth_value}
-use Rattle.concrete_steps.specs.Places.{result_type}
-use Rattle.concrete_steps.specs.NextAction.{function_at}
-use Rattle.flow_graph.specs.declared.graphs.Edge.{Edge}
-use Rattle.flow_graph.specs.declared.operations.Operation.{Operation}
-use Rattle.flow_graph.specs.declared.operations.Operation.TheVariants as Op
-use Rattle.flow_graph.specs.declared.operations.Test.{Test}
-use Rattle.flow_graph.specs.declared.operations.Test.TheVariants as Tests
-use Rattle.flow_graph.specs.Operations.{given, negated, opposite}
-use Rattle.flow_graph.specs.Graphs.{Edges}
-use Rattle.typing_laws.proofs.Steps.{from_answer}
+use Rattle.call_graph.specs.tm_cint.declared.operators.BinOp.{BinOp}
+use Rattle.call_graph.specs.tm_cint.declared.operators.BinOp.TheVariants as Bins
+use Rattle.call_graph.specs.tm_cint.Operators.{IsComparison}
+use Rattle.call_graph.specs.tm_terms.declared.places.Place.{Place}
+use Rattle.call_graph.specs.tm_terms.declared.refusals.Limit.{Limit}
+use Rattle.call_graph.specs.tm_terms.declared.refusals.Limit.TheVariants as Limits
+use Rattle.call_graph.specs.tm_typed.declared.types.CType.{CType}
+use Rattle.call_graph.specs.tm_typed.declared.types.CType.TheVariants as Types
+use Rattle.call_graph.specs.tm_typed.declared.scopes.ObjectNumber.TheVariants.{Local}
+use Rattle.call_graph.specs.tm_typed.Functions.{TypedBodyTree}
+use Rattle.call_graph.specs.tm_typed.Files.{TypedFunctionTree, no_typed_function, TypedFileTree}
+use Rattle.call_graph.specs.tm_typed.WellTyped.{OnAnswer}
+use Rattle.cell_layout.specs.tm_laid.Layouts.{LaidTree, first_path, callee, object_of, path_at, layout_of, laid_count}
+use Rattle.cell_layout.specs.tm_laid.Layouts.{laid_limits}
+use Rattle.cell_layout.specs.tm_laid.Layouts.{is_exceeded, unless_beyond, laid_out}
+use Rattle.lowering.specs.concrete_values.Values.{truth_value}
+use Rattle.lowering.specs.concrete_steps.Places.{result_type}
+use Rattle.lowering.specs.concrete_steps.NextAction.{function_at}
+use Rattle.lowering.specs.flow_graph.declared.graphs.Edge.{Edge}
+use Rattle.lowering.specs.flow_graph.declared.operations.Operation.{Operation}
+use Rattle.lowering.specs.flow_graph.declared.operations.Operation.TheVariants as Op
+use Rattle.lowering.specs.flow_graph.declared.operations.Test.{Test}
+use Rattle.lowering.specs.flow_graph.declared.operations.Test.TheVariants as Tests
+use Rattle.lowering.specs.flow_graph.Operations.{given, negated, opposite}
+use Rattle.lowering.specs.flow_graph.Graphs.{Edges}
+use Rattle.typed_file_laws.proofs.low.typing_laws.Steps.{from_answer}
 use Rattle.typed_file_laws.specs.TypedBodies.{file_context, IsBodyOf}
 use Rattle.typed_file_laws.proofs.TypedBodies.{bodies_are_well_formed}
 use Rattle.lowering.specs.Steps.{Steps, no_more, first_then, Step, operate, value_of, only_do, truth_of, choose}

@@ -1,9 +1,9 @@
 -- Files that are typed and laid out.
 use Rattle.std.specs.Prelude.{◌≡◌, List, Option, Ok}
-use Rattle.tm_terms.specs.declared.tokens.Name.{Name}
-use Rattle.tm_trees.specs.FileTrees.{ItemTree}
-use Rattle.tm_typed.specs.Files.{TypedFileTree, IsTyped}
-use Rattle.tm_laid.specs.Layouts.{LaidTree, laid_out}
+use Rattle.call_graph.specs.tm_terms.declared.tokens.Name.{Name}
+use Rattle.call_graph.specs.tm_trees.FileTrees.{ItemTree}
+use Rattle.call_graph.specs.tm_typed.Files.{TypedFileTree, IsTyped}
+use Rattle.cell_layout.specs.tm_laid.Layouts.{LaidTree, laid_out}
 
 -- the layout of a typed file
 pub record IsLaidFile (laid : LaidTree) : Type 0 where

@@ -1,7 +1,7 @@
 -- The mutexes that graphs name.
 use Rattle.std.specs.Prelude.{ℕ, ◌<◌}
-use Rattle.flow_graph.specs.declared.operations.Operation.{Operation}
-use Rattle.flow_graph.specs.declared.operations.Operation.TheVariants as Op
+use Rattle.lowering.specs.flow_graph.declared.operations.Operation.{Operation}
+use Rattle.lowering.specs.flow_graph.declared.operations.Operation.TheVariants as Op
 
 -- a mutex that an operation names is one of so many
 abbrev pub HasMutex : ℕ → Operation → Type 0

@@ -1,13 +1,13 @@
 -- The constants of operations, and what they test.
-use Rattle.tm_cint.specs.Operators.{IsComparison}
-use Rattle.concrete_values.specs.declared.values.Pointer.{Pointer}
-use Rattle.concrete_values.specs.declared.values.Pointer.TheVariants.{Null, Invalid, To}
-use Rattle.concrete_values.specs.declared.values.Value.{Value}
-use Rattle.concrete_values.specs.declared.values.Value.TheVariants as Constant
-use Rattle.flow_graph.specs.declared.operations.Test.{Test}
-use Rattle.flow_graph.specs.declared.operations.Test.TheVariants.{Numbers, Pointers, Truth, Case}
-use Rattle.flow_graph.specs.declared.operations.Operation.{Operation}
-use Rattle.flow_graph.specs.declared.operations.Operation.TheVariants as Op
+use Rattle.call_graph.specs.tm_cint.Operators.{IsComparison}
+use Rattle.lowering.specs.concrete_values.declared.values.Pointer.{Pointer}
+use Rattle.lowering.specs.concrete_values.declared.values.Pointer.TheVariants.{Null, Invalid, To}
+use Rattle.lowering.specs.concrete_values.declared.values.Value.{Value}
+use Rattle.lowering.specs.concrete_values.declared.values.Value.TheVariants as Constant
+use Rattle.lowering.specs.flow_graph.declared.operations.Test.{Test}
+use Rattle.lowering.specs.flow_graph.declared.operations.Test.TheVariants.{Numbers, Pointers, Truth, Case}
+use Rattle.lowering.specs.flow_graph.declared.operations.Operation.{Operation}
+use Rattle.lowering.specs.flow_graph.declared.operations.Operation.TheVariants as Op
 use Rattle.typed_file_laws.specs.Lawful.{IsNumber}
 
 -- ## Constants

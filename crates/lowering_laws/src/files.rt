@@ -1,6 +1,6 @@
 //! Files that are typed and laid out.
 ghost use Rattle.std.specs.Prelude.{ℕ, ◌<◌, length};
-ghost use Rattle.tm_laid.specs.Layouts.{LaidTree};
+ghost use Rattle.cell_layout.specs.tm_laid.Layouts.{LaidTree};
 ghost use Rattle.lowering.specs.Lowerable.{IsLowerable};
 ghost use Rattle.lowering_laws.specs.LaidFiles.{IsLaidFile};
 

@@ -1,15 +1,15 @@
 //! The graphs of the bodies of a file that is typed and laid out.
 ghost use Rattle.std.specs.Prelude.{◌≡◌, ◌↔◌, ℕ, ◌<◌, ◌≤◌, List, length, All};
-ghost use Rattle.tm_laid.specs.Layouts.{LaidTree};
-ghost use Rattle.concrete_values.specs.declared.actions.Next.{Next};
-ghost use Rattle.concrete_values.specs.declared.values.Answer.{Answer};
-ghost use Rattle.concrete_steps.specs.NextAction.{next};
-ghost use Rattle.flow_graph.specs.declared.graphs.Edge.{Edge};
-ghost use Rattle.flow_graph.specs.declared.graphs.Graph.{Graph};
-ghost use Rattle.flow_graph.specs.declared.operations.Operation.TheVariants as Op;
-ghost use Rattle.flow_graph.specs.Graphs.{Among, IsLive, IsPlain};
-ghost use Rattle.flow_graph.specs.Runs.{GraphNext};
-ghost use Rattle.flow_graph.specs.Positions.{RunsAlong};
+ghost use Rattle.cell_layout.specs.tm_laid.Layouts.{LaidTree};
+ghost use Rattle.lowering.specs.concrete_values.declared.actions.Next.{Next};
+ghost use Rattle.lowering.specs.concrete_values.declared.values.Answer.{Answer};
+ghost use Rattle.lowering.specs.concrete_steps.NextAction.{next};
+ghost use Rattle.lowering.specs.flow_graph.declared.graphs.Edge.{Edge};
+ghost use Rattle.lowering.specs.flow_graph.declared.graphs.Graph.{Graph};
+ghost use Rattle.lowering.specs.flow_graph.declared.operations.Operation.TheVariants as Op;
+ghost use Rattle.lowering.specs.flow_graph.Graphs.{Among, IsLive, IsPlain};
+ghost use Rattle.lowering.specs.flow_graph.Runs.{GraphNext};
+ghost use Rattle.lowering.specs.flow_graph.Positions.{RunsAlong};
 ghost use Rattle.lowering.specs.Built.{built, graph_of};
 ghost use Rattle.lowering.specs.Owned.{IsOwnObject};
 ghost use Rattle.mutex_configs.specs.Graphs.{IsGraph};

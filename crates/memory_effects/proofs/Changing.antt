@@ -8,7 +8,7 @@ use Rattle.tm_lattice.specs.Tables.{Table, IsPast, IsNext, changed_table}
 use Rattle.tm_lattice.specs.laws.Keys.{same_key, other_key}
 use Rattle.tm_lattice.specs.laws.TableLaws.{same_table, get-insert_here, get-insert_there}
 use Rattle.tm_lattice.specs.laws.SelectedLaws.{changed_at, get-changed_table}
-use Rattle.transfer_rows.specs.Accesses.{is_among}
+use Rattle.calculations.specs.transfer_rows.Accesses.{is_among}
 use Rattle.edge_effects.proofs.Common.{decided, among_more_here, among_more_there}
 
 -- no key is greater than k, if with k gone none is there from k on

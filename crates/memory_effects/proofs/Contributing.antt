@@ -11,12 +11,12 @@ use Rattle.tm_lattice.specs.laws.Keys.{find-there}
 use Rattle.tm_lattice.specs.laws.TableLaws.{same_table, get-insert_here, get-insert_there}
 use Rattle.pointer_dom.specs.Values.{Values, no_value}
 use Rattle.interfere_set.specs.Stores.{Nested}
-use Rattle.transfer_rows.specs.StateForms.{Cell, is_no_value}
-use Rattle.transfer_rows.specs.Accesses.{is_among}
-use Rattle.transfer_rows.specs.Reports.{left_by}
-use Rattle.transfer_rows.specs.Contributions.{cells_added, nested_under}
-use Rattle.transfer_rows.proofs.Contributing.{get-added}
-use Rattle.transfer_rows.proofs.Steps.{no_value_is, none_is_none, among_here, among_there}
+use Rattle.calculations.specs.transfer_rows.StateForms.{Cell, is_no_value}
+use Rattle.calculations.specs.transfer_rows.Accesses.{is_among}
+use Rattle.calculations.specs.transfer_rows.Reports.{left_by}
+use Rattle.calculations.specs.transfer_rows.Contributions.{cells_added, nested_under}
+use Rattle.calculations.proofs.low.transfer_rows.Contributing.{get-added}
+use Rattle.calculations.proofs.low.transfer_rows.Steps.{no_value_is, none_is_none, among_here, among_there}
 use Rattle.edge_effects.proofs.Common.{decided, among_more_here, among_more_there}
 use Rattle.memory_effects.specs.reading.Changes.{shown_value, IsWrittenAt}
 

@@ -6,21 +6,22 @@ use Rattle.std.specs.Option.{option_map}
 use Rattle.std.specs.FinMap as tables
 use Rattle.std.specs.FinMap.{get, keys, retain_keys}
 use Rattle.strided_dom.specs.Progression.{single}
-use Rattle.tm_cint.specs.declared.Class.{Class}
-use Rattle.tm_cint.specs.declared.Class.TheVariants.{Overflow, Shift, Index, Pointer, Deref, Lock, Race}
-use Rattle.tm_cint.specs.declared.Class.TheVariants.{Div as DivByZero}
+use Rattle.tm_typed.specs.tm_cint.declared.Class.{Class}
+use Rattle.tm_typed.specs.tm_cint.declared.Class.TheVariants.{Overflow, Shift, Index, Pointer, Deref, Lock, Race}
+use Rattle.tm_typed.specs.tm_cint.declared.Class.TheVariants.{Div as DivByZero}
 use Rattle.tm_lattice.specs.Tables.{Table}
 use Rattle.pointer_dom.specs.Values.{Values, no_value}
 use Rattle.interfere_set.specs.Stores.{Interferences, no_interference}
 use Rattle.transfer_int.specs.Outcomes.{notes}
 use Rattle.transfer_int.specs.declared.outcomes.Classes.{Classes}
-use Rattle.transfer_rows.specs.StateForms.{State, value_of}
-use Rattle.transfer_rows.specs.Actions.{Spot, Around, stores, clears, locks, unlocks, yields, probes}
-use Rattle.transfer_rows.specs.Accesses.{is_among, targets_at}
-use Rattle.transfer_rows.specs.Rows.{holds, given, arrived, after_store, after_clear, after_lock, after_unlock, after_yield, after_free, effect}
-use Rattle.transfer_rows.specs.StateForms.{only_numbers}
-use Rattle.transfer_rows.specs.Contributions.{cells_added, nested_under, added}
-use Rattle.transfer_rows.specs.Reports.{targets_of, left_by, weak_of, sync_of, IsListed}
+use Rattle.calculations.specs.transfer_rows.StateForms.{State, value_of}
+use Rattle.calculations.specs.transfer_rows.Actions.{Spot, Around, stores, clears, locks, unlocks, yields, probes}
+use Rattle.calculations.specs.transfer_rows.Accesses.{is_among, targets_at}
+use Rattle.calculations.specs.transfer_rows.Rows.{holds, given, arrived, after_store, after_clear, after_lock}
+use Rattle.calculations.specs.transfer_rows.Rows.{after_unlock, after_yield, after_free, effect}
+use Rattle.calculations.specs.transfer_rows.StateForms.{only_numbers}
+use Rattle.calculations.specs.transfer_rows.Contributions.{cells_added, nested_under, added}
+use Rattle.calculations.specs.transfer_rows.Reports.{targets_of, left_by, weak_of, sync_of, IsListed}
 use Rattle.calculations.specs.Given.{no_class}
 use Rattle.calculations.proofs.Calculating.{nothing_noted}
 use Rattle.edge_effects.specs.Effects.{IsAfter}

@@ -8,9 +8,9 @@ use Rattle.tm_lattice.specs.laws.SelectedLaws.{changed_at}
 use Rattle.pointer_dom.specs.Values.{Values, IsValues, IsValuesBelow, joined_values}
 use Rattle.pointer_dom.specs.laws.ValueLaws.{values_order, values_join}
 use Rattle.cell_env.specs.laws.Bits.{or_assoc}
-use Rattle.transfer_rows.specs.StateForms.{Cell, IsCellForm}
-use Rattle.transfer_rows.specs.Accesses.{is_among}
-use Rattle.transfer_rows.specs.Rows.{joining}
+use Rattle.calculations.specs.transfer_rows.StateForms.{Cell, IsCellForm}
+use Rattle.calculations.specs.transfer_rows.Accesses.{is_among}
+use Rattle.calculations.specs.transfer_rows.Rows.{joining}
 use Rattle.edge_effects.proofs.Common.{decided}
 use Rattle.memory_effects.proofs.Changing.{IsChangedAmong, among_next}
 

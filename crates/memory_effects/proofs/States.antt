@@ -7,10 +7,11 @@ use Rattle.tm_laid.specs.Layouts.{LaidTree, object_at, abstract_at}
 use Rattle.tm_laid.specs.declared.objects.LaidObject.{LaidObject}
 use Rattle.tm_lattice.specs.Tables.{Table, changed_table}
 use Rattle.pointer_dom.specs.Values.{Values}
-use Rattle.transfer_rows.specs.StateForms.{Temp, Cell, State}
-use Rattle.transfer_rows.specs.Actions.{Around}
-use Rattle.transfer_rows.specs.Accesses.{is_among, single_of}
-use Rattle.transfer_rows.specs.Rows.{dropped, arrived, after_clear, after_store, stored_cell, cleared_to, is_cleared, aged, after_yield}
+use Rattle.calculations.specs.transfer_rows.StateForms.{Temp, Cell, State}
+use Rattle.calculations.specs.transfer_rows.Actions.{Around}
+use Rattle.calculations.specs.transfer_rows.Accesses.{is_among, single_of}
+use Rattle.calculations.specs.transfer_rows.Rows.{dropped, arrived, after_clear, after_store, stored_cell, cleared_to}
+use Rattle.calculations.specs.transfer_rows.Rows.{is_cleared, aged, after_yield}
 use Rattle.edge_actions.specs.Layouts.{open_value}
 use Rattle.edge_actions.specs.Edges.{cleared_value}
 use Rattle.edge_effects.proofs.LiveTemps.{none_dropped}

@@ -2,7 +2,7 @@
 ghost use Rattle.std.specs.Prelude.{◌≡◌, IfOk};
 ghost use Rattle.tm_laid.specs.Layouts.{laid_tree};
 ghost use Rattle.interfere_set.specs.Stores.{Interferences};
-ghost use Rattle.transfer_rows.specs.Actions.{clears};
+ghost use Rattle.calculations.specs.transfer_rows.Actions.{clears};
 ghost use Rattle.edge_actions.specs.Edges.{around_of, cleared_value};
 ghost use Rattle.edge_effects.specs.Effects.{IsAfter};
 

@@ -2,8 +2,8 @@
 ghost use Rattle.std.specs.Prelude.{◌≡◌, ◌<◌, ◌-◌, ◌^◌, IfOk};
 ghost use Rattle.pointer_dom.specs.Values.{Values};
 ghost use Rattle.interfere_set.specs.Stores.{Interferences};
-ghost use Rattle.transfer_rows.specs.Actions.{locks, unlocks, yields, probes};
-ghost use Rattle.transfer_rows.specs.Rows.{holds, arrived, after_lock, after_unlock, after_yield, after_free};
+ghost use Rattle.calculations.specs.transfer_rows.Actions.{locks, unlocks, yields, probes};
+ghost use Rattle.calculations.specs.transfer_rows.Rows.{holds, arrived, after_lock, after_unlock, after_yield, after_free};
 ghost use Rattle.edge_actions.specs.Edges.{around_of};
 ghost use Rattle.edge_effects.specs.Effects.{IsAfter};
 ghost use Rattle.calculations.specs.Given.{no_class};

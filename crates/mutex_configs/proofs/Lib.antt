@@ -3,3 +3,4 @@ pub mod Searching
 pub mod Ordered
 pub mod CopyLists
 pub mod Whole
+pub mod low

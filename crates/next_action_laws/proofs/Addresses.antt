@@ -4,21 +4,22 @@ use Rattle.std.proofs.Common.{None, arith, negsuc}
 use Rattle.std.specs.Prelude.{pos, if◌then◌else◌, is_some, Ok, Err, int_le, int_lt, slice_get}
 use Rattle.std.proofs.lemmas.Bool.{false≢true, and_parts, le-leb, lt-ltb, ltb-true}
 use Rattle.std.proofs.lemmas.Option.{slice_get-get_or}
-use Rattle.tm_cint.specs.declared.Class.TheVariants as Classes
-use Rattle.tm_cint.specs.declared.int_types.IntType.{IntType}
-use Rattle.tm_terms.specs.declared.places.Place.{Place}
-use Rattle.tm_typed.specs.declared.types.Scalar.{Scalar}
-use Rattle.tm_typed.specs.WellTyped.{a_number, a_pointer, kind_of_scalar}
-use Rattle.tm_laid.specs.Layouts.{LaidTree, object_at, no_object}
-use Rattle.concrete_values.specs.declared.values.Pointer.TheVariants as Pointers
-use Rattle.concrete_values.specs.declared.values.Value.{Value}
-use Rattle.concrete_values.specs.declared.values.Value.TheVariants.{Number, Pointer as APointer}
-use Rattle.concrete_values.specs.declared.values.Answer.{Answer}
-use Rattle.concrete_values.specs.declared.actions.Next.TheVariants as Acts
-use Rattle.concrete_values.specs.Values.{number_of, pointer_of}
-use Rattle.concrete_values.specs.Pointers.{cells_of_object, size_of, placed, pointer_in, shifted, or_invalid, base}
-use Rattle.concrete_values.specs.Pointers.{part, is_subscript, element}
-use Rattle.concrete_values.specs.Actions.{is_of, load_at, store_at, clear_at}
+use Rattle.cell_layout.specs.tm_cint.declared.Class.TheVariants as Classes
+use Rattle.cell_layout.specs.tm_cint.declared.int_types.IntType.{IntType}
+use Rattle.cell_layout.specs.tm_terms.declared.places.Place.{Place}
+use Rattle.cell_layout.specs.tm_typed.declared.types.Scalar.{Scalar}
+use Rattle.cell_layout.specs.tm_typed.WellTyped.{a_number, a_pointer, kind_of_scalar}
+use Rattle.cell_layout.specs.tm_laid.Layouts.{LaidTree, object_at, no_object}
+use Rattle.cell_types.specs.concrete_values.declared.values.Pointer.TheVariants as Pointers
+use Rattle.cell_types.specs.concrete_values.declared.values.Value.{Value}
+use Rattle.cell_types.specs.concrete_values.declared.values.Value.TheVariants.{Number, Pointer as APointer}
+use Rattle.cell_types.specs.concrete_values.declared.values.Answer.{Answer}
+use Rattle.cell_types.specs.concrete_values.declared.actions.Next.TheVariants as Acts
+use Rattle.cell_types.specs.concrete_values.Values.{number_of, pointer_of}
+use Rattle.cell_types.specs.concrete_values.Pointers.{cells_of_object, size_of, placed, pointer_in, shifted, or_invalid}
+use Rattle.cell_types.specs.concrete_values.Pointers.{base}
+use Rattle.cell_types.specs.concrete_values.Pointers.{part, is_subscript, element}
+use Rattle.cell_types.specs.concrete_values.Actions.{is_of, load_at, store_at, clear_at}
 use Rattle.concrete_steps.specs.NextAction.{After, act_then}
 use Rattle.next_action_laws.specs.Actions.{IsCell, IsOwn}
 use Rattle.next_action_laws.proofs.Keeping.{HasKind, of_scalar, loaded_is, Keeps, act_keeps}

@@ -4,17 +4,17 @@ use Rattle.std.proofs.Common.{◌∷◌, length, Option, Some, None, arith}
 use Rattle.std.specs.Prelude.{pos, find, if◌then◌else◌, int_le, int_lt, Ok, Err}
 use Rattle.std.proofs.lemmas.Bool.{and_from, lt-ltb, le-leb}
 use Rattle.std.proofs.lemmas.Option.{none-some}
-use Rattle.tm_terms.specs.declared.refusals.Limit.{Limit}
-use Rattle.tm_terms.specs.declared.refusals.Limit.TheVariants as Limits
-use Rattle.tm_cint.specs.declared.Class.TheVariants as Classes
-use Rattle.tm_typed.specs.Scopes.{cells_of}
-use Rattle.tm_typed.specs.Files.{TypedFileTree}
-use Rattle.tm_laid.specs.Layable.{tables_of}
-use Rattle.tm_laid.specs.Layouts.{LaidTree, layout_of, object_at, is_exceeded, laid_limits, unless_beyond}
-use Rattle.concrete_values.specs.declared.actions.Next.{Next}
-use Rattle.concrete_values.specs.Values.{number_of, pointer_of}
-use Rattle.concrete_values.specs.declared.values.Value.TheVariants.{Number}
-use Rattle.concrete_values.specs.Pointers.{pointer_in, or_invalid, shifted, element}
+use Rattle.cell_layout.specs.tm_terms.declared.refusals.Limit.{Limit}
+use Rattle.cell_layout.specs.tm_terms.declared.refusals.Limit.TheVariants as Limits
+use Rattle.cell_layout.specs.tm_cint.declared.Class.TheVariants as Classes
+use Rattle.cell_layout.specs.tm_typed.Scopes.{cells_of}
+use Rattle.cell_layout.specs.tm_typed.Files.{TypedFileTree}
+use Rattle.cell_layout.specs.tm_laid.Layable.{tables_of}
+use Rattle.cell_layout.specs.tm_laid.Layouts.{LaidTree, layout_of, object_at, is_exceeded, laid_limits, unless_beyond}
+use Rattle.cell_types.specs.concrete_values.declared.actions.Next.{Next}
+use Rattle.cell_types.specs.concrete_values.Values.{number_of, pointer_of}
+use Rattle.cell_types.specs.concrete_values.declared.values.Value.TheVariants.{Number}
+use Rattle.cell_types.specs.concrete_values.Pointers.{pointer_in, or_invalid, shifted, element}
 use Rattle.concrete_steps.specs.NextAction.{next}
 use Rattle.typed_file_laws.proofs.TypedBodies.{bodies_are_well_formed}
 use Rattle.typed_file_laws.proofs.MentionFiles.{sites_stand}

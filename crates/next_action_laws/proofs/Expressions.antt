@@ -2,40 +2,47 @@
 use Rattle.std.proofs.Common.{◌≡◌, sym, subst, ℕ, ◌+◌, ◌*◌, ◌<◌, ◌≤◌, Bool, true, false, List, [], ◌∷◌, length, get_or}
 use Rattle.std.proofs.Common.{Some, ℤ}
 use Rattle.std.specs.Prelude.{pos, if◌then◌else◌, slice_get, map}
-use Rattle.tm_cint.specs.declared.int_types.IntType.{IntType}
-use Rattle.tm_cint.specs.declared.int_types.IntType.TheVariants as Ints
-use Rattle.tm_cint.specs.Operators.{result_type}
-use Rattle.tm_terms.specs.declared.places.Place.{Place}
-use Rattle.tm_typed.specs.declared.types.CType.TheVariants as Types
-use Rattle.tm_typed.specs.declared.types.Scalar.{Scalar}
-use Rattle.tm_typed.specs.declared.types.Scalar.TheVariants as Scalars
-use Rattle.tm_typed.specs.declared.expressions.Step.{Step}
-use Rattle.tm_typed.specs.declared.scopes.ObjectNumber.{ObjectNumber}
-use Rattle.tm_typed.specs.declared.scopes.ObjectNumber.TheVariants as Objects
-use Rattle.tm_typed.specs.declared.files.LocalEntry.{LocalEntry}
-use Rattle.tm_typed.specs.Scopes.{Scope, Function, ctype_of, cells_of}
-use Rattle.tm_typed.specs.Operands.{scalar_of, kept_sort}
-use Rattle.tm_typed.specs.TypeRows.{is_pointer_type}
-use Rattle.tm_typed.specs.Files.{no_typed_function}
-use Rattle.tm_typed.specs.TypedTrees.{RvalueTree, a_constant, a_folded, a_null, a_load, an_address, a_structure}
-use Rattle.tm_typed.specs.TypedTrees.{the_same, a_unary, a_binary, a_comparison_of_pointers, a_move, a_not, an_and}
-use Rattle.tm_typed.specs.TypedTrees.{an_or, a_choice, an_assignment, a_compound, a_compound_move, a_unit_step}
-use Rattle.tm_typed.specs.TypedTrees.{a_pointer_step, a_function_call, an_input_value, a_probe, a_comma, a_conversion}
-use Rattle.tm_typed.specs.TypedTrees.{a_discard, LvalueTree, an_object, an_element, a_pointed_element, a_pointed}
-use Rattle.tm_typed.specs.TypedTrees.{an_arrow, a_part, lvalue_place, RvalueTrees, no_rvalues, and_rvalue}
-use Rattle.tm_typed.specs.WellTyped.{ValueKind, a_number, a_pointer, no_value, kind_of_scalar, kind_of, Context}
-use Rattle.tm_typed.specs.WellTyped.{HasPart, IsRvalue, IsLvalue, AreArguments}
-use Rattle.tm_laid.specs.Layouts.{LaidTree, object_of}
-use Rattle.concrete_values.specs.declared.values.Pointer.TheVariants as Pointers
-use Rattle.concrete_values.specs.declared.values.Value.{Value}
-use Rattle.concrete_values.specs.declared.values.Value.TheVariants.{Number, Pointer as APointer}
-use Rattle.concrete_values.specs.declared.values.Answer.{Answer}
-use Rattle.concrete_values.specs.declared.actions.Next.TheVariants as Acts
-use Rattle.concrete_values.specs.Values.{nothing}
-use Rattle.concrete_values.specs.Operators.{binary, unary, converted}
-use Rattle.concrete_values.specs.Pointers.{base, part, element, moved, dereferenced, is_object_at, usable, is_compared}
+use Rattle.cell_layout.specs.tm_cint.declared.int_types.IntType.{IntType}
+use Rattle.cell_layout.specs.tm_cint.declared.int_types.IntType.TheVariants as Ints
+use Rattle.cell_layout.specs.tm_cint.Operators.{result_type}
+use Rattle.cell_layout.specs.tm_terms.declared.places.Place.{Place}
+use Rattle.cell_layout.specs.tm_typed.declared.types.CType.TheVariants as Types
+use Rattle.cell_layout.specs.tm_typed.declared.types.Scalar.{Scalar}
+use Rattle.cell_layout.specs.tm_typed.declared.types.Scalar.TheVariants as Scalars
+use Rattle.cell_layout.specs.tm_typed.declared.expressions.Step.{Step}
+use Rattle.cell_layout.specs.tm_typed.declared.scopes.ObjectNumber.{ObjectNumber}
+use Rattle.cell_layout.specs.tm_typed.declared.scopes.ObjectNumber.TheVariants as Objects
+use Rattle.cell_layout.specs.tm_typed.declared.files.LocalEntry.{LocalEntry}
+use Rattle.cell_layout.specs.tm_typed.Scopes.{Scope, Function, ctype_of, cells_of}
+use Rattle.cell_layout.specs.tm_typed.Operands.{scalar_of, kept_sort}
+use Rattle.cell_layout.specs.tm_typed.TypeRows.{is_pointer_type}
+use Rattle.cell_layout.specs.tm_typed.Files.{no_typed_function}
+use Rattle.cell_layout.specs.tm_typed.TypedTrees.{RvalueTree, a_constant, a_folded, a_null, a_load, an_address}
+use Rattle.cell_layout.specs.tm_typed.TypedTrees.{a_structure}
+use Rattle.cell_layout.specs.tm_typed.TypedTrees.{the_same, a_unary, a_binary, a_comparison_of_pointers, a_move, a_not}
+use Rattle.cell_layout.specs.tm_typed.TypedTrees.{an_and}
+use Rattle.cell_layout.specs.tm_typed.TypedTrees.{an_or, a_choice, an_assignment, a_compound, a_compound_move}
+use Rattle.cell_layout.specs.tm_typed.TypedTrees.{a_unit_step}
+use Rattle.cell_layout.specs.tm_typed.TypedTrees.{a_pointer_step, a_function_call, an_input_value, a_probe, a_comma}
+use Rattle.cell_layout.specs.tm_typed.TypedTrees.{a_conversion}
+use Rattle.cell_layout.specs.tm_typed.TypedTrees.{a_discard, LvalueTree, an_object, an_element, a_pointed_element}
+use Rattle.cell_layout.specs.tm_typed.TypedTrees.{a_pointed}
+use Rattle.cell_layout.specs.tm_typed.TypedTrees.{an_arrow, a_part, lvalue_place, RvalueTrees, no_rvalues, and_rvalue}
+use Rattle.cell_layout.specs.tm_typed.WellTyped.{ValueKind, a_number, a_pointer, no_value, kind_of_scalar, kind_of}
+use Rattle.cell_layout.specs.tm_typed.WellTyped.{Context}
+use Rattle.cell_layout.specs.tm_typed.WellTyped.{HasPart, IsRvalue, IsLvalue, AreArguments}
+use Rattle.cell_layout.specs.tm_laid.Layouts.{LaidTree, object_of}
+use Rattle.cell_types.specs.concrete_values.declared.values.Pointer.TheVariants as Pointers
+use Rattle.cell_types.specs.concrete_values.declared.values.Value.{Value}
+use Rattle.cell_types.specs.concrete_values.declared.values.Value.TheVariants.{Number, Pointer as APointer}
+use Rattle.cell_types.specs.concrete_values.declared.values.Answer.{Answer}
+use Rattle.cell_types.specs.concrete_values.declared.actions.Next.TheVariants as Acts
+use Rattle.cell_types.specs.concrete_values.Values.{nothing}
+use Rattle.cell_types.specs.concrete_values.Operators.{binary, unary, converted}
+use Rattle.cell_types.specs.concrete_values.Pointers.{base, part, element, moved, dereferenced, is_object_at, usable}
+use Rattle.cell_types.specs.concrete_values.Pointers.{is_compared}
 use Rattle.concrete_steps.specs.Places.{is_pointer_scalar, gives_pointer, result_type as result_ctype}
-use Rattle.concrete_values.specs.Actions.{load_at}
+use Rattle.cell_types.specs.concrete_values.Actions.{load_at}
 use Rattle.concrete_steps.specs.NextAction.{After, act_then, stored_then, result_then, Use, as_value, as_branch}
 use Rattle.concrete_steps.specs.NextAction.{value_used, compound_result, step_operator, step_value, Here, expr_then}
 use Rattle.concrete_steps.specs.NextAction.{address_then, arguments_then}

@@ -6,40 +6,46 @@ use Rattle.std.proofs.lemmas.Bool.{cases_lt}
 use Rattle.std.proofs.lemmas.Option.{slice_get-get_or}
 use Rattle.std.proofs.lemmas.List.{append-nil, length-append, get_or_past}
 use Rattle.std.proofs.lemmas.List.Elements.{All-nil, All-push, All-get_or}
-use Rattle.tm_terms.specs.declared.tokens.Name.{Name}
-use Rattle.tm_terms.specs.declared.refusals.Kind.TheVariants as Kinds
-use Rattle.tm_terms.specs.declared.refusals.Refusal.{Refusal}
-use Rattle.tm_terms.specs.declared.types_named.Storage.{Storage}
-use Rattle.tm_terms.specs.declared.types_named.Storage.TheVariants as Storages
-use Rattle.tm_terms.specs.ExprTrees.{place_of}
-use Rattle.tm_trees.specs.declared.declarations.Tag.{Tag}
-use Rattle.tm_trees.specs.DeclarationTrees.{ValueTree, an_expression, a_list, InitialiserTree, InitDeclaratorTree}
-use Rattle.tm_trees.specs.DeclarationTrees.{DeclarationTree}
-use Rattle.tm_typed.specs.declared.scopes.Binding.{Binding}
-use Rattle.tm_typed.specs.declared.scopes.Named.{Named}
-use Rattle.tm_typed.specs.declared.scopes.Named.TheVariants as Names
-use Rattle.tm_typed.specs.declared.scopes.ObjectNumber.TheVariants as Objects
-use Rattle.tm_typed.specs.declared.files.LocalEntry.{LocalEntry}
-use Rattle.tm_typed.specs.declared.specifiers.Said.{Said}
-use Rattle.tm_typed.specs.Scopes.{named, named_here, tagged_here, last_declared}
-use Rattle.tm_typed.specs.TypedTrees.{OperandTree}
-use Rattle.tm_typed.specs.Refusals.{then_with}
-use Rattle.tm_typed.specs.States.{State, Static, no_static, static, static_type}
-use Rattle.tm_typed.specs.Evaluation.{typed_in}
-use Rattle.tm_typed.specs.Structures.{is_no_object, specified}
-use Rattle.tm_typed.specs.Initialisers.{initial, Given}
-use Rattle.tm_typed.specs.Declarations.{Declared, declared_by, bound_here, typedef_rules}
-use Rattle.tm_typed.specs.Declarations.{initialised_static, new_static, static_number, linked, with_linkage, clashes}
-use Rattle.tm_typed.specs.Declarations.{is_other, bound_unless, redeclared, linked_object, file_object, is_extern}
-use Rattle.tm_typed.specs.Declarations.{is_typedef, file_rules, is_function, no_value, extern_value, extern_object}
-use Rattle.tm_typed.specs.Declarations.{static_object, LocalInitial, initialised_local, new_local, Locals}
-use Rattle.tm_typed.specs.Declarations.{local_object, no_locals, local_rules, file_declared, local_declared, lone_tag}
-use Rattle.tm_typed.specs.Declarations.{tag_rules, file_form, file_declaration, local_form, local_declaration}
-use Rattle.tm_typed.specs.TypedStatements.{LocalTree}
-use Rattle.tm_typed.specs.WellTyped.{OnAnswer}
+use Rattle.cell_layout.specs.tm_terms.declared.tokens.Name.{Name}
+use Rattle.cell_layout.specs.tm_terms.declared.refusals.Kind.TheVariants as Kinds
+use Rattle.cell_layout.specs.tm_terms.declared.refusals.Refusal.{Refusal}
+use Rattle.cell_layout.specs.tm_terms.declared.types_named.Storage.{Storage}
+use Rattle.cell_layout.specs.tm_terms.declared.types_named.Storage.TheVariants as Storages
+use Rattle.cell_layout.specs.tm_terms.ExprTrees.{place_of}
+use Rattle.cell_layout.specs.tm_trees.declared.declarations.Tag.{Tag}
+use Rattle.cell_layout.specs.tm_trees.DeclarationTrees.{ValueTree, an_expression, a_list, InitialiserTree}
+use Rattle.cell_layout.specs.tm_trees.DeclarationTrees.{InitDeclaratorTree}
+use Rattle.cell_layout.specs.tm_trees.DeclarationTrees.{DeclarationTree}
+use Rattle.cell_layout.specs.tm_typed.declared.scopes.Binding.{Binding}
+use Rattle.cell_layout.specs.tm_typed.declared.scopes.Named.{Named}
+use Rattle.cell_layout.specs.tm_typed.declared.scopes.Named.TheVariants as Names
+use Rattle.cell_layout.specs.tm_typed.declared.scopes.ObjectNumber.TheVariants as Objects
+use Rattle.cell_layout.specs.tm_typed.declared.files.LocalEntry.{LocalEntry}
+use Rattle.cell_layout.specs.tm_typed.declared.specifiers.Said.{Said}
+use Rattle.cell_layout.specs.tm_typed.Scopes.{named, named_here, tagged_here, last_declared}
+use Rattle.cell_layout.specs.tm_typed.TypedTrees.{OperandTree}
+use Rattle.cell_layout.specs.tm_typed.Refusals.{then_with}
+use Rattle.cell_layout.specs.tm_typed.States.{State, Static, no_static, static, static_type}
+use Rattle.cell_layout.specs.tm_typed.Evaluation.{typed_in}
+use Rattle.cell_layout.specs.tm_typed.Structures.{is_no_object, specified}
+use Rattle.cell_layout.specs.tm_typed.Initialisers.{initial, Given}
+use Rattle.cell_layout.specs.tm_typed.Declarations.{Declared, declared_by, bound_here, typedef_rules}
+use Rattle.cell_layout.specs.tm_typed.Declarations.{initialised_static, new_static, static_number, linked, with_linkage}
+use Rattle.cell_layout.specs.tm_typed.Declarations.{clashes}
+use Rattle.cell_layout.specs.tm_typed.Declarations.{is_other, bound_unless, redeclared, linked_object, file_object}
+use Rattle.cell_layout.specs.tm_typed.Declarations.{is_extern}
+use Rattle.cell_layout.specs.tm_typed.Declarations.{is_typedef, file_rules, is_function, no_value, extern_value}
+use Rattle.cell_layout.specs.tm_typed.Declarations.{extern_object}
+use Rattle.cell_layout.specs.tm_typed.Declarations.{static_object, LocalInitial, initialised_local, new_local, Locals}
+use Rattle.cell_layout.specs.tm_typed.Declarations.{local_object, no_locals, local_rules, file_declared, local_declared}
+use Rattle.cell_layout.specs.tm_typed.Declarations.{lone_tag}
+use Rattle.cell_layout.specs.tm_typed.Declarations.{tag_rules, file_form, file_declaration, local_form}
+use Rattle.cell_layout.specs.tm_typed.Declarations.{local_declaration}
+use Rattle.cell_layout.specs.tm_typed.TypedStatements.{LocalTree}
+use Rattle.cell_layout.specs.tm_typed.WellTyped.{OnAnswer}
 use Rattle.typed_file_laws.specs.Tables.{IsType}
 use Rattle.typed_file_laws.specs.Lawful.{IsBound, IsLinked, IsLawfulState}
-use Rattle.typing_laws.proofs.Steps.{then_on}
+use Rattle.typed_file_laws.proofs.low.typing_laws.Steps.{then_on}
 use Rattle.typed_file_laws.proofs.RuleSteps.{on_row, OnSome, answer_weaker}
 use Rattle.typed_file_laws.proofs.TableGrowth.{grow_none}
 use Rattle.typed_file_laws.proofs.TypeShapes.{last_stands, some_map, said_stays}

@@ -6,48 +6,54 @@ use Rattle.std.proofs.lemmas.Bool.{false≢true, cases_lt, lt-ltb, ltb-true}
 use Rattle.std.proofs.lemmas.Option.{slice_get-get_or}
 use Rattle.std.proofs.lemmas.List.{append-nil, get_or_past}
 use Rattle.std.proofs.lemmas.List.Elements.{All-nil, All-cons, All-head, All-tail, All-weaker, All-set, All-map}
-use Rattle.tm_cint.specs.declared.int_types.IntType.{IntType}
-use Rattle.tm_cint.specs.IntTypes.{IsIn}
-use Rattle.tm_terms.specs.declared.refusals.Refusal.{Refusal}
-use Rattle.tm_terms.specs.ExprTrees.{Tree}
-use Rattle.tm_trees.specs.DeclarationTrees.{InitialiserTree}
-use Rattle.tm_typed.specs.declared.types.CType.{CType}
-use Rattle.tm_typed.specs.declared.types.CType.TheVariants as Types
-use Rattle.tm_typed.specs.declared.types.TypeEntry.{TypeEntry}
-use Rattle.tm_typed.specs.declared.types.Scalar.{Scalar}
-use Rattle.tm_typed.specs.declared.types.Scalar.TheVariants as Scalars
-use Rattle.tm_typed.specs.declared.scopes.Member.{Member}
-use Rattle.tm_typed.specs.declared.scopes.ObjectNumber.TheVariants as Objects
-use Rattle.tm_typed.specs.declared.files.LocalEntry.{LocalEntry}
-use Rattle.tm_typed.specs.declared.files.StaticCell.{StaticCell}
-use Rattle.tm_typed.specs.declared.files.StaticValue.{StaticValue}
-use Rattle.tm_typed.specs.declared.files.StaticValue.TheVariants as Values
-use Rattle.tm_typed.specs.declared.uses.Use.{Use}
-use Rattle.tm_typed.specs.declared.uses.Used.{Used}
-use Rattle.tm_typed.specs.declared.uses.Used.TheVariants as Uses
-use Rattle.tm_typed.specs.Types.{no_type}
-use Rattle.tm_typed.specs.Scopes.{Scope, Structure, no_structure, structure, entry, ctype_of, cells_by, cells_of}
-use Rattle.tm_typed.specs.TypeRows.{clipped}
-use Rattle.tm_laid.specs.TypeCells.{summed}
-use Rattle.tm_typed.specs.TypedTrees.{RvalueTree, a_constant, a_folded, a_null, a_load, an_address, a_structure}
-use Rattle.tm_typed.specs.TypedTrees.{the_same, a_unary, a_binary, a_comparison_of_pointers, a_move, a_not, an_and}
-use Rattle.tm_typed.specs.TypedTrees.{an_or, a_choice, an_assignment, a_compound, a_compound_move, a_unit_step}
-use Rattle.tm_typed.specs.TypedTrees.{a_pointer_step, a_function_call, an_input_value, a_probe, a_comma, a_conversion}
-use Rattle.tm_typed.specs.TypedTrees.{a_discard, OperandTree}
-use Rattle.tm_typed.specs.Refusals.{then_with}
-use Rattle.tm_typed.specs.States.{State, Static, no_static, static, static_type}
-use Rattle.tm_typed.specs.Evaluation.{typed_in}
-use Rattle.tm_typed.specs.StaticValues.{static_value, as_converted}
-use Rattle.tm_typed.specs.TypedStatements.{GivenTree}
-use Rattle.tm_typed.specs.Initialisers.{initial, Given}
-use Rattle.tm_typed.specs.Declarations.{value_or_null, static_cell_of, with_static, initialised_static}
-use Rattle.tm_typed.specs.WellTyped.{ValueKind, a_number, a_pointer, Context, IsRvalue, IsOperand, kind_of_scalar}
-use Rattle.tm_typed.specs.WellTyped.{OnAnswer}
+use Rattle.cell_layout.specs.tm_cint.declared.int_types.IntType.{IntType}
+use Rattle.cell_layout.specs.tm_cint.IntTypes.{IsIn}
+use Rattle.cell_layout.specs.tm_terms.declared.refusals.Refusal.{Refusal}
+use Rattle.cell_layout.specs.tm_terms.ExprTrees.{Tree}
+use Rattle.cell_layout.specs.tm_trees.DeclarationTrees.{InitialiserTree}
+use Rattle.cell_layout.specs.tm_typed.declared.types.CType.{CType}
+use Rattle.cell_layout.specs.tm_typed.declared.types.CType.TheVariants as Types
+use Rattle.cell_layout.specs.tm_typed.declared.types.TypeEntry.{TypeEntry}
+use Rattle.cell_layout.specs.tm_typed.declared.types.Scalar.{Scalar}
+use Rattle.cell_layout.specs.tm_typed.declared.types.Scalar.TheVariants as Scalars
+use Rattle.cell_layout.specs.tm_typed.declared.scopes.Member.{Member}
+use Rattle.cell_layout.specs.tm_typed.declared.scopes.ObjectNumber.TheVariants as Objects
+use Rattle.cell_layout.specs.tm_typed.declared.files.LocalEntry.{LocalEntry}
+use Rattle.cell_layout.specs.tm_typed.declared.files.StaticCell.{StaticCell}
+use Rattle.cell_layout.specs.tm_typed.declared.files.StaticValue.{StaticValue}
+use Rattle.cell_layout.specs.tm_typed.declared.files.StaticValue.TheVariants as Values
+use Rattle.cell_layout.specs.tm_typed.declared.uses.Use.{Use}
+use Rattle.cell_layout.specs.tm_typed.declared.uses.Used.{Used}
+use Rattle.cell_layout.specs.tm_typed.declared.uses.Used.TheVariants as Uses
+use Rattle.cell_layout.specs.tm_typed.Types.{no_type}
+use Rattle.cell_layout.specs.tm_typed.Scopes.{Scope, Structure, no_structure, structure, entry, ctype_of, cells_by}
+use Rattle.cell_layout.specs.tm_typed.Scopes.{cells_of}
+use Rattle.cell_layout.specs.tm_typed.TypeRows.{clipped}
+use Rattle.cell_layout.specs.tm_laid.TypeCells.{summed}
+use Rattle.cell_layout.specs.tm_typed.TypedTrees.{RvalueTree, a_constant, a_folded, a_null, a_load, an_address}
+use Rattle.cell_layout.specs.tm_typed.TypedTrees.{a_structure}
+use Rattle.cell_layout.specs.tm_typed.TypedTrees.{the_same, a_unary, a_binary, a_comparison_of_pointers, a_move, a_not}
+use Rattle.cell_layout.specs.tm_typed.TypedTrees.{an_and}
+use Rattle.cell_layout.specs.tm_typed.TypedTrees.{an_or, a_choice, an_assignment, a_compound, a_compound_move}
+use Rattle.cell_layout.specs.tm_typed.TypedTrees.{a_unit_step}
+use Rattle.cell_layout.specs.tm_typed.TypedTrees.{a_pointer_step, a_function_call, an_input_value, a_probe, a_comma}
+use Rattle.cell_layout.specs.tm_typed.TypedTrees.{a_conversion}
+use Rattle.cell_layout.specs.tm_typed.TypedTrees.{a_discard, OperandTree}
+use Rattle.cell_layout.specs.tm_typed.Refusals.{then_with}
+use Rattle.cell_layout.specs.tm_typed.States.{State, Static, no_static, static, static_type}
+use Rattle.cell_layout.specs.tm_typed.Evaluation.{typed_in}
+use Rattle.cell_layout.specs.tm_typed.StaticValues.{static_value, as_converted}
+use Rattle.cell_layout.specs.tm_typed.TypedStatements.{GivenTree}
+use Rattle.cell_layout.specs.tm_typed.Initialisers.{initial, Given}
+use Rattle.cell_layout.specs.tm_typed.Declarations.{value_or_null, static_cell_of, with_static, initialised_static}
+use Rattle.cell_layout.specs.tm_typed.WellTyped.{ValueKind, a_number, a_pointer, Context, IsRvalue, IsOperand}
+use Rattle.cell_layout.specs.tm_typed.WellTyped.{kind_of_scalar}
+use Rattle.cell_layout.specs.tm_typed.WellTyped.{OnAnswer}
 use Rattle.typed_file_laws.specs.Tables.{AreLawfulTables}
 use Rattle.typed_file_laws.specs.Lawful.{context, IsUse, IsLawfulState}
 use Rattle.typed_file_laws.specs.Bodies.{IsGivenCell}
 use Rattle.typed_file_laws.specs.Mentions.{Mentions}
-use Rattle.typing_laws.proofs.Steps.{then_on}
+use Rattle.typed_file_laws.proofs.low.typing_laws.Steps.{then_on}
 use Rattle.typed_file_laws.proofs.TableGrowth.{TablesGrow, entry_stays}
 use Rattle.typed_file_laws.proofs.TableStructures.{structure_at}
 use Rattle.typed_file_laws.proofs.StateSteps.{Keeps, Continues, continues_none, continues_on}

@@ -4,37 +4,37 @@ use Rattle.std.proofs.Common.{negsuc, ◌+ℤ◌, ◌*ℤ◌, ◌≤ℤ◌}
 use Rattle.std.specs.Prelude.{pos, if◌then◌else◌, is_some, nat_le, Result, Ok, Err, int_le, int_lt, not}
 use Rattle.std.proofs.lemmas.Bool.{false≢true, and_parts}
 use Rattle.std.proofs.lemmas.Int.{ints}
-use Rattle.tm_cint.specs.declared.Class.{Class}
-use Rattle.tm_cint.specs.declared.Class.TheVariants as Classes
-use Rattle.tm_cint.specs.declared.int_types.IntType.{IntType}
-use Rattle.tm_cint.specs.declared.int_types.IntType.TheVariants as Ints
-use Rattle.tm_cint.specs.declared.operators.BinOp.{BinOp}
-use Rattle.tm_cint.specs.declared.operators.BinOp.TheVariants as Ops
-use Rattle.tm_cint.specs.IntTypes.{IsIn, is_in, lo_of, hi_of}
-use Rattle.tm_cint.specs.Conversions.{truth, represents_all, converted_value}
-use Rattle.tm_cint.specs.Operators.{outcome, is_same, IsRightOperand, result_type}
-use Rattle.tm_cint.proofs.Ranges.{is_in-true, IsIn-from_test}
-use Rattle.tm_cint.proofs.Values.{zero_in, IsIn-between, outcome-in}
-use Rattle.c_folds.proofs.ConvertedValues.{converted_is_in}
-use Rattle.tm_terms.specs.declared.places.Place.{Place}
-use Rattle.tm_typed.specs.declared.expressions.Unary.{Unary}
-use Rattle.tm_typed.specs.declared.expressions.Unary.TheVariants as Unaries
-use Rattle.tm_typed.specs.declared.types.Scalar.{Scalar}
-use Rattle.tm_typed.specs.declared.types.Scalar.TheVariants as Scalars
-use Rattle.tm_typed.specs.WellTyped.{ValueKind, a_number, a_pointer, kind_of_scalar}
-use Rattle.tm_laid.specs.Layouts.{LaidTree}
-use Rattle.concrete_values.specs.declared.values.Pointer.{Pointer}
-use Rattle.concrete_values.specs.declared.values.Pointer.TheVariants as Pointers
-use Rattle.concrete_values.specs.declared.values.Value.{Value}
-use Rattle.concrete_values.specs.declared.values.Value.TheVariants.{Number, Pointer as APointer}
-use Rattle.concrete_values.specs.declared.values.Answer.{Answer}
-use Rattle.concrete_values.specs.declared.values.Answer.TheVariants.{Given, Done}
-use Rattle.concrete_values.specs.declared.actions.Next.TheVariants as Acts
-use Rattle.concrete_values.specs.Values.{number_of, pointer_of, number_in, nothing}
-use Rattle.concrete_values.specs.Operators.{number_result, right_number, binary, unary, converted}
-use Rattle.concrete_values.specs.Pointers.{placed, size_of, pointer_in, shifted, or_class, directed, moved}
-use Rattle.concrete_values.specs.Pointers.{is_object_at, is_dereferenceable, dereferenced}
-use Rattle.concrete_values.specs.Actions.{is_pointer, is_of, value_if, answer_of}
+use Rattle.cell_layout.specs.tm_cint.declared.Class.{Class}
+use Rattle.cell_layout.specs.tm_cint.declared.Class.TheVariants as Classes
+use Rattle.cell_layout.specs.tm_cint.declared.int_types.IntType.{IntType}
+use Rattle.cell_layout.specs.tm_cint.declared.int_types.IntType.TheVariants as Ints
+use Rattle.cell_layout.specs.tm_cint.declared.operators.BinOp.{BinOp}
+use Rattle.cell_layout.specs.tm_cint.declared.operators.BinOp.TheVariants as Ops
+use Rattle.cell_layout.specs.tm_cint.IntTypes.{IsIn, is_in, lo_of, hi_of}
+use Rattle.cell_layout.specs.tm_cint.Conversions.{truth, represents_all, converted_value}
+use Rattle.cell_layout.specs.tm_cint.Operators.{outcome, is_same, IsRightOperand, result_type}
+use Rattle.cell_layout.proofs.low.tm_cint.Ranges.{is_in-true, IsIn-from_test}
+use Rattle.cell_layout.proofs.low.tm_cint.Values.{zero_in, IsIn-between, outcome-in}
+use Rattle.typed_file_laws.proofs.low.c_folds.ConvertedValues.{converted_is_in}
+use Rattle.cell_layout.specs.tm_terms.declared.places.Place.{Place}
+use Rattle.cell_layout.specs.tm_typed.declared.expressions.Unary.{Unary}
+use Rattle.cell_layout.specs.tm_typed.declared.expressions.Unary.TheVariants as Unaries
+use Rattle.cell_layout.specs.tm_typed.declared.types.Scalar.{Scalar}
+use Rattle.cell_layout.specs.tm_typed.declared.types.Scalar.TheVariants as Scalars
+use Rattle.cell_layout.specs.tm_typed.WellTyped.{ValueKind, a_number, a_pointer, kind_of_scalar}
+use Rattle.cell_layout.specs.tm_laid.Layouts.{LaidTree}
+use Rattle.cell_types.specs.concrete_values.declared.values.Pointer.{Pointer}
+use Rattle.cell_types.specs.concrete_values.declared.values.Pointer.TheVariants as Pointers
+use Rattle.cell_types.specs.concrete_values.declared.values.Value.{Value}
+use Rattle.cell_types.specs.concrete_values.declared.values.Value.TheVariants.{Number, Pointer as APointer}
+use Rattle.cell_types.specs.concrete_values.declared.values.Answer.{Answer}
+use Rattle.cell_types.specs.concrete_values.declared.values.Answer.TheVariants.{Given, Done}
+use Rattle.cell_types.specs.concrete_values.declared.actions.Next.TheVariants as Acts
+use Rattle.cell_types.specs.concrete_values.Values.{number_of, pointer_of, number_in, nothing}
+use Rattle.cell_types.specs.concrete_values.Operators.{number_result, right_number, binary, unary, converted}
+use Rattle.cell_types.specs.concrete_values.Pointers.{placed, size_of, pointer_in, shifted, or_class, directed, moved}
+use Rattle.cell_types.specs.concrete_values.Pointers.{is_object_at, is_dereferenceable, dereferenced}
+use Rattle.cell_types.specs.concrete_values.Actions.{is_pointer, is_of, value_if, answer_of}
 use Rattle.concrete_steps.specs.NextAction.{zero_of, converted_result, compound_result}
 use Rattle.next_action_laws.proofs.Keeping.{HasKind}
 

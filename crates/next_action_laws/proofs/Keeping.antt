@@ -3,21 +3,21 @@ use Rattle.std.proofs.Common.{◌≡◌, refl, ap, sym, subst, ℕ, zero, suc, �
 use Rattle.std.proofs.Common.{length, Option, Some, None, arith}
 use Rattle.std.specs.Prelude.{nat_lt, if◌then◌else◌, is_some, Result, Ok, Err}
 use Rattle.std.proofs.lemmas.Bool.{false≢true, ltb-true, lt-ltb}
-use Rattle.tm_cint.specs.declared.Class.{Class}
-use Rattle.tm_cint.specs.declared.int_types.IntType.TheVariants as Ints
-use Rattle.tm_terms.specs.declared.places.Place.{Place}
-use Rattle.tm_typed.specs.declared.types.Scalar.{Scalar}
-use Rattle.tm_typed.specs.declared.types.Scalar.TheVariants as Scalars
-use Rattle.tm_typed.specs.WellTyped.{ValueKind, a_number, a_pointer, no_value, kind_of_scalar}
-use Rattle.tm_laid.specs.Layouts.{LaidTree}
-use Rattle.concrete_values.specs.declared.values.Value.{Value}
-use Rattle.concrete_values.specs.declared.values.Value.TheVariants.{Number, Pointer as APointer}
-use Rattle.concrete_values.specs.declared.values.Answer.{Answer}
-use Rattle.concrete_values.specs.declared.values.Answer.TheVariants.{Given, Done}
-use Rattle.concrete_values.specs.declared.actions.Next.{Next}
-use Rattle.concrete_values.specs.declared.actions.Next.TheVariants as Acts
-use Rattle.concrete_values.specs.Values.{truth_value, is_true}
-use Rattle.concrete_values.specs.Actions.{is_of, value_if, answer_of}
+use Rattle.cell_layout.specs.tm_cint.declared.Class.{Class}
+use Rattle.cell_layout.specs.tm_cint.declared.int_types.IntType.TheVariants as Ints
+use Rattle.cell_layout.specs.tm_terms.declared.places.Place.{Place}
+use Rattle.cell_layout.specs.tm_typed.declared.types.Scalar.{Scalar}
+use Rattle.cell_layout.specs.tm_typed.declared.types.Scalar.TheVariants as Scalars
+use Rattle.cell_layout.specs.tm_typed.WellTyped.{ValueKind, a_number, a_pointer, no_value, kind_of_scalar}
+use Rattle.cell_layout.specs.tm_laid.Layouts.{LaidTree}
+use Rattle.cell_types.specs.concrete_values.declared.values.Value.{Value}
+use Rattle.cell_types.specs.concrete_values.declared.values.Value.TheVariants.{Number, Pointer as APointer}
+use Rattle.cell_types.specs.concrete_values.declared.values.Answer.{Answer}
+use Rattle.cell_types.specs.concrete_values.declared.values.Answer.TheVariants.{Given, Done}
+use Rattle.cell_types.specs.concrete_values.declared.actions.Next.{Next}
+use Rattle.cell_types.specs.concrete_values.declared.actions.Next.TheVariants as Acts
+use Rattle.cell_types.specs.concrete_values.Values.{truth_value, is_true}
+use Rattle.cell_types.specs.concrete_values.Actions.{is_of, value_if, answer_of}
 use Rattle.concrete_steps.specs.NextAction.{After, last, fit_then, act_then, result_then, Use, as_value, as_branch}
 use Rattle.concrete_steps.specs.NextAction.{tested, value_used, truth_used, loop_then, loop_over}
 use Rattle.next_action_laws.specs.Actions.{IsProper}

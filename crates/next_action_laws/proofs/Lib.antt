@@ -19,3 +19,4 @@ pub mod Answered
 pub mod StartingCells
 pub mod ProperWorlds
 pub mod Tried
+pub mod low

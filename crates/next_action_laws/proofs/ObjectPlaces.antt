@@ -5,25 +5,27 @@ use Rattle.std.proofs.Common.{arith}
 use Rattle.std.proofs.lemmas.Bool.{false≢true}
 use Rattle.std.proofs.lemmas.Option.{none-some, same_Some, slice_get_within}
 use Rattle.std.proofs.lemmas.List.{drop-drop, drop_at, take_at, length-map}
-use Rattle.tm_typed.specs.declared.types.CType.{CType}
-use Rattle.tm_typed.specs.declared.types.CType.TheVariants as Types
-use Rattle.tm_typed.specs.declared.types.TypeEntry.{TypeEntry}
-use Rattle.tm_typed.specs.declared.types.Scalar.{Scalar}
-use Rattle.tm_typed.specs.declared.scopes.Member.{Member}
-use Rattle.tm_typed.specs.declared.files.LocalEntry.{LocalEntry}
-use Rattle.tm_typed.specs.States.{Static, no_static}
-use Rattle.tm_typed.specs.Files.{TypedFileTree}
-use Rattle.tm_laid.specs.declared.objects.DeclaredObject.{DeclaredObject}
-use Rattle.tm_laid.specs.declared.objects.LaidObject.{LaidObject}
-use Rattle.tm_laid.specs.declared.cells.LaidCell.{LaidCell}
-use Rattle.tm_laid.specs.declared.paths.CallPath.{CallPath}
-use Rattle.tm_laid.specs.TypeCells.{TypeCell, entry_of, structure_in, is_smashed, elements, in_members, cells_by}
-use Rattle.tm_laid.specs.TypeCells.{type_cells, type_depth, cells_of_type, abstract_cells_of_type}
-use Rattle.tm_laid.specs.Objects.{local_objects, path_objects, static_objects, static_numbers, objects_from, laid_cell}
-use Rattle.tm_laid.specs.Objects.{cells_from}
-use Rattle.tm_laid.specs.Paths.{locals_of, own_objects, first_objects_of}
-use Rattle.tm_laid.specs.Layable.{IsLayable}
-use Rattle.tm_laid.specs.Layouts.{no_object, no_path, scalars_of_type, summed_types}
+use Rattle.cell_layout.specs.tm_typed.declared.types.CType.{CType}
+use Rattle.cell_layout.specs.tm_typed.declared.types.CType.TheVariants as Types
+use Rattle.cell_layout.specs.tm_typed.declared.types.TypeEntry.{TypeEntry}
+use Rattle.cell_layout.specs.tm_typed.declared.types.Scalar.{Scalar}
+use Rattle.cell_layout.specs.tm_typed.declared.scopes.Member.{Member}
+use Rattle.cell_layout.specs.tm_typed.declared.files.LocalEntry.{LocalEntry}
+use Rattle.cell_layout.specs.tm_typed.States.{Static, no_static}
+use Rattle.cell_layout.specs.tm_typed.Files.{TypedFileTree}
+use Rattle.cell_layout.specs.tm_laid.declared.objects.DeclaredObject.{DeclaredObject}
+use Rattle.cell_layout.specs.tm_laid.declared.objects.LaidObject.{LaidObject}
+use Rattle.cell_layout.specs.tm_laid.declared.cells.LaidCell.{LaidCell}
+use Rattle.cell_layout.specs.tm_laid.declared.paths.CallPath.{CallPath}
+use Rattle.cell_layout.specs.tm_laid.TypeCells.{TypeCell, entry_of, structure_in, is_smashed, elements, in_members}
+use Rattle.cell_layout.specs.tm_laid.TypeCells.{cells_by}
+use Rattle.cell_layout.specs.tm_laid.TypeCells.{type_cells, type_depth, cells_of_type, abstract_cells_of_type}
+use Rattle.cell_layout.specs.tm_laid.Objects.{local_objects, path_objects, static_objects, static_numbers, objects_from}
+use Rattle.cell_layout.specs.tm_laid.Objects.{laid_cell}
+use Rattle.cell_layout.specs.tm_laid.Objects.{cells_from}
+use Rattle.cell_layout.specs.tm_laid.Paths.{locals_of, own_objects, first_objects_of}
+use Rattle.cell_layout.specs.tm_laid.Layable.{IsLayable}
+use Rattle.cell_layout.specs.tm_laid.Layouts.{no_object, no_path, scalars_of_type, summed_types}
 use Rattle.cell_types.proofs.Lists.{get_front, get_back}
 use Rattle.cell_types.proofs.Types.{length_of}
 

@@ -4,17 +4,19 @@ use Rattle.std.proofs.Common.{true, false, cond, List, [], ◌∷◌, ◌++◌, 
 use Rattle.std.specs.Prelude.{Contains}
 use Rattle.std.proofs.lemmas.Bool.{cases_Bool, cases_lt, ltb-true, lt-ltb, le-ltb}
 use Rattle.std.proofs.lemmas.List.{length-append, get_or_append_left, get_or-append_right}
-use Rattle.tm_typed.specs.declared.files.LocalEntry.{LocalEntry}
-use Rattle.tm_typed.specs.CallGraph.{calls_in}
-use Rattle.tm_typed.specs.Files.{TypedFileTree}
-use Rattle.tm_laid.specs.declared.paths.Caller.{Caller}
-use Rattle.tm_laid.specs.declared.paths.CallPath.{CallPath}
-use Rattle.tm_laid.specs.CallTrees.{CallTree, a_call_of, CallTrees, no_calls, and_call, trees_of, weight, weights, one}
-use Rattle.tm_laid.specs.Paths.{tree_of, bodies_of, body_trees, locals_of, tree_paths, called_paths, body_paths}
-use Rattle.tm_laid.specs.Paths.{numbers_from, paths_of}
-use Rattle.tm_laid.specs.Objects.{local_objects, path_objects, static_objects}
-use Rattle.tm_laid.specs.Layable.{IsLayable}
-use Rattle.tm_laid.specs.Layouts.{no_path, summed_types, own_cells, over_objects}
+use Rattle.cell_layout.specs.tm_typed.declared.files.LocalEntry.{LocalEntry}
+use Rattle.cell_layout.specs.tm_typed.CallGraph.{calls_in}
+use Rattle.cell_layout.specs.tm_typed.Files.{TypedFileTree}
+use Rattle.cell_layout.specs.tm_laid.declared.paths.Caller.{Caller}
+use Rattle.cell_layout.specs.tm_laid.declared.paths.CallPath.{CallPath}
+use Rattle.cell_layout.specs.tm_laid.CallTrees.{CallTree, a_call_of, CallTrees, no_calls, and_call, trees_of, weight}
+use Rattle.cell_layout.specs.tm_laid.CallTrees.{weights, one}
+use Rattle.cell_layout.specs.tm_laid.Paths.{tree_of, bodies_of, body_trees, locals_of, tree_paths, called_paths}
+use Rattle.cell_layout.specs.tm_laid.Paths.{body_paths}
+use Rattle.cell_layout.specs.tm_laid.Paths.{numbers_from, paths_of}
+use Rattle.cell_layout.specs.tm_laid.Objects.{local_objects, path_objects, static_objects}
+use Rattle.cell_layout.specs.tm_laid.Layable.{IsLayable}
+use Rattle.cell_layout.specs.tm_laid.Layouts.{no_path, summed_types, own_cells, over_objects}
 use Rattle.cell_layout.proofs.CallDepth.{rank_of_file, rank_falls}
 use Rattle.cell_layout.proofs.PathSteps.{counted, called_counted}
 use Rattle.next_action_laws.proofs.ObjectPlaces.{sum_append}

@@ -6,22 +6,22 @@ use Rattle.std.proofs.lemmas.Bool.{cases_eq, cases_lt}
 use Rattle.std.proofs.lemmas.Option.{slice_get_within, get_or_from_slice_get}
 use Rattle.std.proofs.lemmas.List.{length-map, length-append, length-set, get_or-set_same, get_or-set_other}
 use Rattle.std.proofs.lemmas.List.{get_or_past}
-use Rattle.tm_cint.specs.Conversions.{is_zero}
-use Rattle.tm_typed.specs.declared.types.Scalar.{Scalar}
-use Rattle.tm_typed.specs.declared.types.Scalar.TheVariants as Scalars
-use Rattle.tm_typed.specs.declared.files.TypedTask.{TypedTask}
-use Rattle.tm_typed.specs.Files.{TypedFileTree}
-use Rattle.tm_laid.specs.Paths.{listed, bodies_of}
-use Rattle.tm_laid.specs.Layouts.{LaidTree, layout_of, cell_at, cell_of}
-use Rattle.concrete_values.specs.declared.values.Pointer.TheVariants as Pointers
-use Rattle.concrete_values.specs.declared.values.Value.{Value}
-use Rattle.concrete_values.specs.declared.values.Value.TheVariants.{Number, Pointer as APointer}
-use Rattle.concrete_values.specs.declared.values.Answer.{Answer}
-use Rattle.concrete_values.specs.declared.values.Answer.TheVariants as Answers
-use Rattle.concrete_values.specs.declared.actions.Next.{Next}
-use Rattle.concrete_values.specs.declared.actions.Next.TheVariants as Acts
-use Rattle.concrete_values.specs.Values.{truth_value}
-use Rattle.concrete_values.specs.Actions.{is_of, is_between, value_if, answer_of}
+use Rattle.cell_layout.specs.tm_cint.Conversions.{is_zero}
+use Rattle.cell_layout.specs.tm_typed.declared.types.Scalar.{Scalar}
+use Rattle.cell_layout.specs.tm_typed.declared.types.Scalar.TheVariants as Scalars
+use Rattle.cell_layout.specs.tm_typed.declared.files.TypedTask.{TypedTask}
+use Rattle.cell_layout.specs.tm_typed.Files.{TypedFileTree}
+use Rattle.cell_layout.specs.tm_laid.Paths.{listed, bodies_of}
+use Rattle.cell_layout.specs.tm_laid.Layouts.{LaidTree, layout_of, cell_at, cell_of}
+use Rattle.cell_types.specs.concrete_values.declared.values.Pointer.TheVariants as Pointers
+use Rattle.cell_types.specs.concrete_values.declared.values.Value.{Value}
+use Rattle.cell_types.specs.concrete_values.declared.values.Value.TheVariants.{Number, Pointer as APointer}
+use Rattle.cell_types.specs.concrete_values.declared.values.Answer.{Answer}
+use Rattle.cell_types.specs.concrete_values.declared.values.Answer.TheVariants as Answers
+use Rattle.cell_types.specs.concrete_values.declared.actions.Next.{Next}
+use Rattle.cell_types.specs.concrete_values.declared.actions.Next.TheVariants as Acts
+use Rattle.cell_types.specs.concrete_values.Values.{truth_value}
+use Rattle.cell_types.specs.concrete_values.Actions.{is_of, is_between, value_if, answer_of}
 use Rattle.concrete_steps.specs.declared.worlds.Content.{Content}
 use Rattle.concrete_steps.specs.declared.worlds.Content.TheVariants.{Open, Is}
 use Rattle.concrete_steps.specs.declared.worlds.Choice.{Choice}

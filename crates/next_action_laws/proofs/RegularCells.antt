@@ -7,53 +7,62 @@ use Rattle.std.proofs.lemmas.Bool.{false≢true, cases_lt}
 use Rattle.std.proofs.lemmas.Option.{none-some}
 use Rattle.std.proofs.lemmas.List.{append-nil, get_or_past, length-set}
 use Rattle.std.proofs.lemmas.List.Elements.{All-nil, All-cons, All-append, All-weaker, All-set, All-get_or}
-use Rattle.tm_terms.specs.declared.places.Place.{Place}
-use Rattle.tm_terms.specs.declared.refusals.Kind.TheVariants as Kinds
-use Rattle.tm_terms.specs.declared.refusals.Refusal.{Refusal}
-use Rattle.tm_terms.specs.declared.types_named.Storage.{Storage}
-use Rattle.tm_terms.specs.declared.types_named.Storage.TheVariants as Storages
-use Rattle.tm_terms.specs.ExprTrees.{Tree, place_of}
-use Rattle.tm_trees.specs.declared.declarations.Tag.{Tag}
-use Rattle.tm_trees.specs.DeclarationTrees.{ValueTree, an_expression, a_list, ValueTrees, no_values, and_value}
-use Rattle.tm_trees.specs.DeclarationTrees.{InitialiserTree, InitDeclaratorTree, DeclarationTree}
-use Rattle.tm_typed.specs.declared.types.CType.{CType}
-use Rattle.tm_typed.specs.declared.types.CType.TheVariants as Types
-use Rattle.tm_typed.specs.declared.types.TypeEntry.{TypeEntry}
-use Rattle.tm_typed.specs.declared.types.Scalar.{Scalar}
-use Rattle.tm_typed.specs.declared.scopes.Member.{Member}
-use Rattle.tm_typed.specs.declared.scopes.Part.{Part}
-use Rattle.tm_typed.specs.declared.scopes.Named.TheVariants as Names
-use Rattle.tm_typed.specs.declared.scopes.ObjectNumber.{ObjectNumber}
-use Rattle.tm_typed.specs.declared.scopes.ObjectNumber.TheVariants as Objects
-use Rattle.tm_typed.specs.declared.scopes.Tagged.{Tagged}
-use Rattle.tm_typed.specs.declared.scopes.Tagged.TheVariants as Tagging
-use Rattle.tm_typed.specs.declared.files.LocalEntry.{LocalEntry}
-use Rattle.tm_typed.specs.declared.specifiers.Said.{Said}
-use Rattle.tm_typed.specs.Types.{no_type}
-use Rattle.tm_typed.specs.Scopes.{Scope, Structure, no_structure, structure, entry, ctype_of, cells_of, named}
-use Rattle.tm_typed.specs.Scopes.{named_here, tagged_here}
-use Rattle.tm_typed.specs.TypeRows.{clipped}
-use Rattle.tm_typed.specs.TypedTrees.{RvalueTree, Rated, OperandTree}
-use Rattle.tm_typed.specs.Operands.{valued, is_structure, is_null, is_integer, scalar_by, scalar_of, given}
-use Rattle.tm_typed.specs.Refusals.{then_with, row, row_unless}
-use Rattle.tm_typed.specs.States.{State, Static, no_static, static, static_type}
-use Rattle.tm_typed.specs.Evaluation.{typed_in}
-use Rattle.tm_typed.specs.Specifiers.{with_struct_tag}
-use Rattle.tm_typed.specs.Structures.{is_no_object, is_declared_here, specified}
-use Rattle.tm_typed.specs.StaticValues.{static_value}
-use Rattle.tm_typed.specs.TypedStatements.{GivenTree, LocalInitialiserTree, LocalTree}
-use Rattle.tm_typed.specs.Initialisers.{part_number, part_of, part_in, part, is_aggregate_type, is_aggregate}
-use Rattle.tm_typed.specs.Initialisers.{scalar_rules, lone_rules, given_behind, lone, list_rules, initial, initials}
-use Rattle.tm_typed.specs.Initialisers.{Given}
-use Rattle.tm_typed.specs.Declarations.{Declared, declared_by, bound_here, typedef_rules, static_cell_of, with_static}
-use Rattle.tm_typed.specs.Declarations.{initialised_static, new_static, linked, clashes, is_other, linked_object}
-use Rattle.tm_typed.specs.Declarations.{is_function, no_value, extern_value, extern_object, object_rules, static_object}
-use Rattle.tm_typed.specs.Declarations.{LocalInitial, initialised_local, new_local, Locals, local_object, no_locals}
-use Rattle.tm_typed.specs.Declarations.{local_rules, lone_tag, tag_rules, local_declared, local_form, local_declaration}
-use Rattle.tm_typed.specs.WellTyped.{OnAnswer}
+use Rattle.cell_layout.specs.tm_terms.declared.places.Place.{Place}
+use Rattle.cell_layout.specs.tm_terms.declared.refusals.Kind.TheVariants as Kinds
+use Rattle.cell_layout.specs.tm_terms.declared.refusals.Refusal.{Refusal}
+use Rattle.cell_layout.specs.tm_terms.declared.types_named.Storage.{Storage}
+use Rattle.cell_layout.specs.tm_terms.declared.types_named.Storage.TheVariants as Storages
+use Rattle.cell_layout.specs.tm_terms.ExprTrees.{Tree, place_of}
+use Rattle.cell_layout.specs.tm_trees.declared.declarations.Tag.{Tag}
+use Rattle.cell_layout.specs.tm_trees.DeclarationTrees.{ValueTree, an_expression, a_list, ValueTrees, no_values}
+use Rattle.cell_layout.specs.tm_trees.DeclarationTrees.{and_value}
+use Rattle.cell_layout.specs.tm_trees.DeclarationTrees.{InitialiserTree, InitDeclaratorTree, DeclarationTree}
+use Rattle.cell_layout.specs.tm_typed.declared.types.CType.{CType}
+use Rattle.cell_layout.specs.tm_typed.declared.types.CType.TheVariants as Types
+use Rattle.cell_layout.specs.tm_typed.declared.types.TypeEntry.{TypeEntry}
+use Rattle.cell_layout.specs.tm_typed.declared.types.Scalar.{Scalar}
+use Rattle.cell_layout.specs.tm_typed.declared.scopes.Member.{Member}
+use Rattle.cell_layout.specs.tm_typed.declared.scopes.Part.{Part}
+use Rattle.cell_layout.specs.tm_typed.declared.scopes.Named.TheVariants as Names
+use Rattle.cell_layout.specs.tm_typed.declared.scopes.ObjectNumber.{ObjectNumber}
+use Rattle.cell_layout.specs.tm_typed.declared.scopes.ObjectNumber.TheVariants as Objects
+use Rattle.cell_layout.specs.tm_typed.declared.scopes.Tagged.{Tagged}
+use Rattle.cell_layout.specs.tm_typed.declared.scopes.Tagged.TheVariants as Tagging
+use Rattle.cell_layout.specs.tm_typed.declared.files.LocalEntry.{LocalEntry}
+use Rattle.cell_layout.specs.tm_typed.declared.specifiers.Said.{Said}
+use Rattle.cell_layout.specs.tm_typed.Types.{no_type}
+use Rattle.cell_layout.specs.tm_typed.Scopes.{Scope, Structure, no_structure, structure, entry, ctype_of, cells_of}
+use Rattle.cell_layout.specs.tm_typed.Scopes.{named}
+use Rattle.cell_layout.specs.tm_typed.Scopes.{named_here, tagged_here}
+use Rattle.cell_layout.specs.tm_typed.TypeRows.{clipped}
+use Rattle.cell_layout.specs.tm_typed.TypedTrees.{RvalueTree, Rated, OperandTree}
+use Rattle.cell_layout.specs.tm_typed.Operands.{valued, is_structure, is_null, is_integer, scalar_by, scalar_of, given}
+use Rattle.cell_layout.specs.tm_typed.Refusals.{then_with, row, row_unless}
+use Rattle.cell_layout.specs.tm_typed.States.{State, Static, no_static, static, static_type}
+use Rattle.cell_layout.specs.tm_typed.Evaluation.{typed_in}
+use Rattle.cell_layout.specs.tm_typed.Specifiers.{with_struct_tag}
+use Rattle.cell_layout.specs.tm_typed.Structures.{is_no_object, is_declared_here, specified}
+use Rattle.cell_layout.specs.tm_typed.StaticValues.{static_value}
+use Rattle.cell_layout.specs.tm_typed.TypedStatements.{GivenTree, LocalInitialiserTree, LocalTree}
+use Rattle.cell_layout.specs.tm_typed.Initialisers.{part_number, part_of, part_in, part, is_aggregate_type}
+use Rattle.cell_layout.specs.tm_typed.Initialisers.{is_aggregate}
+use Rattle.cell_layout.specs.tm_typed.Initialisers.{scalar_rules, lone_rules, given_behind, lone, list_rules, initial}
+use Rattle.cell_layout.specs.tm_typed.Initialisers.{initials}
+use Rattle.cell_layout.specs.tm_typed.Initialisers.{Given}
+use Rattle.cell_layout.specs.tm_typed.Declarations.{Declared, declared_by, bound_here, typedef_rules, static_cell_of}
+use Rattle.cell_layout.specs.tm_typed.Declarations.{with_static}
+use Rattle.cell_layout.specs.tm_typed.Declarations.{initialised_static, new_static, linked, clashes, is_other}
+use Rattle.cell_layout.specs.tm_typed.Declarations.{linked_object}
+use Rattle.cell_layout.specs.tm_typed.Declarations.{is_function, no_value, extern_value, extern_object, object_rules}
+use Rattle.cell_layout.specs.tm_typed.Declarations.{static_object}
+use Rattle.cell_layout.specs.tm_typed.Declarations.{LocalInitial, initialised_local, new_local, Locals, local_object}
+use Rattle.cell_layout.specs.tm_typed.Declarations.{no_locals}
+use Rattle.cell_layout.specs.tm_typed.Declarations.{local_rules, lone_tag, tag_rules, local_declared, local_form}
+use Rattle.cell_layout.specs.tm_typed.Declarations.{local_declaration}
+use Rattle.cell_layout.specs.tm_typed.WellTyped.{OnAnswer}
 use Rattle.typed_file_laws.specs.Tables.{IsType, AreLawfulTables}
 use Rattle.typed_file_laws.specs.Lawful.{object_type, context, IsBound, IsLawfulState}
-use Rattle.typing_laws.proofs.Steps.{then_on}
+use Rattle.typed_file_laws.proofs.low.typing_laws.Steps.{then_on}
 use Rattle.typed_file_laws.proofs.RuleSteps.{on_row, on_row_unless, some_any, answer_weaker}
 use Rattle.typed_file_laws.proofs.TableGrowth.{TablesGrow, grow_none, entry_stays, cells_stay}
 use Rattle.typed_file_laws.proofs.TableStructures.{structure_at, struct_tag_follows}

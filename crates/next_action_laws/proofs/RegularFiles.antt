@@ -9,65 +9,74 @@ use Rattle.std.proofs.lemmas.Option.{none-some, same_Some, slice_get-get_or}
 use Rattle.std.proofs.lemmas.List.{length-append, append-nil, take_at, get_or_past}
 use Rattle.std.proofs.lemmas.List.Elements.{All-weaker, All-nil, All-head, All-tail, All-push, All-append, All-set}
 use Rattle.std.proofs.lemmas.List.Elements.{All-get_or, All-drop, All-map}
-use Rattle.tm_terms.specs.declared.places.Place.{Place}
-use Rattle.tm_terms.specs.declared.tokens.Name.{Name}
-use Rattle.tm_terms.specs.declared.refusals.Kind.TheVariants as Kinds
-use Rattle.tm_terms.specs.declared.refusals.Refusal.{Refusal}
-use Rattle.tm_terms.specs.ExprTrees.{Tree}
-use Rattle.tm_trees.specs.DeclarationTrees.{declared_name}
-use Rattle.tm_trees.specs.FileTrees.{ParameterTree, a_named_parameter, an_unnamed_parameter, ParametersTree}
-use Rattle.tm_trees.specs.FileTrees.{only_void, some_parameters}
-use Rattle.tm_trees.specs.FileTrees.{PartTrees, FunctionTree, ItemTree, a_declaration, a_function, an_empty_item}
-use Rattle.tm_trees.specs.FileTrees.{a_mutex, a_task}
-use Rattle.tm_typed.specs.declared.types.CType.{CType}
-use Rattle.tm_typed.specs.declared.types.CType.TheVariants as Types
-use Rattle.tm_typed.specs.declared.types.TypeEntry.{TypeEntry}
-use Rattle.tm_typed.specs.declared.types.Scalar.{Scalar}
-use Rattle.tm_typed.specs.declared.types.Scalar.TheVariants as Scalars
-use Rattle.tm_typed.specs.declared.scopes.Binding.{Binding}
-use Rattle.tm_typed.specs.declared.scopes.Named.{Named}
-use Rattle.tm_typed.specs.declared.scopes.Named.TheVariants as Names
-use Rattle.tm_typed.specs.declared.scopes.ObjectNumber.{ObjectNumber}
-use Rattle.tm_typed.specs.declared.scopes.ObjectNumber.TheVariants as Objects
-use Rattle.tm_typed.specs.declared.specifiers.Said.{Said}
-use Rattle.tm_typed.specs.declared.specifiers.Shape.{Shape}
-use Rattle.tm_typed.specs.declared.files.LocalEntry.{LocalEntry}
-use Rattle.tm_typed.specs.declared.files.MutexEntry.{MutexEntry}
-use Rattle.tm_typed.specs.declared.files.StaticCell.{StaticCell}
-use Rattle.tm_typed.specs.declared.files.StaticValue.{StaticValue}
-use Rattle.tm_typed.specs.declared.files.StaticValue.TheVariants as Values
-use Rattle.tm_typed.specs.declared.uses.Use.{Use}
-use Rattle.tm_typed.specs.declared.uses.Used.{Used}
-use Rattle.tm_typed.specs.declared.uses.Used.TheVariants as Uses
-use Rattle.tm_typed.specs.Types.{void_number}
-use Rattle.tm_laid.specs.Layable.{tables_of}
-use Rattle.tm_typed.specs.Scopes.{cells_of, Scope, Function, entry, ctype_of, is_same_type, named_here}
-use Rattle.tm_typed.specs.Operands.{scalar_by, scalar_of}
-use Rattle.tm_typed.specs.Refusals.{then_with}
-use Rattle.tm_typed.specs.States.{State, Static, no_static, static, in_scope, with_name}
-use Rattle.tm_typed.specs.Evaluation.{measured, folded_value}
-use Rattle.tm_typed.specs.Specifiers.{base}
-use Rattle.tm_typed.specs.Declarators.{declared, declared_pointers}
-use Rattle.tm_typed.specs.Structures.{declared_place, is_declared_here, specified}
-use Rattle.tm_typed.specs.Declarations.{linked, file_declaration}
-use Rattle.tm_typed.specs.StatementRules.{in_body}
-use Rattle.tm_typed.specs.StatementTyping.{enter, parts_in}
-use Rattle.tm_typed.specs.TypedTrees.{OperandTree}
-use Rattle.tm_typed.specs.Functions.{is_by_value, is_of_void, parameter_rules, no_name, first_place, parameter_in}
-use Rattle.tm_typed.specs.Functions.{listed_parameters, parameters_in, left_names, to_file, names_here, body_begins}
-use Rattle.tm_typed.specs.Functions.{types_of}
-use Rattle.tm_typed.specs.Functions.{are_same_types, Head, no_function, function, with_function, number_of, agrees}
-use Rattle.tm_typed.specs.Functions.{disagrees, clashes_with, function_rules, TypedBodyTree, FoundBody, body_in}
-use Rattle.tm_typed.specs.Files.{TypedFunctionTree, FileState, first_file_state, no_typed_function, typed_function}
-use Rattle.tm_typed.specs.Files.{declared_function, defined_function, head_of, with_body, with_state, function_in}
-use Rattle.tm_typed.specs.Files.{priority_of, task_scope, with_task, named_task_in, task_in, mutex_in, item_in}
-use Rattle.tm_typed.specs.Files.{items_in, TypedFileTree, file_of, is_undefined, undefined_use, Closes, Ends}
-use Rattle.tm_typed.specs.WellTyped.{OnAnswer, Context}
+use Rattle.cell_layout.specs.tm_terms.declared.places.Place.{Place}
+use Rattle.cell_layout.specs.tm_terms.declared.tokens.Name.{Name}
+use Rattle.cell_layout.specs.tm_terms.declared.refusals.Kind.TheVariants as Kinds
+use Rattle.cell_layout.specs.tm_terms.declared.refusals.Refusal.{Refusal}
+use Rattle.cell_layout.specs.tm_terms.ExprTrees.{Tree}
+use Rattle.cell_layout.specs.tm_trees.DeclarationTrees.{declared_name}
+use Rattle.cell_layout.specs.tm_trees.FileTrees.{ParameterTree, a_named_parameter, an_unnamed_parameter, ParametersTree}
+use Rattle.cell_layout.specs.tm_trees.FileTrees.{only_void, some_parameters}
+use Rattle.cell_layout.specs.tm_trees.FileTrees.{PartTrees, FunctionTree, ItemTree, a_declaration, a_function}
+use Rattle.cell_layout.specs.tm_trees.FileTrees.{an_empty_item}
+use Rattle.cell_layout.specs.tm_trees.FileTrees.{a_mutex, a_task}
+use Rattle.cell_layout.specs.tm_typed.declared.types.CType.{CType}
+use Rattle.cell_layout.specs.tm_typed.declared.types.CType.TheVariants as Types
+use Rattle.cell_layout.specs.tm_typed.declared.types.TypeEntry.{TypeEntry}
+use Rattle.cell_layout.specs.tm_typed.declared.types.Scalar.{Scalar}
+use Rattle.cell_layout.specs.tm_typed.declared.types.Scalar.TheVariants as Scalars
+use Rattle.cell_layout.specs.tm_typed.declared.scopes.Binding.{Binding}
+use Rattle.cell_layout.specs.tm_typed.declared.scopes.Named.{Named}
+use Rattle.cell_layout.specs.tm_typed.declared.scopes.Named.TheVariants as Names
+use Rattle.cell_layout.specs.tm_typed.declared.scopes.ObjectNumber.{ObjectNumber}
+use Rattle.cell_layout.specs.tm_typed.declared.scopes.ObjectNumber.TheVariants as Objects
+use Rattle.cell_layout.specs.tm_typed.declared.specifiers.Said.{Said}
+use Rattle.cell_layout.specs.tm_typed.declared.specifiers.Shape.{Shape}
+use Rattle.cell_layout.specs.tm_typed.declared.files.LocalEntry.{LocalEntry}
+use Rattle.cell_layout.specs.tm_typed.declared.files.MutexEntry.{MutexEntry}
+use Rattle.cell_layout.specs.tm_typed.declared.files.StaticCell.{StaticCell}
+use Rattle.cell_layout.specs.tm_typed.declared.files.StaticValue.{StaticValue}
+use Rattle.cell_layout.specs.tm_typed.declared.files.StaticValue.TheVariants as Values
+use Rattle.cell_layout.specs.tm_typed.declared.uses.Use.{Use}
+use Rattle.cell_layout.specs.tm_typed.declared.uses.Used.{Used}
+use Rattle.cell_layout.specs.tm_typed.declared.uses.Used.TheVariants as Uses
+use Rattle.cell_layout.specs.tm_typed.Types.{void_number}
+use Rattle.cell_layout.specs.tm_laid.Layable.{tables_of}
+use Rattle.cell_layout.specs.tm_typed.Scopes.{cells_of, Scope, Function, entry, ctype_of, is_same_type, named_here}
+use Rattle.cell_layout.specs.tm_typed.Operands.{scalar_by, scalar_of}
+use Rattle.cell_layout.specs.tm_typed.Refusals.{then_with}
+use Rattle.cell_layout.specs.tm_typed.States.{State, Static, no_static, static, in_scope, with_name}
+use Rattle.cell_layout.specs.tm_typed.Evaluation.{measured, folded_value}
+use Rattle.cell_layout.specs.tm_typed.Specifiers.{base}
+use Rattle.cell_layout.specs.tm_typed.Declarators.{declared, declared_pointers}
+use Rattle.cell_layout.specs.tm_typed.Structures.{declared_place, is_declared_here, specified}
+use Rattle.cell_layout.specs.tm_typed.Declarations.{linked, file_declaration}
+use Rattle.cell_layout.specs.tm_typed.StatementRules.{in_body}
+use Rattle.cell_layout.specs.tm_typed.StatementTyping.{enter, parts_in}
+use Rattle.cell_layout.specs.tm_typed.TypedTrees.{OperandTree}
+use Rattle.cell_layout.specs.tm_typed.Functions.{is_by_value, is_of_void, parameter_rules, no_name, first_place}
+use Rattle.cell_layout.specs.tm_typed.Functions.{parameter_in}
+use Rattle.cell_layout.specs.tm_typed.Functions.{listed_parameters, parameters_in, left_names, to_file, names_here}
+use Rattle.cell_layout.specs.tm_typed.Functions.{body_begins}
+use Rattle.cell_layout.specs.tm_typed.Functions.{types_of}
+use Rattle.cell_layout.specs.tm_typed.Functions.{are_same_types, Head, no_function, function, with_function, number_of}
+use Rattle.cell_layout.specs.tm_typed.Functions.{agrees}
+use Rattle.cell_layout.specs.tm_typed.Functions.{disagrees, clashes_with, function_rules, TypedBodyTree, FoundBody}
+use Rattle.cell_layout.specs.tm_typed.Functions.{body_in}
+use Rattle.cell_layout.specs.tm_typed.Files.{TypedFunctionTree, FileState, first_file_state, no_typed_function}
+use Rattle.cell_layout.specs.tm_typed.Files.{typed_function}
+use Rattle.cell_layout.specs.tm_typed.Files.{declared_function, defined_function, head_of, with_body, with_state}
+use Rattle.cell_layout.specs.tm_typed.Files.{function_in}
+use Rattle.cell_layout.specs.tm_typed.Files.{priority_of, task_scope, with_task, named_task_in, task_in, mutex_in}
+use Rattle.cell_layout.specs.tm_typed.Files.{item_in}
+use Rattle.cell_layout.specs.tm_typed.Files.{items_in, TypedFileTree, file_of, is_undefined, undefined_use, Closes}
+use Rattle.cell_layout.specs.tm_typed.Files.{Ends}
+use Rattle.cell_layout.specs.tm_typed.WellTyped.{OnAnswer, Context}
 use Rattle.typed_file_laws.specs.Tables.{IsType, form, AreLawfulTables}
 use Rattle.typed_file_laws.specs.Lawful.{object_type, context, IsBound, IsFunction, IsLawfulState}
 use Rattle.typed_file_laws.specs.LawfulFiles.{type_of_function, body_context, IsLawfulFile}
 use Rattle.typed_file_laws.specs.TypedBodies.{file_context}
-use Rattle.typing_laws.proofs.Steps.{then_on, from_answer}
+use Rattle.typed_file_laws.proofs.low.typing_laws.Steps.{then_on, from_answer}
 use Rattle.typed_file_laws.proofs.RuleSteps.{on_row, OnSome, on_row_unless, some_any, answer_weaker}
 use Rattle.typed_file_laws.proofs.TableGrowth.{TablesGrow, type_stays, entry_stays}
 use Rattle.typed_file_laws.proofs.TableRows.{row_at}

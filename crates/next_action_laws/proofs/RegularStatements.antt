@@ -4,41 +4,53 @@ use Rattle.std.specs.Prelude.{ℤ, Result, Ok}
 use Rattle.std.proofs.lemmas.Bool.{not-false}
 use Rattle.std.proofs.lemmas.List.{append-nil}
 use Rattle.std.proofs.lemmas.List.Elements.{All-weaker}
-use Rattle.tm_cint.specs.declared.int_types.IntType.{IntType}
-use Rattle.tm_cint.specs.IntTypes.{IsIn}
-use Rattle.tm_cint.specs.Conversions.{converted_value}
-use Rattle.tm_terms.specs.declared.places.Place.{Place}
-use Rattle.tm_terms.specs.declared.refusals.Kind.TheVariants as Kinds
-use Rattle.tm_terms.specs.declared.refusals.Refusal.{Refusal}
-use Rattle.tm_terms.specs.ExprTrees.{Tree, place_of}
-use Rattle.tm_trees.specs.FileTrees.{ForFirstTree, by_expression, by_declaration, StatementTree, a_block, a_value}
-use Rattle.tm_trees.specs.FileTrees.{an_if, an_if_else, a_while, a_do, a_for, a_switch, a_break, a_continue, a_return}
-use Rattle.tm_trees.specs.FileTrees.{a_lock, an_unlock, a_yield, PartTree, a_local, a_step, PartTrees, no_parts}
-use Rattle.tm_trees.specs.FileTrees.{and_part, CaseTree, a_case, a_default, a_case_step, CaseTrees, no_cases, and_case}
-use Rattle.tm_typed.specs.declared.scopes.ObjectNumber.TheVariants as Objects
-use Rattle.tm_typed.specs.Scopes.{named}
-use Rattle.tm_typed.specs.TypedTrees.{RvalueTree, Rated}
-use Rattle.tm_typed.specs.Operands.{valued, given, is_structure}
-use Rattle.tm_typed.specs.Refusals.{then_with, row}
-use Rattle.tm_typed.specs.States.{State}
-use Rattle.tm_typed.specs.Evaluation.{folded_value}
-use Rattle.tm_typed.specs.Declarations.{Locals, local_declaration}
-use Rattle.tm_typed.specs.TypedStatements.{LocalInitialiserTree, LocalTree, TypedTree, evaluates, declares, runs_block}
-use Rattle.tm_typed.specs.TypedStatements.{branches, branches_else, loops_while, loops_do, loops_for, selects, breaks}
-use Rattle.tm_typed.specs.TypedStatements.{continues, returns, locks, unlocks, yields, TypedTrees, no_statements}
-use Rattle.tm_typed.specs.TypedStatements.{and_statement, TypedCase, a_label, a_default_label, a_labelled_step}
-use Rattle.tm_typed.specs.TypedStatements.{TypedCases, no_typed_cases, and_typed_case}
-use Rattle.tm_typed.specs.StatementRules.{Around, looping, switching, condition_rules, Selector, selector_rules, Labels}
-use Rattle.tm_typed.specs.StatementRules.{no_labels, with_label, is_labelled, label_rules, default_rules, return_rules}
-use Rattle.tm_typed.specs.StatementRules.{return_value_rules, mutex_rules}
-use Rattle.tm_typed.specs.StatementTyping.{value_in, condition_in, optional_value_in, optional_condition_in, return_in}
-use Rattle.tm_typed.specs.StatementTyping.{selector_in, label_in, first_in, enter, leave, statement_in, part_in}
-use Rattle.tm_typed.specs.StatementTyping.{parts_in, case_in, cases_in}
-use Rattle.tm_typed.specs.WellTyped.{OnAnswer, Context}
+use Rattle.cell_layout.specs.tm_cint.declared.int_types.IntType.{IntType}
+use Rattle.cell_layout.specs.tm_cint.IntTypes.{IsIn}
+use Rattle.cell_layout.specs.tm_cint.Conversions.{converted_value}
+use Rattle.cell_layout.specs.tm_terms.declared.places.Place.{Place}
+use Rattle.cell_layout.specs.tm_terms.declared.refusals.Kind.TheVariants as Kinds
+use Rattle.cell_layout.specs.tm_terms.declared.refusals.Refusal.{Refusal}
+use Rattle.cell_layout.specs.tm_terms.ExprTrees.{Tree, place_of}
+use Rattle.cell_layout.specs.tm_trees.FileTrees.{ForFirstTree, by_expression, by_declaration, StatementTree, a_block}
+use Rattle.cell_layout.specs.tm_trees.FileTrees.{a_value}
+use Rattle.cell_layout.specs.tm_trees.FileTrees.{an_if, an_if_else, a_while, a_do, a_for, a_switch, a_break, a_continue}
+use Rattle.cell_layout.specs.tm_trees.FileTrees.{a_return}
+use Rattle.cell_layout.specs.tm_trees.FileTrees.{a_lock, an_unlock, a_yield, PartTree, a_local, a_step, PartTrees}
+use Rattle.cell_layout.specs.tm_trees.FileTrees.{no_parts}
+use Rattle.cell_layout.specs.tm_trees.FileTrees.{and_part, CaseTree, a_case, a_default, a_case_step, CaseTrees}
+use Rattle.cell_layout.specs.tm_trees.FileTrees.{no_cases, and_case}
+use Rattle.cell_layout.specs.tm_typed.declared.scopes.ObjectNumber.TheVariants as Objects
+use Rattle.cell_layout.specs.tm_typed.Scopes.{named}
+use Rattle.cell_layout.specs.tm_typed.TypedTrees.{RvalueTree, Rated}
+use Rattle.cell_layout.specs.tm_typed.Operands.{valued, given, is_structure}
+use Rattle.cell_layout.specs.tm_typed.Refusals.{then_with, row}
+use Rattle.cell_layout.specs.tm_typed.States.{State}
+use Rattle.cell_layout.specs.tm_typed.Evaluation.{folded_value}
+use Rattle.cell_layout.specs.tm_typed.Declarations.{Locals, local_declaration}
+use Rattle.cell_layout.specs.tm_typed.TypedStatements.{LocalInitialiserTree, LocalTree, TypedTree, evaluates, declares}
+use Rattle.cell_layout.specs.tm_typed.TypedStatements.{runs_block}
+use Rattle.cell_layout.specs.tm_typed.TypedStatements.{branches, branches_else, loops_while, loops_do, loops_for}
+use Rattle.cell_layout.specs.tm_typed.TypedStatements.{selects, breaks}
+use Rattle.cell_layout.specs.tm_typed.TypedStatements.{continues, returns, locks, unlocks, yields, TypedTrees}
+use Rattle.cell_layout.specs.tm_typed.TypedStatements.{no_statements}
+use Rattle.cell_layout.specs.tm_typed.TypedStatements.{and_statement, TypedCase, a_label, a_default_label}
+use Rattle.cell_layout.specs.tm_typed.TypedStatements.{a_labelled_step}
+use Rattle.cell_layout.specs.tm_typed.TypedStatements.{TypedCases, no_typed_cases, and_typed_case}
+use Rattle.cell_layout.specs.tm_typed.StatementRules.{Around, looping, switching, condition_rules, Selector}
+use Rattle.cell_layout.specs.tm_typed.StatementRules.{selector_rules, Labels}
+use Rattle.cell_layout.specs.tm_typed.StatementRules.{no_labels, with_label, is_labelled, label_rules, default_rules}
+use Rattle.cell_layout.specs.tm_typed.StatementRules.{return_rules}
+use Rattle.cell_layout.specs.tm_typed.StatementRules.{return_value_rules, mutex_rules}
+use Rattle.cell_layout.specs.tm_typed.StatementTyping.{value_in, condition_in, optional_value_in, optional_condition_in}
+use Rattle.cell_layout.specs.tm_typed.StatementTyping.{return_in}
+use Rattle.cell_layout.specs.tm_typed.StatementTyping.{selector_in, label_in, first_in, enter, leave, statement_in}
+use Rattle.cell_layout.specs.tm_typed.StatementTyping.{part_in}
+use Rattle.cell_layout.specs.tm_typed.StatementTyping.{parts_in, case_in, cases_in}
+use Rattle.cell_layout.specs.tm_typed.WellTyped.{OnAnswer, Context}
 use Rattle.typed_file_laws.specs.Tables.{AreLawfulTables}
 use Rattle.typed_file_laws.specs.Lawful.{context, IsLawfulState}
-use Rattle.c_folds.proofs.ConvertedValues.{converted_is_in}
-use Rattle.typing_laws.proofs.Steps.{then_on, then_any}
+use Rattle.typed_file_laws.proofs.low.c_folds.ConvertedValues.{converted_is_in}
+use Rattle.typed_file_laws.proofs.low.typing_laws.Steps.{then_on, then_any}
 use Rattle.typed_file_laws.proofs.RuleSteps.{on_row, on_row_unless, some_any}
 use Rattle.typed_file_laws.proofs.TableGrowth.{TablesGrow}
 use Rattle.typed_file_laws.proofs.StateSteps.{label_noted}

@@ -2,40 +2,49 @@
 use Rattle.std.proofs.Common.{◌≡◌, ℕ, List, [], ◌∷◌, refl, ◌∙◌}
 use Rattle.std.specs.Prelude.{ℤ, pos, ◌+ℤ◌, Bool, true, false, cond, not, ◌||◌, is_some, Option, Some, None, Result, Ok}
 use Rattle.std.specs.Prelude.{Err}
-use Rattle.tm_cint.specs.declared.int_types.IntType.TheVariants as Ints
-use Rattle.tm_cint.specs.IntTypes.{is_in}
-use Rattle.tm_terms.specs.declared.refusals.Kind.TheVariants as Kinds
-use Rattle.tm_terms.specs.declared.refusals.Refusal.{Refusal}
-use Rattle.tm_terms.specs.ExprTrees.{Tree, place_of}
-use Rattle.tm_trees.specs.declared.declarations.Tag.{Tag}
-use Rattle.tm_trees.specs.DeclarationTrees.{LengthTree, DeclaratorTree, a_declared_name, a_nested, declared_name}
-use Rattle.tm_trees.specs.DeclarationTrees.{EnumeratorTree, SpecifierTree, a_plain, a_struct, an_enum, SpecifierTrees}
-use Rattle.tm_trees.specs.DeclarationTrees.{no_specifiers, and_specifier, MemberTrees, no_members, and_members}
-use Rattle.tm_trees.specs.DeclarationTrees.{ValueTree, an_expression, a_list, InitialiserTree, InitDeclaratorTree}
-use Rattle.tm_typed.specs.declared.types.Qualified.{Qualified}
-use Rattle.tm_typed.specs.declared.scopes.Tagged.{Tagged}
-use Rattle.tm_typed.specs.declared.scopes.Tagged.TheVariants as Tagging
-use Rattle.tm_typed.specs.declared.specifiers.Said.{Said}
-use Rattle.tm_typed.specs.declared.specifiers.Shape.{Shape}
-use Rattle.tm_typed.specs.declared.uses.Use.{Use}
-use Rattle.tm_typed.specs.Scopes.{structure, tagged_here}
-use Rattle.tm_typed.specs.TypedTrees.{OperandTree}
-use Rattle.tm_typed.specs.Refusals.{then_with}
-use Rattle.tm_typed.specs.States.{State, Static}
-use Rattle.tm_typed.specs.Typing.{typing}
-use Rattle.tm_typed.specs.TypeNames.{type_of_name, prepared}
-use Rattle.tm_typed.specs.Evaluation.{measured, folded_value}
-use Rattle.tm_typed.specs.Specifiers.{nothing_said, base, word_rules, mentioned}
-use Rattle.tm_typed.specs.Declarators.{length_named, length_rules, lengths_behind, lengths_of, declared}
-use Rattle.tm_typed.specs.Structures.{declared_place, is_no_object, Layout, no_layout, has_member, member_rules}
-use Rattle.tm_typed.specs.Structures.{members_declared, with_structure, opened, completed_structure, completed}
-use Rattle.tm_typed.specs.Structures.{opened_tag, opened_by, value_named, is_declared_here, enumerator_rules}
-use Rattle.tm_typed.specs.Structures.{enumerators, enumeration_tag, enumeration, structure_said, specifier, specifiers}
-use Rattle.tm_typed.specs.Structures.{laid_out, specified}
-use Rattle.tm_typed.specs.Declarations.{Declared, count_values, with_count, counted_by, counted, declared_by}
-use Rattle.tm_typed.specs.Declarations.{typedef_rules, tag_rules}
-use Rattle.tm_typed.specs.WellTyped.{OnAnswer}
-use Rattle.typing_laws.proofs.Steps.{then_on, then_any}
+use Rattle.cell_layout.specs.tm_cint.declared.int_types.IntType.TheVariants as Ints
+use Rattle.cell_layout.specs.tm_cint.IntTypes.{is_in}
+use Rattle.cell_layout.specs.tm_terms.declared.refusals.Kind.TheVariants as Kinds
+use Rattle.cell_layout.specs.tm_terms.declared.refusals.Refusal.{Refusal}
+use Rattle.cell_layout.specs.tm_terms.ExprTrees.{Tree, place_of}
+use Rattle.cell_layout.specs.tm_trees.declared.declarations.Tag.{Tag}
+use Rattle.cell_layout.specs.tm_trees.DeclarationTrees.{LengthTree, DeclaratorTree, a_declared_name, a_nested}
+use Rattle.cell_layout.specs.tm_trees.DeclarationTrees.{declared_name}
+use Rattle.cell_layout.specs.tm_trees.DeclarationTrees.{EnumeratorTree, SpecifierTree, a_plain, a_struct, an_enum}
+use Rattle.cell_layout.specs.tm_trees.DeclarationTrees.{SpecifierTrees}
+use Rattle.cell_layout.specs.tm_trees.DeclarationTrees.{no_specifiers, and_specifier, MemberTrees, no_members}
+use Rattle.cell_layout.specs.tm_trees.DeclarationTrees.{and_members}
+use Rattle.cell_layout.specs.tm_trees.DeclarationTrees.{ValueTree, an_expression, a_list, InitialiserTree}
+use Rattle.cell_layout.specs.tm_trees.DeclarationTrees.{InitDeclaratorTree}
+use Rattle.cell_layout.specs.tm_typed.declared.types.Qualified.{Qualified}
+use Rattle.cell_layout.specs.tm_typed.declared.scopes.Tagged.{Tagged}
+use Rattle.cell_layout.specs.tm_typed.declared.scopes.Tagged.TheVariants as Tagging
+use Rattle.cell_layout.specs.tm_typed.declared.specifiers.Said.{Said}
+use Rattle.cell_layout.specs.tm_typed.declared.specifiers.Shape.{Shape}
+use Rattle.cell_layout.specs.tm_typed.declared.uses.Use.{Use}
+use Rattle.cell_layout.specs.tm_typed.Scopes.{structure, tagged_here}
+use Rattle.cell_layout.specs.tm_typed.TypedTrees.{OperandTree}
+use Rattle.cell_layout.specs.tm_typed.Refusals.{then_with}
+use Rattle.cell_layout.specs.tm_typed.States.{State, Static}
+use Rattle.cell_layout.specs.tm_typed.Typing.{typing}
+use Rattle.cell_layout.specs.tm_typed.TypeNames.{type_of_name, prepared}
+use Rattle.cell_layout.specs.tm_typed.Evaluation.{measured, folded_value}
+use Rattle.cell_layout.specs.tm_typed.Specifiers.{nothing_said, base, word_rules, mentioned}
+use Rattle.cell_layout.specs.tm_typed.Declarators.{length_named, length_rules, lengths_behind, lengths_of, declared}
+use Rattle.cell_layout.specs.tm_typed.Structures.{declared_place, is_no_object, Layout, no_layout, has_member}
+use Rattle.cell_layout.specs.tm_typed.Structures.{member_rules}
+use Rattle.cell_layout.specs.tm_typed.Structures.{members_declared, with_structure, opened, completed_structure}
+use Rattle.cell_layout.specs.tm_typed.Structures.{completed}
+use Rattle.cell_layout.specs.tm_typed.Structures.{opened_tag, opened_by, value_named, is_declared_here}
+use Rattle.cell_layout.specs.tm_typed.Structures.{enumerator_rules}
+use Rattle.cell_layout.specs.tm_typed.Structures.{enumerators, enumeration_tag, enumeration, structure_said, specifier}
+use Rattle.cell_layout.specs.tm_typed.Structures.{specifiers}
+use Rattle.cell_layout.specs.tm_typed.Structures.{laid_out, specified}
+use Rattle.cell_layout.specs.tm_typed.Declarations.{Declared, count_values, with_count, counted_by, counted}
+use Rattle.cell_layout.specs.tm_typed.Declarations.{declared_by}
+use Rattle.cell_layout.specs.tm_typed.Declarations.{typedef_rules, tag_rules}
+use Rattle.cell_layout.specs.tm_typed.WellTyped.{OnAnswer}
+use Rattle.typed_file_laws.proofs.low.typing_laws.Steps.{then_on, then_any}
 use Rattle.typed_file_laws.proofs.RuleSteps.{on_row, on_row_unless, some_any}
 
 -- the objects of static storage, and what is used so far

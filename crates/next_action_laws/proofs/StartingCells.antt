@@ -8,45 +8,47 @@ use Rattle.std.proofs.lemmas.Option.{none-some, same_Some, slice_get-get_or}
 use Rattle.std.proofs.lemmas.List.{drop-drop, drop_at, length-map, length-append, length-set, map-append, append_assoc}
 use Rattle.std.proofs.lemmas.List.{get_or_past}
 use Rattle.std.proofs.lemmas.List.Elements.{All-head, All-tail, All-weaker}
-use Rattle.tm_terms.specs.declared.refusals.Limit.TheVariants as Limits
-use Rattle.tm_typed.specs.declared.types.CType.{CType}
-use Rattle.tm_typed.specs.declared.types.CType.TheVariants as Types
-use Rattle.tm_typed.specs.declared.types.Scalar.{Scalar}
-use Rattle.tm_typed.specs.declared.types.Scalar.TheVariants as Scalars
-use Rattle.tm_typed.specs.declared.scopes.Member.{Member}
-use Rattle.tm_typed.specs.declared.scopes.Part.{Part}
-use Rattle.tm_typed.specs.declared.files.StaticCell.{StaticCell}
-use Rattle.tm_typed.specs.declared.files.StaticValue.{StaticValue}
-use Rattle.tm_typed.specs.declared.files.StaticValue.TheVariants as Values
-use Rattle.tm_typed.specs.Scopes.{cells_of}
-use Rattle.tm_typed.specs.Types.{int_index}
-use Rattle.tm_typed.specs.TypeRows.{clipped}
-use Rattle.tm_typed.specs.Initialisers.{part_number, part_of, part_in}
-use Rattle.tm_typed.specs.States.{Static, no_static}
-use Rattle.tm_typed.specs.Files.{TypedFileTree}
-use Rattle.tm_laid.specs.declared.objects.DeclaredObject.{DeclaredObject}
-use Rattle.tm_laid.specs.declared.objects.Initial.{Initial}
-use Rattle.tm_laid.specs.declared.cells.LaidCell.{LaidCell}
-use Rattle.tm_laid.specs.TypeCells.{TypeCell, entry_of, structure_in, type_cells, type_depth, cells_of_type}
-use Rattle.tm_laid.specs.TypeCells.{abstract_cells_of_type}
-use Rattle.tm_laid.specs.Objects.{static_objects, path_objects, static_numbers, objects_from, laid_cell, cells_from}
-use Rattle.tm_laid.specs.Objects.{nothing_given, value_given, with_given, initial_values}
-use Rattle.tm_laid.specs.Paths.{paths_of}
-use Rattle.tm_laid.specs.Layable.{tables_of, IsLayable}
-use Rattle.tm_laid.specs.Layouts.{LaidTree, no_cell, begins_with, scalars_of_type, summed_types}
-use Rattle.tm_laid.specs.Layouts.{is_same_scalar}
-use Rattle.tm_laid.specs.Layouts.{declared_objects, layout_along, layout_of, is_exceeded, laid_count, over_objects}
+use Rattle.cell_layout.specs.tm_terms.declared.refusals.Limit.TheVariants as Limits
+use Rattle.cell_layout.specs.tm_typed.declared.types.CType.{CType}
+use Rattle.cell_layout.specs.tm_typed.declared.types.CType.TheVariants as Types
+use Rattle.cell_layout.specs.tm_typed.declared.types.Scalar.{Scalar}
+use Rattle.cell_layout.specs.tm_typed.declared.types.Scalar.TheVariants as Scalars
+use Rattle.cell_layout.specs.tm_typed.declared.scopes.Member.{Member}
+use Rattle.cell_layout.specs.tm_typed.declared.scopes.Part.{Part}
+use Rattle.cell_layout.specs.tm_typed.declared.files.StaticCell.{StaticCell}
+use Rattle.cell_layout.specs.tm_typed.declared.files.StaticValue.{StaticValue}
+use Rattle.cell_layout.specs.tm_typed.declared.files.StaticValue.TheVariants as Values
+use Rattle.cell_layout.specs.tm_typed.Scopes.{cells_of}
+use Rattle.cell_layout.specs.tm_typed.Types.{int_index}
+use Rattle.cell_layout.specs.tm_typed.TypeRows.{clipped}
+use Rattle.cell_layout.specs.tm_typed.Initialisers.{part_number, part_of, part_in}
+use Rattle.cell_layout.specs.tm_typed.States.{Static, no_static}
+use Rattle.cell_layout.specs.tm_typed.Files.{TypedFileTree}
+use Rattle.cell_layout.specs.tm_laid.declared.objects.DeclaredObject.{DeclaredObject}
+use Rattle.cell_layout.specs.tm_laid.declared.objects.Initial.{Initial}
+use Rattle.cell_layout.specs.tm_laid.declared.cells.LaidCell.{LaidCell}
+use Rattle.cell_layout.specs.tm_laid.TypeCells.{TypeCell, entry_of, structure_in, type_cells, type_depth, cells_of_type}
+use Rattle.cell_layout.specs.tm_laid.TypeCells.{abstract_cells_of_type}
+use Rattle.cell_layout.specs.tm_laid.Objects.{static_objects, path_objects, static_numbers, objects_from, laid_cell}
+use Rattle.cell_layout.specs.tm_laid.Objects.{cells_from}
+use Rattle.cell_layout.specs.tm_laid.Objects.{nothing_given, value_given, with_given, initial_values}
+use Rattle.cell_layout.specs.tm_laid.Paths.{paths_of}
+use Rattle.cell_layout.specs.tm_laid.Layable.{tables_of, IsLayable}
+use Rattle.cell_layout.specs.tm_laid.Layouts.{LaidTree, no_cell, begins_with, scalars_of_type, summed_types}
+use Rattle.cell_layout.specs.tm_laid.Layouts.{is_same_scalar}
+use Rattle.cell_layout.specs.tm_laid.Layouts.{declared_objects, layout_along, layout_of, is_exceeded, laid_count}
+use Rattle.cell_layout.specs.tm_laid.Layouts.{over_objects}
 use Rattle.cell_types.proofs.Types.{length_of, column}
-use Rattle.concrete_values.specs.declared.values.Pointer.TheVariants as Pointers
-use Rattle.concrete_values.specs.declared.values.Value.{Value}
-use Rattle.concrete_values.specs.declared.values.Value.TheVariants.{Number, Pointer as APointer}
-use Rattle.concrete_values.specs.Actions.{is_of}
+use Rattle.cell_types.specs.concrete_values.declared.values.Pointer.TheVariants as Pointers
+use Rattle.cell_types.specs.concrete_values.declared.values.Value.{Value}
+use Rattle.cell_types.specs.concrete_values.declared.values.Value.TheVariants.{Number, Pointer as APointer}
+use Rattle.cell_types.specs.concrete_values.Actions.{is_of}
 use Rattle.concrete_steps.specs.declared.worlds.Content.{Content}
 use Rattle.concrete_steps.specs.declared.worlds.Content.TheVariants.{Open, Is}
 use Rattle.concrete_steps.specs.Worlds.{start, start_contents, initial_content, cleared_content}
 use Rattle.typed_file_laws.specs.Sites.{is_defined_object}
-use Rattle.tm_cint.proofs.Values.{zero_in}
-use Rattle.tm_cint.proofs.Ranges.{is_in-true}
+use Rattle.cell_layout.proofs.low.tm_cint.Values.{zero_in}
+use Rattle.cell_layout.proofs.low.tm_cint.Ranges.{is_in-true}
 use Rattle.next_action_laws.specs.Regular.{PartBegins, whole, inner, HasScalar}
 use Rattle.next_action_laws.specs.Worlds.{HoldsTypes, StartsHold}
 use Rattle.next_action_laws.specs.InitialValues.{IsValueFor, IsFilled, AreFilled}

@@ -4,30 +4,35 @@ use Rattle.std.proofs.Common.{◌∷◌, Option, Some, None, arith}
 use Rattle.std.specs.Prelude.{◌||◌, All}
 use Rattle.std.proofs.lemmas.Bool.{eqb-true}
 use Rattle.std.proofs.lemmas.List.Elements.{All-head, All-tail}
-use Rattle.tm_terms.specs.declared.places.Place.{Place}
-use Rattle.tm_typed.specs.declared.types.CType.{CType}
-use Rattle.tm_typed.specs.declared.types.CType.TheVariants as Types
-use Rattle.tm_typed.specs.declared.types.TypeEntry.{TypeEntry}
-use Rattle.tm_typed.specs.declared.types.Scalar.{Scalar}
-use Rattle.tm_typed.specs.declared.scopes.ObjectNumber.TheVariants as Objects
-use Rattle.tm_typed.specs.declared.files.LocalEntry.{LocalEntry}
-use Rattle.tm_typed.specs.Scopes.{ctype_of, entry}
-use Rattle.tm_typed.specs.Operands.{scalar_by, kept_sort}
-use Rattle.tm_typed.specs.TypedTrees.{RvalueTree}
-use Rattle.tm_typed.specs.WellTyped.{ValueKind, a_number, a_pointer, kind_of_scalar, kind_of, Context, IsRvalue}
-use Rattle.tm_typed.specs.TypedStatements.{GivenTree, LocalInitialiserTree, LocalTree, TypedTree, evaluates, declares}
-use Rattle.tm_typed.specs.TypedStatements.{runs_block, branches, branches_else, loops_while, loops_do, loops_for}
-use Rattle.tm_typed.specs.TypedStatements.{selects, breaks, continues, returns, locks, unlocks, yields, TypedTrees}
-use Rattle.tm_typed.specs.TypedStatements.{no_statements, and_statement, a_label, a_default_label, a_labelled_step}
-use Rattle.tm_typed.specs.TypedStatements.{TypedCases, no_typed_cases, and_typed_case}
-use Rattle.tm_laid.specs.Layouts.{LaidTree, object_at, object_of}
-use Rattle.concrete_values.specs.declared.values.Value.{Value}
-use Rattle.concrete_values.specs.declared.values.Answer.{Answer}
-use Rattle.concrete_values.specs.declared.actions.Next.TheVariants as Acts
-use Rattle.concrete_values.specs.Values.{nothing}
-use Rattle.concrete_values.specs.Operators.{is_case}
-use Rattle.concrete_values.specs.Pointers.{base, part}
-use Rattle.concrete_values.specs.Actions.{store_at}
+use Rattle.cell_layout.specs.tm_terms.declared.places.Place.{Place}
+use Rattle.cell_layout.specs.tm_typed.declared.types.CType.{CType}
+use Rattle.cell_layout.specs.tm_typed.declared.types.CType.TheVariants as Types
+use Rattle.cell_layout.specs.tm_typed.declared.types.TypeEntry.{TypeEntry}
+use Rattle.cell_layout.specs.tm_typed.declared.types.Scalar.{Scalar}
+use Rattle.cell_layout.specs.tm_typed.declared.scopes.ObjectNumber.TheVariants as Objects
+use Rattle.cell_layout.specs.tm_typed.declared.files.LocalEntry.{LocalEntry}
+use Rattle.cell_layout.specs.tm_typed.Scopes.{ctype_of, entry}
+use Rattle.cell_layout.specs.tm_typed.Operands.{scalar_by, kept_sort}
+use Rattle.cell_layout.specs.tm_typed.TypedTrees.{RvalueTree}
+use Rattle.cell_layout.specs.tm_typed.WellTyped.{ValueKind, a_number, a_pointer, kind_of_scalar, kind_of, Context}
+use Rattle.cell_layout.specs.tm_typed.WellTyped.{IsRvalue}
+use Rattle.cell_layout.specs.tm_typed.TypedStatements.{GivenTree, LocalInitialiserTree, LocalTree, TypedTree, evaluates}
+use Rattle.cell_layout.specs.tm_typed.TypedStatements.{declares}
+use Rattle.cell_layout.specs.tm_typed.TypedStatements.{runs_block, branches, branches_else, loops_while, loops_do}
+use Rattle.cell_layout.specs.tm_typed.TypedStatements.{loops_for}
+use Rattle.cell_layout.specs.tm_typed.TypedStatements.{selects, breaks, continues, returns, locks, unlocks, yields}
+use Rattle.cell_layout.specs.tm_typed.TypedStatements.{TypedTrees}
+use Rattle.cell_layout.specs.tm_typed.TypedStatements.{no_statements, and_statement, a_label, a_default_label}
+use Rattle.cell_layout.specs.tm_typed.TypedStatements.{a_labelled_step}
+use Rattle.cell_layout.specs.tm_typed.TypedStatements.{TypedCases, no_typed_cases, and_typed_case}
+use Rattle.cell_layout.specs.tm_laid.Layouts.{LaidTree, object_at, object_of}
+use Rattle.cell_types.specs.concrete_values.declared.values.Value.{Value}
+use Rattle.cell_types.specs.concrete_values.declared.values.Answer.{Answer}
+use Rattle.cell_types.specs.concrete_values.declared.actions.Next.TheVariants as Acts
+use Rattle.cell_types.specs.concrete_values.Values.{nothing}
+use Rattle.cell_types.specs.concrete_values.Operators.{is_case}
+use Rattle.cell_types.specs.concrete_values.Pointers.{base, part}
+use Rattle.cell_types.specs.concrete_values.Actions.{store_at}
 use Rattle.concrete_steps.specs.NextAction.{After, act_then, Here, as_value, as_branch, scalar_at, zero_of, expr_then}
 use Rattle.concrete_steps.specs.NextAction.{unused_then, condition_then, is_given, cell_then, rest_of, cells_then}
 use Rattle.concrete_steps.specs.NextAction.{initialiser_then, local_then, locals_then, Exits, returned_then, inside}

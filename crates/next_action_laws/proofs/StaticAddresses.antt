@@ -6,37 +6,47 @@ use Rattle.std.specs.Prelude.{ℤ, pos, negsuc, ◌%◌, ◌||◌, ◌==◌, nat
 use Rattle.std.proofs.lemmas.Bool.{false≢true, cases_lt, ltb-true, leb-true, and_parts, eqb-true}
 use Rattle.std.proofs.lemmas.Option.{none-some, same_Some, get_or_from_slice_get}
 use Rattle.std.proofs.lemmas.List.{get_or_past}
-use Rattle.tm_cint.specs.declared.int_types.IntType.{IntType}
-use Rattle.tm_cint.specs.IntTypes.{IsIn}
-use Rattle.tm_typed.specs.declared.types.CType.{CType}
-use Rattle.tm_typed.specs.declared.types.CType.TheVariants as Types
-use Rattle.tm_typed.specs.declared.types.TypeEntry.{TypeEntry}
-use Rattle.tm_typed.specs.declared.types.Scalar.{Scalar}
-use Rattle.tm_typed.specs.declared.types.Scalar.TheVariants as Scalars
-use Rattle.tm_typed.specs.declared.scopes.Member.{Member}
-use Rattle.tm_typed.specs.declared.scopes.ObjectNumber.TheVariants as Objects
-use Rattle.tm_typed.specs.declared.files.StaticValue.{StaticValue}
-use Rattle.tm_typed.specs.declared.files.StaticValue.TheVariants as Values
-use Rattle.tm_typed.specs.Scopes.{Scope, Structure, no_structure, structure, entry, ctype_of, cells_by, cells_of}
-use Rattle.tm_typed.specs.Scopes.{or_else}
-use Rattle.tm_typed.specs.TypeRows.{clipped, cells_in}
-use Rattle.tm_typed.specs.TypedTrees.{RvalueTree, a_constant, a_folded, a_null, a_load, an_address, a_structure}
-use Rattle.tm_typed.specs.TypedTrees.{the_same, a_unary, a_binary, a_comparison_of_pointers, a_move, a_not, an_and}
-use Rattle.tm_typed.specs.TypedTrees.{an_or, a_choice, an_assignment, a_compound, a_compound_move, a_unit_step}
-use Rattle.tm_typed.specs.TypedTrees.{a_pointer_step, a_function_call, an_input_value, a_probe, a_comma, a_conversion}
-use Rattle.tm_typed.specs.TypedTrees.{a_discard, LvalueTree, an_object, an_element, a_pointed_element, a_pointed}
-use Rattle.tm_typed.specs.TypedTrees.{an_arrow, a_part}
-use Rattle.tm_typed.specs.States.{State, Static, no_static, static_type}
-use Rattle.tm_typed.specs.StaticValues.{Found, a_scalar, inside, nowhere, part_at, inside_part, look_in, scalar_in}
-use Rattle.tm_typed.specs.StaticValues.{scalar_at, is_same_scalar, stand_from, stands_at, is_near, cell_inside}
-use Rattle.tm_typed.specs.StaticValues.{address_at, size_of_static, offset, moved, behind, element_of, pointed_to}
-use Rattle.tm_typed.specs.StaticValues.{as_converted, static_value, static_cell}
-use Rattle.tm_typed.specs.WellTyped.{ValueKind, a_number, a_pointer, no_value, Context, HasPart, IsRvalue, IsLvalue}
-use Rattle.tm_laid.specs.TypeCells.{summed}
+use Rattle.cell_layout.specs.tm_cint.declared.int_types.IntType.{IntType}
+use Rattle.cell_layout.specs.tm_cint.IntTypes.{IsIn}
+use Rattle.cell_layout.specs.tm_typed.declared.types.CType.{CType}
+use Rattle.cell_layout.specs.tm_typed.declared.types.CType.TheVariants as Types
+use Rattle.cell_layout.specs.tm_typed.declared.types.TypeEntry.{TypeEntry}
+use Rattle.cell_layout.specs.tm_typed.declared.types.Scalar.{Scalar}
+use Rattle.cell_layout.specs.tm_typed.declared.types.Scalar.TheVariants as Scalars
+use Rattle.cell_layout.specs.tm_typed.declared.scopes.Member.{Member}
+use Rattle.cell_layout.specs.tm_typed.declared.scopes.ObjectNumber.TheVariants as Objects
+use Rattle.cell_layout.specs.tm_typed.declared.files.StaticValue.{StaticValue}
+use Rattle.cell_layout.specs.tm_typed.declared.files.StaticValue.TheVariants as Values
+use Rattle.cell_layout.specs.tm_typed.Scopes.{Scope, Structure, no_structure, structure, entry, ctype_of, cells_by}
+use Rattle.cell_layout.specs.tm_typed.Scopes.{cells_of}
+use Rattle.cell_layout.specs.tm_typed.Scopes.{or_else}
+use Rattle.cell_layout.specs.tm_typed.TypeRows.{clipped, cells_in}
+use Rattle.cell_layout.specs.tm_typed.TypedTrees.{RvalueTree, a_constant, a_folded, a_null, a_load, an_address}
+use Rattle.cell_layout.specs.tm_typed.TypedTrees.{a_structure}
+use Rattle.cell_layout.specs.tm_typed.TypedTrees.{the_same, a_unary, a_binary, a_comparison_of_pointers, a_move, a_not}
+use Rattle.cell_layout.specs.tm_typed.TypedTrees.{an_and}
+use Rattle.cell_layout.specs.tm_typed.TypedTrees.{an_or, a_choice, an_assignment, a_compound, a_compound_move}
+use Rattle.cell_layout.specs.tm_typed.TypedTrees.{a_unit_step}
+use Rattle.cell_layout.specs.tm_typed.TypedTrees.{a_pointer_step, a_function_call, an_input_value, a_probe, a_comma}
+use Rattle.cell_layout.specs.tm_typed.TypedTrees.{a_conversion}
+use Rattle.cell_layout.specs.tm_typed.TypedTrees.{a_discard, LvalueTree, an_object, an_element, a_pointed_element}
+use Rattle.cell_layout.specs.tm_typed.TypedTrees.{a_pointed}
+use Rattle.cell_layout.specs.tm_typed.TypedTrees.{an_arrow, a_part}
+use Rattle.cell_layout.specs.tm_typed.States.{State, Static, no_static, static_type}
+use Rattle.cell_layout.specs.tm_typed.StaticValues.{Found, a_scalar, inside, nowhere, part_at, inside_part, look_in}
+use Rattle.cell_layout.specs.tm_typed.StaticValues.{scalar_in}
+use Rattle.cell_layout.specs.tm_typed.StaticValues.{scalar_at, is_same_scalar, stand_from, stands_at, is_near}
+use Rattle.cell_layout.specs.tm_typed.StaticValues.{cell_inside}
+use Rattle.cell_layout.specs.tm_typed.StaticValues.{address_at, size_of_static, offset, moved, behind, element_of}
+use Rattle.cell_layout.specs.tm_typed.StaticValues.{pointed_to}
+use Rattle.cell_layout.specs.tm_typed.StaticValues.{as_converted, static_value, static_cell}
+use Rattle.cell_layout.specs.tm_typed.WellTyped.{ValueKind, a_number, a_pointer, no_value, Context, HasPart, IsRvalue}
+use Rattle.cell_layout.specs.tm_typed.WellTyped.{IsLvalue}
+use Rattle.cell_layout.specs.tm_laid.TypeCells.{summed}
 use Rattle.typed_file_laws.specs.Tables.{AreMembers, AreLawfulTables}
 use Rattle.typed_file_laws.specs.Lawful.{context, IsLawfulState}
 use Rattle.typed_file_laws.specs.Mentions.{Mentions, LvalueMentions}
-use Rattle.c_folds.proofs.ConvertedValues.{converted_is_in}
+use Rattle.typed_file_laws.proofs.low.c_folds.ConvertedValues.{converted_is_in}
 use Rattle.typed_file_laws.proofs.TableRows.{row_at}
 use Rattle.typed_file_laws.proofs.TableStructures.{structure_at}
 use Rattle.next_action_laws.proofs.TypePlaces.{part_is_member}

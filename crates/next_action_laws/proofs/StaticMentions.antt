@@ -5,32 +5,34 @@ use Rattle.std.specs.Prelude.{slice_get}
 use Rattle.std.specs.List.{filter_map, cons_option}
 use Rattle.std.proofs.lemmas.List.{append-nil, append_assoc, length-append}
 use Rattle.std.proofs.lemmas.List.Elements.{All-nil, All-cons, All-append}
-use Rattle.tm_terms.specs.declared.places.Place.{Place}
-use Rattle.tm_terms.specs.declared.refusals.Kind.TheVariants as Kinds
-use Rattle.tm_terms.specs.declared.refusals.Refusal.{Refusal}
-use Rattle.tm_terms.specs.ExprTrees.{Tree}
-use Rattle.tm_trees.specs.DeclarationTrees.{ValueTree, an_expression, a_list, ValueTrees, no_values, and_value}
-use Rattle.tm_typed.specs.declared.types.Scalar.{Scalar}
-use Rattle.tm_typed.specs.declared.scopes.Part.{Part}
-use Rattle.tm_typed.specs.declared.uses.Use.{Use}
-use Rattle.tm_typed.specs.declared.uses.Used.{Used}
-use Rattle.tm_typed.specs.declared.uses.Used.TheVariants as Uses
-use Rattle.tm_typed.specs.TypedTrees.{RvalueTree, Rated, OperandTree}
-use Rattle.tm_typed.specs.Operands.{valued, given, scalar_of, is_structure, is_null, is_integer}
-use Rattle.tm_typed.specs.Refusals.{then_with, row, row_unless}
-use Rattle.tm_typed.specs.States.{State}
-use Rattle.tm_typed.specs.Typing.{typing, calls}
-use Rattle.tm_typed.specs.TypeNames.{type_of_name, prepared}
-use Rattle.tm_typed.specs.TypeRows.{clipped}
-use Rattle.tm_typed.specs.Uses.{uses_of}
-use Rattle.tm_typed.specs.Evaluation.{evaluated, typed_in}
-use Rattle.tm_typed.specs.StaticValues.{static_value}
-use Rattle.tm_typed.specs.Initialisers.{part, is_aggregate, scalar_rules, lone_rules, given_behind, lone, list_rules}
-use Rattle.tm_typed.specs.Initialisers.{initial, initials, Given}
-use Rattle.tm_typed.specs.Functions.{called_function, function_used}
-use Rattle.tm_typed.specs.TypedStatements.{GivenTree}
-use Rattle.tm_typed.specs.WellTyped.{OnAnswer}
-use Rattle.typing_laws.proofs.Steps.{then_on}
+use Rattle.cell_layout.specs.tm_terms.declared.places.Place.{Place}
+use Rattle.cell_layout.specs.tm_terms.declared.refusals.Kind.TheVariants as Kinds
+use Rattle.cell_layout.specs.tm_terms.declared.refusals.Refusal.{Refusal}
+use Rattle.cell_layout.specs.tm_terms.ExprTrees.{Tree}
+use Rattle.cell_layout.specs.tm_trees.DeclarationTrees.{ValueTree, an_expression, a_list, ValueTrees, no_values}
+use Rattle.cell_layout.specs.tm_trees.DeclarationTrees.{and_value}
+use Rattle.cell_layout.specs.tm_typed.declared.types.Scalar.{Scalar}
+use Rattle.cell_layout.specs.tm_typed.declared.scopes.Part.{Part}
+use Rattle.cell_layout.specs.tm_typed.declared.uses.Use.{Use}
+use Rattle.cell_layout.specs.tm_typed.declared.uses.Used.{Used}
+use Rattle.cell_layout.specs.tm_typed.declared.uses.Used.TheVariants as Uses
+use Rattle.cell_layout.specs.tm_typed.TypedTrees.{RvalueTree, Rated, OperandTree}
+use Rattle.cell_layout.specs.tm_typed.Operands.{valued, given, scalar_of, is_structure, is_null, is_integer}
+use Rattle.cell_layout.specs.tm_typed.Refusals.{then_with, row, row_unless}
+use Rattle.cell_layout.specs.tm_typed.States.{State}
+use Rattle.cell_layout.specs.tm_typed.Typing.{typing, calls}
+use Rattle.cell_layout.specs.tm_typed.TypeNames.{type_of_name, prepared}
+use Rattle.cell_layout.specs.tm_typed.TypeRows.{clipped}
+use Rattle.cell_layout.specs.tm_typed.Uses.{uses_of}
+use Rattle.cell_layout.specs.tm_typed.Evaluation.{evaluated, typed_in}
+use Rattle.cell_layout.specs.tm_typed.StaticValues.{static_value}
+use Rattle.cell_layout.specs.tm_typed.Initialisers.{part, is_aggregate, scalar_rules, lone_rules, given_behind, lone}
+use Rattle.cell_layout.specs.tm_typed.Initialisers.{list_rules}
+use Rattle.cell_layout.specs.tm_typed.Initialisers.{initial, initials, Given}
+use Rattle.cell_layout.specs.tm_typed.Functions.{called_function, function_used}
+use Rattle.cell_layout.specs.tm_typed.TypedStatements.{GivenTree}
+use Rattle.cell_layout.specs.tm_typed.WellTyped.{OnAnswer}
+use Rattle.typed_file_laws.proofs.low.typing_laws.Steps.{then_on}
 use Rattle.typed_file_laws.specs.Mentions.{Mentions, OperandMentions}
 use Rattle.typed_file_laws.proofs.RuleSteps.{on_row, OnSome, on_row_unless, some_any}
 use Rattle.typed_file_laws.proofs.MentionRules.{valued_mentions, given_mentions}

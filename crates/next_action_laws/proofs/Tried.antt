@@ -1,28 +1,28 @@
 -- The laws tried on `int x; int a[2];` and a task that does `a[x] = 7;`.
 use Rattle.std.proofs.Common.{◌≡◌, refl, ℕ, false, pos, negsuc, [], ◌∷◌, ◌++◌, Some, None, arith}
 use Rattle.std.specs.Prelude.{is_some}
-use Rattle.tm_cint.specs.declared.Class.TheVariants as Classes
-use Rattle.tm_cint.specs.declared.int_types.IntType.TheVariants as Ints
-use Rattle.tm_terms.specs.declared.places.Place.{Place}
-use Rattle.tm_terms.specs.declared.tokens.Name.{Name}
-use Rattle.tm_typed.specs.declared.types.CType.TheVariants as Types
-use Rattle.tm_typed.specs.declared.types.TypeEntry.{TypeEntry}
-use Rattle.tm_typed.specs.declared.types.Scalar.{Scalar}
-use Rattle.tm_typed.specs.declared.types.Scalar.TheVariants as Scalars
-use Rattle.tm_typed.specs.declared.scopes.ObjectNumber.TheVariants.{Static}
-use Rattle.tm_typed.specs.Types.{first_types}
-use Rattle.tm_typed.specs.TypedTrees.{a_constant, a_load, an_assignment, an_object, an_element}
-use Rattle.tm_typed.specs.TypedStatements.{evaluates, no_statements, and_statement}
-use Rattle.tm_laid.specs.declared.objects.LaidObject.{LaidObject}
-use Rattle.tm_laid.specs.declared.cells.LaidCell.{LaidCell}
-use Rattle.tm_laid.specs.Layouts.{LaidTree}
-use Rattle.concrete_values.specs.declared.values.Pointer.TheVariants as Pointers
-use Rattle.concrete_values.specs.declared.values.Value.TheVariants.{Number, Pointer as APointer}
-use Rattle.concrete_values.specs.declared.values.Answer.TheVariants.{Given, Done}
-use Rattle.concrete_values.specs.declared.actions.Next.TheVariants as Acts
-use Rattle.concrete_values.specs.Values.{number_of, pointer_of}
-use Rattle.concrete_values.specs.Pointers.{size_of, pointer_in, shifted, base, element}
-use Rattle.concrete_values.specs.Actions.{load_at, store_at, is_of, answer_of}
+use Rattle.cell_layout.specs.tm_cint.declared.Class.TheVariants as Classes
+use Rattle.cell_layout.specs.tm_cint.declared.int_types.IntType.TheVariants as Ints
+use Rattle.cell_layout.specs.tm_terms.declared.places.Place.{Place}
+use Rattle.cell_layout.specs.tm_terms.declared.tokens.Name.{Name}
+use Rattle.cell_layout.specs.tm_typed.declared.types.CType.TheVariants as Types
+use Rattle.cell_layout.specs.tm_typed.declared.types.TypeEntry.{TypeEntry}
+use Rattle.cell_layout.specs.tm_typed.declared.types.Scalar.{Scalar}
+use Rattle.cell_layout.specs.tm_typed.declared.types.Scalar.TheVariants as Scalars
+use Rattle.cell_layout.specs.tm_typed.declared.scopes.ObjectNumber.TheVariants.{Static}
+use Rattle.cell_layout.specs.tm_typed.Types.{first_types}
+use Rattle.cell_layout.specs.tm_typed.TypedTrees.{a_constant, a_load, an_assignment, an_object, an_element}
+use Rattle.cell_layout.specs.tm_typed.TypedStatements.{evaluates, no_statements, and_statement}
+use Rattle.cell_layout.specs.tm_laid.declared.objects.LaidObject.{LaidObject}
+use Rattle.cell_layout.specs.tm_laid.declared.cells.LaidCell.{LaidCell}
+use Rattle.cell_layout.specs.tm_laid.Layouts.{LaidTree}
+use Rattle.cell_types.specs.concrete_values.declared.values.Pointer.TheVariants as Pointers
+use Rattle.cell_types.specs.concrete_values.declared.values.Value.TheVariants.{Number, Pointer as APointer}
+use Rattle.cell_types.specs.concrete_values.declared.values.Answer.TheVariants.{Given, Done}
+use Rattle.cell_types.specs.concrete_values.declared.actions.Next.TheVariants as Acts
+use Rattle.cell_types.specs.concrete_values.Values.{number_of, pointer_of}
+use Rattle.cell_types.specs.concrete_values.Pointers.{size_of, pointer_in, shifted, base, element}
+use Rattle.cell_types.specs.concrete_values.Actions.{load_at, store_at, is_of, answer_of}
 use Rattle.concrete_steps.specs.NextAction.{next}
 use Rattle.next_action_laws.specs.Actions.{Fit, IsProper}
 

@@ -5,29 +5,30 @@ use Rattle.std.specs.Prelude.{option_map, nat_lt}
 use Rattle.std.proofs.lemmas.Bool.{false≢true, and_parts, and_from, ltb-true, eqb-true}
 use Rattle.std.proofs.lemmas.Option.{get_or_from_slice_get, none-some, same_Some}
 use Rattle.std.proofs.lemmas.List.{drop-drop, drop-map}
-use Rattle.tm_cint.specs.declared.int_types.IntType.{IntType}
-use Rattle.tm_cint.specs.declared.int_types.IntType.TheVariants as Ints
-use Rattle.tm_terms.specs.declared.tokens.Name.{Name}
-use Rattle.tm_terms.specs.Names.{is_same_name}
-use Rattle.tm_typed.specs.declared.types.CType.{CType}
-use Rattle.tm_typed.specs.declared.types.CType.TheVariants as Types
-use Rattle.tm_typed.specs.declared.types.Scalar.{Scalar}
-use Rattle.tm_typed.specs.declared.types.Scalar.TheVariants as Scalars
-use Rattle.tm_typed.specs.declared.scopes.Member.{Member}
-use Rattle.tm_typed.specs.declared.scopes.Part.{Part}
-use Rattle.tm_typed.specs.Types.{is_same_int}
-use Rattle.tm_typed.specs.Scopes.{Scope, Structure, cells_of, structure, last_declared, or_else}
-use Rattle.tm_typed.specs.TypeRows.{clipped}
-use Rattle.tm_typed.specs.Operands.{scalar_by}
-use Rattle.tm_typed.specs.Initialisers.{part_number, part_of, part_in}
-use Rattle.tm_typed.specs.WellTyped.{HasPart}
-use Rattle.tm_typed.specs.Files.{TypedFileTree}
-use Rattle.tm_laid.specs.declared.cells.LaidCell.{LaidCell}
-use Rattle.tm_laid.specs.TypeCells.{entry_of, structure_in}
-use Rattle.tm_laid.specs.Layable.{tables_of, AreParts, IsLayable}
-use Rattle.tm_laid.specs.Layouts.{LaidTree, object_at, cell_at, cell_of, no_cell, is_same_scalar, begins_with}
-use Rattle.tm_laid.specs.Layouts.{scalars_of_type, scalars_from}
-use Rattle.tm_laid.proofs.Columns.{structure_of}
+use Rattle.cell_layout.specs.tm_cint.declared.int_types.IntType.{IntType}
+use Rattle.cell_layout.specs.tm_cint.declared.int_types.IntType.TheVariants as Ints
+use Rattle.cell_layout.specs.tm_terms.declared.tokens.Name.{Name}
+use Rattle.cell_layout.specs.tm_terms.Names.{is_same_name}
+use Rattle.cell_layout.specs.tm_typed.declared.types.CType.{CType}
+use Rattle.cell_layout.specs.tm_typed.declared.types.CType.TheVariants as Types
+use Rattle.cell_layout.specs.tm_typed.declared.types.Scalar.{Scalar}
+use Rattle.cell_layout.specs.tm_typed.declared.types.Scalar.TheVariants as Scalars
+use Rattle.cell_layout.specs.tm_typed.declared.scopes.Member.{Member}
+use Rattle.cell_layout.specs.tm_typed.declared.scopes.Part.{Part}
+use Rattle.cell_layout.specs.tm_typed.Types.{is_same_int}
+use Rattle.cell_layout.specs.tm_typed.Scopes.{Scope, Structure, cells_of, structure, last_declared, or_else}
+use Rattle.cell_layout.specs.tm_typed.TypeRows.{clipped}
+use Rattle.cell_layout.specs.tm_typed.Operands.{scalar_by}
+use Rattle.cell_layout.specs.tm_typed.Initialisers.{part_number, part_of, part_in}
+use Rattle.cell_layout.specs.tm_typed.WellTyped.{HasPart}
+use Rattle.cell_layout.specs.tm_typed.Files.{TypedFileTree}
+use Rattle.cell_layout.specs.tm_laid.declared.cells.LaidCell.{LaidCell}
+use Rattle.cell_layout.specs.tm_laid.TypeCells.{entry_of, structure_in}
+use Rattle.cell_layout.specs.tm_laid.Layable.{tables_of, AreParts, IsLayable}
+use Rattle.cell_layout.specs.tm_laid.Layouts.{LaidTree, object_at, cell_at, cell_of, no_cell, is_same_scalar}
+use Rattle.cell_layout.specs.tm_laid.Layouts.{begins_with}
+use Rattle.cell_layout.specs.tm_laid.Layouts.{scalars_of_type, scalars_from}
+use Rattle.cell_layout.proofs.low.tm_laid.Columns.{structure_of}
 use Rattle.cell_types.proofs.Lists.{repeated, length_append}
 use Rattle.cell_types.proofs.Types.{joined, opened_as, length_of, column}
 use Rattle.cell_types.proofs.Standing.{cell_inside}

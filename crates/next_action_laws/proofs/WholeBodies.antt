@@ -8,45 +8,47 @@ use Rattle.std.proofs.lemmas.Option.{none-some, same_Some, slice_get-get_or, sli
 use Rattle.std.proofs.lemmas.Option.{get_or_from_slice_get}
 use Rattle.std.proofs.lemmas.List.{get_or_past}
 use Rattle.std.proofs.lemmas.List.Elements.{All-get_or, All-contains}
-use Rattle.tm_cint.specs.IntTypes.{lo_of, hi_of}
-use Rattle.tm_terms.specs.declared.places.Place.{Place}
-use Rattle.tm_terms.specs.declared.refusals.Limit.TheVariants as Limits
-use Rattle.tm_typed.specs.declared.types.CType.{CType}
-use Rattle.tm_typed.specs.declared.types.CType.TheVariants as Types
-use Rattle.tm_typed.specs.declared.types.Scalar.{Scalar}
-use Rattle.tm_typed.specs.declared.types.Scalar.TheVariants as Scalars
-use Rattle.tm_typed.specs.declared.scopes.ObjectNumber.{ObjectNumber}
-use Rattle.tm_typed.specs.declared.scopes.ObjectNumber.TheVariants as Objects
-use Rattle.tm_typed.specs.declared.files.LocalEntry.{LocalEntry}
-use Rattle.tm_typed.specs.Types.{int_index}
-use Rattle.tm_typed.specs.Scopes.{Scope, Function, ctype_of, cells_of}
-use Rattle.tm_typed.specs.Operands.{scalar_of, kept_sort}
-use Rattle.tm_typed.specs.Initialisers.{part}
-use Rattle.tm_typed.specs.States.{Static}
-use Rattle.tm_typed.specs.CallGraph.{calls_in}
-use Rattle.tm_typed.specs.Functions.{TypedBodyTree}
-use Rattle.tm_typed.specs.Files.{TypedFunctionTree, no_typed_function, TypedFileTree}
-use Rattle.tm_typed.specs.WellTyped.{ValueKind, a_pointer, kind_of, HasPart}
-use Rattle.tm_laid.specs.declared.objects.DeclaredObject.{DeclaredObject}
-use Rattle.tm_laid.specs.declared.objects.LaidObject.{LaidObject}
-use Rattle.tm_laid.specs.declared.cells.LaidCell.{LaidCell}
-use Rattle.tm_laid.specs.TypeCells.{cells_of_type}
-use Rattle.tm_laid.specs.Paths.{bodies_of, locals_in, locals_of, paths_of}
-use Rattle.tm_laid.specs.Layable.{tables_of, IsLayable}
-use Rattle.tm_laid.specs.Layouts.{LaidTree, declared_objects, layout_along, layout_of, path_at, object_at, no_object}
-use Rattle.tm_laid.specs.Layouts.{first_path, callee, object_of, is_alive_by, is_same_scalar, begins_with}
-use Rattle.tm_laid.specs.Layouts.{scalars_of_type, scalars_from, stands_at, laid_count, is_exceeded, over_objects}
-use Rattle.tm_laid.specs.Layouts.{summed_types}
+use Rattle.cell_layout.specs.tm_cint.IntTypes.{lo_of, hi_of}
+use Rattle.cell_layout.specs.tm_terms.declared.places.Place.{Place}
+use Rattle.cell_layout.specs.tm_terms.declared.refusals.Limit.TheVariants as Limits
+use Rattle.cell_layout.specs.tm_typed.declared.types.CType.{CType}
+use Rattle.cell_layout.specs.tm_typed.declared.types.CType.TheVariants as Types
+use Rattle.cell_layout.specs.tm_typed.declared.types.Scalar.{Scalar}
+use Rattle.cell_layout.specs.tm_typed.declared.types.Scalar.TheVariants as Scalars
+use Rattle.cell_layout.specs.tm_typed.declared.scopes.ObjectNumber.{ObjectNumber}
+use Rattle.cell_layout.specs.tm_typed.declared.scopes.ObjectNumber.TheVariants as Objects
+use Rattle.cell_layout.specs.tm_typed.declared.files.LocalEntry.{LocalEntry}
+use Rattle.cell_layout.specs.tm_typed.Types.{int_index}
+use Rattle.cell_layout.specs.tm_typed.Scopes.{Scope, Function, ctype_of, cells_of}
+use Rattle.cell_layout.specs.tm_typed.Operands.{scalar_of, kept_sort}
+use Rattle.cell_layout.specs.tm_typed.Initialisers.{part}
+use Rattle.cell_layout.specs.tm_typed.States.{Static}
+use Rattle.cell_layout.specs.tm_typed.CallGraph.{calls_in}
+use Rattle.cell_layout.specs.tm_typed.Functions.{TypedBodyTree}
+use Rattle.cell_layout.specs.tm_typed.Files.{TypedFunctionTree, no_typed_function, TypedFileTree}
+use Rattle.cell_layout.specs.tm_typed.WellTyped.{ValueKind, a_pointer, kind_of, HasPart}
+use Rattle.cell_layout.specs.tm_laid.declared.objects.DeclaredObject.{DeclaredObject}
+use Rattle.cell_layout.specs.tm_laid.declared.objects.LaidObject.{LaidObject}
+use Rattle.cell_layout.specs.tm_laid.declared.cells.LaidCell.{LaidCell}
+use Rattle.cell_layout.specs.tm_laid.TypeCells.{cells_of_type}
+use Rattle.cell_layout.specs.tm_laid.Paths.{bodies_of, locals_in, locals_of, paths_of}
+use Rattle.cell_layout.specs.tm_laid.Layable.{tables_of, IsLayable}
+use Rattle.cell_layout.specs.tm_laid.Layouts.{LaidTree, declared_objects, layout_along, layout_of, path_at, object_at}
+use Rattle.cell_layout.specs.tm_laid.Layouts.{no_object}
+use Rattle.cell_layout.specs.tm_laid.Layouts.{first_path, callee, object_of, is_alive_by, is_same_scalar, begins_with}
+use Rattle.cell_layout.specs.tm_laid.Layouts.{scalars_of_type, scalars_from, stands_at, laid_count, is_exceeded}
+use Rattle.cell_layout.specs.tm_laid.Layouts.{over_objects}
+use Rattle.cell_layout.specs.tm_laid.Layouts.{summed_types}
 use Rattle.cell_layout.specs.Laws.{GoesOnBy}
 use Rattle.cell_layout.proofs.PathCalls.{calls_lead}
-use Rattle.concrete_values.specs.declared.values.Pointer.TheVariants as Pointers
-use Rattle.concrete_values.specs.declared.values.Value.{Value}
-use Rattle.concrete_values.specs.declared.values.Answer.{Answer}
-use Rattle.concrete_values.specs.declared.values.Answer.TheVariants.{Done}
-use Rattle.concrete_values.specs.declared.actions.Next.TheVariants as Acts
-use Rattle.concrete_values.specs.Values.{nothing}
-use Rattle.concrete_values.specs.Pointers.{cells_of_object, size_of, placed, pointer_in, is_object_at}
-use Rattle.concrete_values.specs.Actions.{store_at}
+use Rattle.cell_types.specs.concrete_values.declared.values.Pointer.TheVariants as Pointers
+use Rattle.cell_types.specs.concrete_values.declared.values.Value.{Value}
+use Rattle.cell_types.specs.concrete_values.declared.values.Answer.{Answer}
+use Rattle.cell_types.specs.concrete_values.declared.values.Answer.TheVariants.{Done}
+use Rattle.cell_types.specs.concrete_values.declared.actions.Next.TheVariants as Acts
+use Rattle.cell_types.specs.concrete_values.Values.{nothing}
+use Rattle.cell_types.specs.concrete_values.Pointers.{cells_of_object, size_of, placed, pointer_in, is_object_at}
+use Rattle.cell_types.specs.concrete_values.Actions.{store_at}
 use Rattle.concrete_steps.specs.Places.{result_type}
 use Rattle.concrete_steps.specs.NextAction.{After, last, act_then, scalar_at, Exits, passed_then, fallen_then}
 use Rattle.concrete_steps.specs.NextAction.{function_at, exits_of, here_with, code_then, body_then, next}

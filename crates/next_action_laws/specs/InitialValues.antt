@@ -1,17 +1,17 @@
 -- The values that initialisers give to cells of static storage.
 use Rattle.std.specs.Prelude.{◌≡◌, ℕ, ◌≤◌, true, List, All, get_or, Option, Ok}
-use Rattle.tm_cint.specs.IntTypes.{IsIn}
-use Rattle.tm_terms.specs.declared.tokens.Name.{Name}
-use Rattle.tm_trees.specs.FileTrees.{ItemTree}
-use Rattle.tm_typed.specs.declared.types.Scalar.{Scalar}
-use Rattle.tm_typed.specs.declared.types.Scalar.TheVariants as Scalars
-use Rattle.tm_typed.specs.declared.files.StaticCell.{StaticCell}
-use Rattle.tm_typed.specs.declared.files.StaticValue.{StaticValue}
-use Rattle.tm_typed.specs.declared.files.StaticValue.TheVariants as Values
-use Rattle.tm_typed.specs.Scopes.{cells_of}
-use Rattle.tm_typed.specs.States.{no_static}
-use Rattle.tm_typed.specs.Files.{TypedFileTree, IsTyped}
-use Rattle.tm_laid.specs.Layable.{tables_of}
+use Rattle.cell_layout.specs.tm_cint.IntTypes.{IsIn}
+use Rattle.cell_layout.specs.tm_terms.declared.tokens.Name.{Name}
+use Rattle.cell_layout.specs.tm_trees.FileTrees.{ItemTree}
+use Rattle.cell_layout.specs.tm_typed.declared.types.Scalar.{Scalar}
+use Rattle.cell_layout.specs.tm_typed.declared.types.Scalar.TheVariants as Scalars
+use Rattle.cell_layout.specs.tm_typed.declared.files.StaticCell.{StaticCell}
+use Rattle.cell_layout.specs.tm_typed.declared.files.StaticValue.{StaticValue}
+use Rattle.cell_layout.specs.tm_typed.declared.files.StaticValue.TheVariants as Values
+use Rattle.cell_layout.specs.tm_typed.Scopes.{cells_of}
+use Rattle.cell_layout.specs.tm_typed.States.{no_static}
+use Rattle.cell_layout.specs.tm_typed.Files.{TypedFileTree, IsTyped}
+use Rattle.cell_layout.specs.tm_laid.Layable.{tables_of}
 use Rattle.typed_file_laws.specs.Sites.{is_defined_object}
 use Rattle.next_action_laws.specs.Regular.{HasScalar}
 

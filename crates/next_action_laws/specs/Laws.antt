@@ -1,19 +1,19 @@
 -- What the next actions of every typed file that is laid out keep to, after every list of answers that fits.
 use Rattle.std.specs.Prelude.{◌≡◌, ℕ, pos, ◌+◌, ◌*◌, ◌^◌, ◌<◌, ◌≤◌, List, length, Option, Ok}
-use Rattle.tm_terms.specs.declared.tokens.Name.{Name}
-use Rattle.tm_trees.specs.FileTrees.{ItemTree}
-use Rattle.tm_typed.specs.declared.types.CType.TheVariants as Types
-use Rattle.tm_typed.specs.Scopes.{ctype_of, cells_of}
-use Rattle.tm_typed.specs.Files.{TypedFileTree, IsTyped}
-use Rattle.tm_typed.specs.WellTyped.{HasPart}
-use Rattle.tm_laid.specs.Layable.{IsLayable, tables_of}
-use Rattle.tm_laid.specs.Layouts.{LaidTree, laid_out}
-use Rattle.concrete_values.specs.declared.values.Pointer.TheVariants.{To}
-use Rattle.concrete_values.specs.declared.values.Value.{Value}
-use Rattle.concrete_values.specs.declared.values.Value.TheVariants.{Number, Pointer}
-use Rattle.concrete_values.specs.declared.values.Answer.{Answer}
-use Rattle.concrete_values.specs.declared.actions.Next.TheVariants as Acts
-use Rattle.concrete_values.specs.Pointers.{part, element}
+use Rattle.cell_layout.specs.tm_terms.declared.tokens.Name.{Name}
+use Rattle.cell_layout.specs.tm_trees.FileTrees.{ItemTree}
+use Rattle.cell_layout.specs.tm_typed.declared.types.CType.TheVariants as Types
+use Rattle.cell_layout.specs.tm_typed.Scopes.{ctype_of, cells_of}
+use Rattle.cell_layout.specs.tm_typed.Files.{TypedFileTree, IsTyped}
+use Rattle.cell_layout.specs.tm_typed.WellTyped.{HasPart}
+use Rattle.cell_layout.specs.tm_laid.Layable.{IsLayable, tables_of}
+use Rattle.cell_layout.specs.tm_laid.Layouts.{LaidTree, laid_out}
+use Rattle.cell_types.specs.concrete_values.declared.values.Pointer.TheVariants.{To}
+use Rattle.cell_types.specs.concrete_values.declared.values.Value.{Value}
+use Rattle.cell_types.specs.concrete_values.declared.values.Value.TheVariants.{Number, Pointer}
+use Rattle.cell_types.specs.concrete_values.declared.values.Answer.{Answer}
+use Rattle.cell_types.specs.concrete_values.declared.actions.Next.TheVariants as Acts
+use Rattle.cell_types.specs.concrete_values.Pointers.{part, element}
 use Rattle.concrete_steps.specs.NextAction.{next}
 use Rattle.next_action_laws.specs.Actions.{Fit, IsProper, IsPlace}
 use Rattle.next_action_laws.specs.Regular.{AreRegularBodies}

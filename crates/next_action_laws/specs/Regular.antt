@@ -2,22 +2,26 @@
 -- that an initialiser gives have the types of the object's cells, and parameters are the first objects of a body.
 use Rattle.std.specs.Prelude.{◌≡◌, ℕ, ◌+◌, Bool, true, false, ◌||◌, List, [], ◌∷◌, All}
 use Rattle.std.specs.Prelude.{Option, Some, None}
-use Rattle.tm_typed.specs.declared.types.Scalar.{Scalar}
-use Rattle.tm_typed.specs.declared.scopes.Part.{Part}
-use Rattle.tm_typed.specs.declared.scopes.ObjectNumber.TheVariants as Objects
-use Rattle.tm_typed.specs.declared.files.LocalEntry.{LocalEntry}
-use Rattle.tm_typed.specs.Scopes.{Scope}
-use Rattle.tm_typed.specs.TypeRows.{clipped}
-use Rattle.tm_typed.specs.Operands.{scalar_of}
-use Rattle.tm_typed.specs.Initialisers.{part}
-use Rattle.tm_typed.specs.WellTyped.{Context}
-use Rattle.tm_typed.specs.TypedStatements.{LocalInitialiserTree, LocalTree, TypedTree, evaluates, declares, runs_block}
-use Rattle.tm_typed.specs.TypedStatements.{branches, branches_else, loops_while, loops_do, loops_for, selects, breaks}
-use Rattle.tm_typed.specs.TypedStatements.{continues, returns, locks, unlocks, yields, TypedTrees, no_statements}
-use Rattle.tm_typed.specs.TypedStatements.{and_statement, TypedCase, a_label, a_default_label, a_labelled_step}
-use Rattle.tm_typed.specs.TypedStatements.{TypedCases, no_typed_cases, and_typed_case}
-use Rattle.tm_typed.specs.Functions.{TypedBodyTree}
-use Rattle.tm_typed.specs.Files.{TypedFunctionTree, TypedFileTree}
+use Rattle.cell_layout.specs.tm_typed.declared.types.Scalar.{Scalar}
+use Rattle.cell_layout.specs.tm_typed.declared.scopes.Part.{Part}
+use Rattle.cell_layout.specs.tm_typed.declared.scopes.ObjectNumber.TheVariants as Objects
+use Rattle.cell_layout.specs.tm_typed.declared.files.LocalEntry.{LocalEntry}
+use Rattle.cell_layout.specs.tm_typed.Scopes.{Scope}
+use Rattle.cell_layout.specs.tm_typed.TypeRows.{clipped}
+use Rattle.cell_layout.specs.tm_typed.Operands.{scalar_of}
+use Rattle.cell_layout.specs.tm_typed.Initialisers.{part}
+use Rattle.cell_layout.specs.tm_typed.WellTyped.{Context}
+use Rattle.cell_layout.specs.tm_typed.TypedStatements.{LocalInitialiserTree, LocalTree, TypedTree, evaluates, declares}
+use Rattle.cell_layout.specs.tm_typed.TypedStatements.{runs_block}
+use Rattle.cell_layout.specs.tm_typed.TypedStatements.{branches, branches_else, loops_while, loops_do, loops_for}
+use Rattle.cell_layout.specs.tm_typed.TypedStatements.{selects, breaks}
+use Rattle.cell_layout.specs.tm_typed.TypedStatements.{continues, returns, locks, unlocks, yields, TypedTrees}
+use Rattle.cell_layout.specs.tm_typed.TypedStatements.{no_statements}
+use Rattle.cell_layout.specs.tm_typed.TypedStatements.{and_statement, TypedCase, a_label, a_default_label}
+use Rattle.cell_layout.specs.tm_typed.TypedStatements.{a_labelled_step}
+use Rattle.cell_layout.specs.tm_typed.TypedStatements.{TypedCases, no_typed_cases, and_typed_case}
+use Rattle.cell_layout.specs.tm_typed.Functions.{TypedBodyTree}
+use Rattle.cell_layout.specs.tm_typed.Files.{TypedFunctionTree, TypedFileTree}
 use Rattle.typed_file_laws.specs.TypedBodies.{file_context}
 use Rattle.typed_file_laws.specs.Sites.{function_of_file}
 

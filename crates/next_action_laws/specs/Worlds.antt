@@ -1,11 +1,11 @@
 -- What holds of the worlds that are reached.
 use Rattle.std.specs.Prelude.{◌≡◌, ℕ, ◌<◌, true, List, length, Option, Ok}
-use Rattle.tm_terms.specs.declared.tokens.Name.{Name}
-use Rattle.tm_trees.specs.FileTrees.{ItemTree}
-use Rattle.tm_typed.specs.Files.{TypedFileTree, IsTyped}
-use Rattle.tm_laid.specs.Layouts.{LaidTree, cell_at}
-use Rattle.concrete_values.specs.declared.values.Value.{Value}
-use Rattle.concrete_values.specs.Actions.{is_of}
+use Rattle.cell_layout.specs.tm_terms.declared.tokens.Name.{Name}
+use Rattle.cell_layout.specs.tm_trees.FileTrees.{ItemTree}
+use Rattle.cell_layout.specs.tm_typed.Files.{TypedFileTree, IsTyped}
+use Rattle.cell_layout.specs.tm_laid.Layouts.{LaidTree, cell_at}
+use Rattle.cell_types.specs.concrete_values.declared.values.Value.{Value}
+use Rattle.cell_types.specs.concrete_values.Actions.{is_of}
 use Rattle.concrete_steps.specs.declared.worlds.Content.TheVariants.{Is}
 use Rattle.concrete_steps.specs.Worlds.{World, start, answers_of, next_at}
 use Rattle.concrete_steps.specs.Moves.{content_of}

@@ -8,41 +8,43 @@ use Rattle.std.proofs.lemmas.Option.{none-some, same_Some, slice_get-get_or, sli
 use Rattle.std.proofs.lemmas.Option.{get_or_from_slice_get}
 use Rattle.std.proofs.lemmas.List.{get_or_past}
 use Rattle.std.proofs.lemmas.List.Elements.{All-get_or, All-contains}
-use Rattle.tm_cint.specs.IntTypes.{lo_of, hi_of}
-use Rattle.tm_terms.specs.declared.places.Place.{Place}
-use Rattle.tm_terms.specs.declared.refusals.Limit.TheVariants as Limits
-use Rattle.tm_typed.specs.declared.types.CType.{CType}
-use Rattle.tm_typed.specs.declared.types.CType.TheVariants as Types
-use Rattle.tm_typed.specs.declared.types.Scalar.{Scalar}
-use Rattle.tm_typed.specs.declared.scopes.ObjectNumber.{ObjectNumber}
-use Rattle.tm_typed.specs.declared.scopes.ObjectNumber.TheVariants as Objects
-use Rattle.tm_typed.specs.declared.files.LocalEntry.{LocalEntry}
-use Rattle.tm_typed.specs.Scopes.{Scope, Function, ctype_of}
-use Rattle.tm_typed.specs.CallGraph.{calls_in}
-use Rattle.tm_typed.specs.Functions.{TypedBodyTree}
-use Rattle.tm_typed.specs.Files.{TypedFunctionTree, no_typed_function, TypedFileTree}
-use Rattle.tm_laid.specs.Paths.{bodies_of, locals_in, locals_of, paths_of}
-use Rattle.tm_laid.specs.Layable.{IsLayable}
-use Rattle.tm_laid.specs.Layouts.{LaidTree, layout_along, layout_of, path_at, first_path, callee, object_of}
-use Rattle.tm_laid.specs.Layouts.{is_exceeded}
-use Rattle.cell_layout.specs.Laws.{GoesOnBy}
-use Rattle.cell_layout.proofs.PathCalls.{calls_lead}
-use Rattle.concrete_values.specs.Values.{nothing}
-use Rattle.concrete_steps.specs.Places.{result_type}
-use Rattle.concrete_steps.specs.NextAction.{scalar_at, function_at}
-use Rattle.typed_file_laws.specs.Lawful.{object_type}
-use Rattle.typed_file_laws.specs.Mentions.{StatementsMention}
-use Rattle.typed_file_laws.specs.TypedBodies.{called, file_context, IsBodyOf}
-use Rattle.typed_file_laws.specs.Sites.{is_defined_object, function_of_file, is_defined_function}
-use Rattle.flow_graph.specs.declared.operations.Into.TheVariants as Intos
-use Rattle.flow_graph.specs.declared.operations.Operation.{Operation}
-use Rattle.flow_graph.specs.declared.operations.Operation.TheVariants as Op
+use Rattle.temporary_types.specs.tm_cint.IntTypes.{lo_of, hi_of}
+use Rattle.temporary_types.specs.tm_terms.declared.places.Place.{Place}
+use Rattle.temporary_types.specs.tm_terms.declared.refusals.Limit.TheVariants as Limits
+use Rattle.temporary_types.specs.tm_typed.declared.types.CType.{CType}
+use Rattle.temporary_types.specs.tm_typed.declared.types.CType.TheVariants as Types
+use Rattle.temporary_types.specs.tm_typed.declared.types.Scalar.{Scalar}
+use Rattle.temporary_types.specs.tm_typed.declared.scopes.ObjectNumber.{ObjectNumber}
+use Rattle.temporary_types.specs.tm_typed.declared.scopes.ObjectNumber.TheVariants as Objects
+use Rattle.temporary_types.specs.tm_typed.declared.files.LocalEntry.{LocalEntry}
+use Rattle.temporary_types.specs.tm_typed.Scopes.{Scope, Function, ctype_of}
+use Rattle.temporary_types.specs.tm_typed.CallGraph.{calls_in}
+use Rattle.temporary_types.specs.tm_typed.Functions.{TypedBodyTree}
+use Rattle.temporary_types.specs.tm_typed.Files.{TypedFunctionTree, no_typed_function, TypedFileTree}
+use Rattle.temporary_types.specs.tm_laid.Paths.{bodies_of, locals_in, locals_of, paths_of}
+use Rattle.temporary_types.specs.tm_laid.Layable.{IsLayable}
+use Rattle.temporary_types.specs.tm_laid.Layouts.{LaidTree, layout_along, layout_of, path_at, first_path, callee}
+use Rattle.temporary_types.specs.tm_laid.Layouts.{object_of}
+use Rattle.temporary_types.specs.tm_laid.Layouts.{is_exceeded}
+use Rattle.next_action_laws.specs.cell_layout.Laws.{GoesOnBy}
+use Rattle.next_action_laws.proofs.low.cell_layout.PathCalls.{calls_lead}
+use Rattle.temporary_types.specs.concrete_values.Values.{nothing}
+use Rattle.next_action_laws.specs.concrete_steps.Places.{result_type}
+use Rattle.next_action_laws.specs.concrete_steps.NextAction.{scalar_at, function_at}
+use Rattle.next_action_laws.specs.typed_file_laws.Lawful.{object_type}
+use Rattle.next_action_laws.specs.typed_file_laws.Mentions.{StatementsMention}
+use Rattle.next_action_laws.specs.typed_file_laws.TypedBodies.{called, file_context, IsBodyOf}
+use Rattle.next_action_laws.specs.typed_file_laws.Sites.{is_defined_object, function_of_file, is_defined_function}
+use Rattle.temporary_types.specs.flow_graph.declared.operations.Into.TheVariants as Intos
+use Rattle.temporary_types.specs.flow_graph.declared.operations.Operation.{Operation}
+use Rattle.temporary_types.specs.flow_graph.declared.operations.Operation.TheVariants as Op
 use Rattle.temporary_types.specs.Sorts.{Sort, numbers, pointers, sort_of_scalar, Within, AreSorts}
-use Rattle.lowering.specs.Table.{is_value_type, plans}
-use Rattle.lowering.specs.Built.{Building, place, place_new, Passed, AfterPart, Later, Sites, is_return}
-use Rattle.lowering.specs.Built.{nodes_by, result_of, result_at, place_result, plan_piece}
-use Rattle.lowering.specs.Built.{stores_piece, fallen_piece, function_end, task_end, nothing_piece, function_piece}
-use Rattle.lowering.specs.Built.{sites_of, path_piece, entry, built, graph_of}
+use Rattle.lowering_laws.specs.lowering.Table.{is_value_type, plans}
+use Rattle.lowering_laws.specs.lowering.Built.{Building, place, place_new, Passed, AfterPart, Later, Sites, is_return}
+use Rattle.lowering_laws.specs.lowering.Built.{nodes_by, result_of, result_at, place_result, plan_piece}
+use Rattle.lowering_laws.specs.lowering.Built.{stores_piece, fallen_piece, function_end, task_end, nothing_piece}
+use Rattle.lowering_laws.specs.lowering.Built.{function_piece}
+use Rattle.lowering_laws.specs.lowering.Built.{sites_of, path_piece, entry, built, graph_of}
 use Rattle.next_action_laws.specs.Actions.{IsBodyPath, IsCell, IsPlace}
 use Rattle.next_action_laws.specs.Regular.{HasScalar, AreParameters, AreRegularBodies}
 use Rattle.next_action_laws.proofs.GivenValues.{low_in, high_in}

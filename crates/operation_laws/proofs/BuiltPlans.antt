@@ -1,21 +1,23 @@
 -- What is built from statements that fit has sorts.
 use Rattle.std.proofs.Common.{◌≡◌, refl, sym, subst, ℕ, suc, true, List, [], ◌∷◌, ◌++◌}
 use Rattle.std.proofs.Common.{Option, Some, None, slice_get}
-use Rattle.tm_terms.specs.declared.places.Place.{Place}
-use Rattle.tm_laid.specs.Layouts.{LaidTree}
-use Rattle.flow_graph.specs.declared.operations.Test.TheVariants as Tested
-use Rattle.flow_graph.specs.declared.operations.Operation.{Operation}
-use Rattle.flow_graph.specs.declared.operations.Operation.TheVariants as Op
-use Rattle.flow_graph.specs.Operations.{given}
+use Rattle.temporary_types.specs.tm_terms.declared.places.Place.{Place}
+use Rattle.temporary_types.specs.tm_laid.Layouts.{LaidTree}
+use Rattle.temporary_types.specs.flow_graph.declared.operations.Test.TheVariants as Tested
+use Rattle.temporary_types.specs.flow_graph.declared.operations.Operation.{Operation}
+use Rattle.temporary_types.specs.flow_graph.declared.operations.Operation.TheVariants as Op
+use Rattle.temporary_types.specs.flow_graph.Operations.{given}
 use Rattle.temporary_types.specs.Sorts.{Sort, HoldsNumbers, Works, Gives, GivesTo}
-use Rattle.lowering.specs.Steps.{Steps, Code, Fork, Plan, nothing_more, in_turn, all_steps, one_of}
-use Rattle.lowering.specs.Steps.{loop_while, loop_stepping, loop_until, select, break_off, go_on, give_back, Parts}
-use Rattle.lowering.specs.Steps.{no_parts, labelled, by_default, and_plan}
-use Rattle.lowering.specs.Built.{Building, place, branch, goto, meet, nowhere, temp_of, Sites, AfterPart}
-use Rattle.lowering.specs.Built.{Forked, Entered, Labels, Passed, steps_piece, code_piece, fork_piece}
-use Rattle.lowering.specs.Built.{is_break, is_continue, nodes_by, Onward, ToHead, Later, continued_at}
-use Rattle.lowering.specs.Built.{place_result, result_of, tests_piece, unless_default, first_of, behind_first, entered}
-use Rattle.lowering.specs.Built.{given_back, plan_piece, parts_piece}
+use Rattle.lowering_laws.specs.lowering.Steps.{Steps, Code, Fork, Plan, nothing_more, in_turn, all_steps, one_of}
+use Rattle.lowering_laws.specs.lowering.Steps.{loop_while, loop_stepping, loop_until, select, break_off, go_on}
+use Rattle.lowering_laws.specs.lowering.Steps.{give_back, Parts}
+use Rattle.lowering_laws.specs.lowering.Steps.{no_parts, labelled, by_default, and_plan}
+use Rattle.lowering_laws.specs.lowering.Built.{Building, place, branch, goto, meet, nowhere, temp_of, Sites, AfterPart}
+use Rattle.lowering_laws.specs.lowering.Built.{Forked, Entered, Labels, Passed, steps_piece, code_piece, fork_piece}
+use Rattle.lowering_laws.specs.lowering.Built.{is_break, is_continue, nodes_by, Onward, ToHead, Later, continued_at}
+use Rattle.lowering_laws.specs.lowering.Built.{place_result, result_of, tests_piece, unless_default, first_of}
+use Rattle.lowering_laws.specs.lowering.Built.{behind_first, entered}
+use Rattle.lowering_laws.specs.lowering.Built.{given_back, plan_piece, parts_piece}
 use Rattle.operation_laws.proofs.Within.{holds_own, Grows, grows_on, grows_same}
 use Rattle.operation_laws.proofs.StepSorts.{MaybeFork, AnySteps, MaybeCode, PlanFits}
 use Rattle.operation_laws.proofs.StepSorts.{PartsFit}

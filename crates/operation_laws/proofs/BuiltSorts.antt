@@ -6,27 +6,31 @@ use Rattle.std.specs.Prelude.{All}
 use Rattle.std.proofs.lemmas.Int.{ints}
 use Rattle.std.proofs.lemmas.Option.{none-some}
 use Rattle.std.proofs.lemmas.List.Elements.{All-nil, All-cons}
-use Rattle.tm_cint.specs.declared.int_types.IntType.TheVariants as Ints
-use Rattle.tm_terms.specs.declared.places.Place.{Place}
-use Rattle.tm_laid.specs.Layouts.{LaidTree}
-use Rattle.concrete_values.specs.Values.{truth_value}
-use Rattle.flow_graph.specs.declared.graphs.Edge.{Edge}
-use Rattle.flow_graph.specs.declared.operations.Test.{Test}
-use Rattle.flow_graph.specs.declared.operations.Operation.{Operation}
-use Rattle.flow_graph.specs.declared.operations.Operation.TheVariants as Op
-use Rattle.flow_graph.specs.Operations.{given}
-use Rattle.flow_graph.specs.Graphs.{Edges}
+use Rattle.temporary_types.specs.tm_cint.declared.int_types.IntType.TheVariants as Ints
+use Rattle.temporary_types.specs.tm_terms.declared.places.Place.{Place}
+use Rattle.temporary_types.specs.tm_laid.Layouts.{LaidTree}
+use Rattle.temporary_types.specs.concrete_values.Values.{truth_value}
+use Rattle.temporary_types.specs.flow_graph.declared.graphs.Edge.{Edge}
+use Rattle.temporary_types.specs.flow_graph.declared.operations.Test.{Test}
+use Rattle.temporary_types.specs.flow_graph.declared.operations.Operation.{Operation}
+use Rattle.temporary_types.specs.flow_graph.declared.operations.Operation.TheVariants as Op
+use Rattle.temporary_types.specs.flow_graph.Operations.{given}
+use Rattle.temporary_types.specs.flow_graph.Graphs.{Edges}
 use Rattle.temporary_types.specs.Sorts.{Sort, numbers, IsOfSort, WorksTest, Works, Gives, GivesTo, FitsSorts}
 use Rattle.temporary_types.specs.PointerMarks.{CopiesFollow}
-use Rattle.lowering.specs.Steps.{Steps, no_more, first_then, Step, operate, value_of, only_do, truth_of, choose}
-use Rattle.lowering.specs.Steps.{choose_only, call_of, Inputs, no_inputs, and_input, Code, code, Fork, fork_by}
-use Rattle.lowering.specs.Steps.{converse, both_of, either_of}
-use Rattle.lowering.specs.Built.{edge, at, renamed, renamed_test, Building, place_with, place, branch, goto, skips}
-use Rattle.lowering.specs.Built.{meet, back_to}
-use Rattle.lowering.specs.Built.{close_loop, temp_of, with_value, only_at, operated, truth_met, copied, copied_to}
-use Rattle.lowering.specs.Built.{Sites}
-use Rattle.lowering.specs.Built.{AfterSteps, AfterPart, Forked}
-use Rattle.lowering.specs.Built.{steps_piece, step_piece, inputs_piece, code_piece, fork_piece}
+use Rattle.lowering_laws.specs.lowering.Steps.{Steps, no_more, first_then, Step, operate, value_of, only_do, truth_of}
+use Rattle.lowering_laws.specs.lowering.Steps.{choose}
+use Rattle.lowering_laws.specs.lowering.Steps.{choose_only, call_of, Inputs, no_inputs, and_input, Code, code, Fork}
+use Rattle.lowering_laws.specs.lowering.Steps.{fork_by}
+use Rattle.lowering_laws.specs.lowering.Steps.{converse, both_of, either_of}
+use Rattle.lowering_laws.specs.lowering.Built.{edge, at, renamed, renamed_test, Building, place_with, place, branch}
+use Rattle.lowering_laws.specs.lowering.Built.{goto, skips}
+use Rattle.lowering_laws.specs.lowering.Built.{meet, back_to}
+use Rattle.lowering_laws.specs.lowering.Built.{close_loop, temp_of, with_value, only_at, operated, truth_met, copied}
+use Rattle.lowering_laws.specs.lowering.Built.{copied_to}
+use Rattle.lowering_laws.specs.lowering.Built.{Sites}
+use Rattle.lowering_laws.specs.lowering.Built.{AfterSteps, AfterPart, Forked}
+use Rattle.lowering_laws.specs.lowering.Built.{steps_piece, step_piece, inputs_piece, code_piece, fork_piece}
 use Rattle.operation_laws.proofs.Within.{holds_own, Maps, Grows, grows_on}
 use Rattle.operation_laws.proofs.Within.{grows_same, works_mapped, gives_mapped, tests_mapped, given_renamed}
 use Rattle.operation_laws.proofs.Within.{works_grown, fits_grown}

@@ -5,18 +5,18 @@ use Rattle.std.specs.Prelude.{◌≤ℤ◌, int_le, if◌then◌else◌}
 use Rattle.std.proofs.lemmas.Bool.{and_from, false≢true}
 use Rattle.std.proofs.lemmas.Int.{ints}
 use Rattle.std.proofs.Common.{arith}
-use Rattle.tm_cint.specs.declared.int_types.IntType.{IntType}
-use Rattle.tm_cint.specs.declared.int_types.IntType.TheVariants as Ints
-use Rattle.tm_cint.specs.declared.operators.BinOp.{BinOp}
-use Rattle.tm_cint.specs.declared.operators.BinOp.TheVariants as Bins
-use Rattle.tm_cint.specs.IntTypes.{lo_of, hi_of, IsIn}
-use Rattle.tm_cint.specs.Conversions.{converted_value, represents_all}
-use Rattle.tm_cint.specs.Operators.{result_type}
-use Rattle.tm_typed.specs.Rules.{is_comparison, FitsRight}
-use Rattle.tm_laid.specs.Layouts.{LaidTree}
+use Rattle.temporary_types.specs.tm_cint.declared.int_types.IntType.{IntType}
+use Rattle.temporary_types.specs.tm_cint.declared.int_types.IntType.TheVariants as Ints
+use Rattle.temporary_types.specs.tm_cint.declared.operators.BinOp.{BinOp}
+use Rattle.temporary_types.specs.tm_cint.declared.operators.BinOp.TheVariants as Bins
+use Rattle.temporary_types.specs.tm_cint.IntTypes.{lo_of, hi_of, IsIn}
+use Rattle.temporary_types.specs.tm_cint.Conversions.{converted_value, represents_all}
+use Rattle.temporary_types.specs.tm_cint.Operators.{result_type}
+use Rattle.temporary_types.specs.tm_typed.Rules.{is_comparison, FitsRight}
+use Rattle.temporary_types.specs.tm_laid.Layouts.{LaidTree}
 use Rattle.temporary_types.specs.Sorts.{Sort, numbers, Holds, HoldsRight, outcome_type}
-use Rattle.lowering.specs.Steps.{Steps, Code}
-use Rattle.lowering.specs.Table.{Conversion, conversion, convert_then, converted_at, more_after, operands}
+use Rattle.lowering_laws.specs.lowering.Steps.{Steps, Code}
+use Rattle.lowering_laws.specs.lowering.Table.{Conversion, conversion, convert_then, converted_at, more_after, operands}
 use Rattle.operation_laws.proofs.Within.{within_self, truth_within, within_through, holds_wider, holds_mapped, Grows}
 use Rattle.operation_laws.proofs.Within.{grows_same}
 use Rattle.operation_laws.proofs.StepSorts.{StepsFit, CodeFits}

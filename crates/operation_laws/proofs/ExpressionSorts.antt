@@ -5,45 +5,52 @@ use Rattle.std.specs.Prelude.{pos, if◌then◌else◌}
 use Rattle.std.proofs.lemmas.Option.{none-some, same_Some}
 use Rattle.std.proofs.lemmas.Bool.{false≢true}
 use Rattle.std.proofs.lemmas.Int.{ints}
-use Rattle.tm_cint.specs.declared.int_types.IntType.{IntType}
-use Rattle.tm_cint.specs.declared.int_types.IntType.TheVariants as Ints
-use Rattle.tm_cint.specs.declared.operators.BinOp.TheVariants as Bins
-use Rattle.tm_cint.specs.IntTypes.{IsIn}
-use Rattle.tm_cint.specs.Operators.{result_type}
-use Rattle.tm_typed.specs.declared.types.CType.{CType}
-use Rattle.tm_typed.specs.declared.types.CType.TheVariants as Types
-use Rattle.tm_typed.specs.declared.types.Scalar.{Scalar}
-use Rattle.tm_typed.specs.declared.types.Scalar.TheVariants as Scalars
-use Rattle.tm_typed.specs.declared.expressions.Step.{Step as StepBy}
-use Rattle.tm_typed.specs.declared.scopes.ObjectNumber.{ObjectNumber}
-use Rattle.tm_typed.specs.declared.scopes.ObjectNumber.TheVariants as Objects
-use Rattle.tm_typed.specs.declared.files.LocalEntry.{LocalEntry}
-use Rattle.tm_typed.specs.Scopes.{Scope, Function, ctype_of}
-use Rattle.tm_typed.specs.Operands.{scalar_of, kept_sort}
-use Rattle.tm_typed.specs.TypeRows.{is_pointer_type}
-use Rattle.tm_typed.specs.Rules.{is_comparison, FitsRight}
-use Rattle.tm_typed.specs.Files.{TypedFunctionTree, no_typed_function}
-use Rattle.tm_typed.specs.TypedTrees.{RvalueTree, a_constant, a_folded, a_null, a_load, an_address, a_structure}
-use Rattle.tm_typed.specs.TypedTrees.{the_same, a_unary, a_binary, a_comparison_of_pointers, a_move, a_not, an_and}
-use Rattle.tm_typed.specs.TypedTrees.{an_or, a_choice, an_assignment, a_compound, a_compound_move, a_unit_step}
-use Rattle.tm_typed.specs.TypedTrees.{a_pointer_step, a_function_call, an_input_value, a_probe, a_comma, a_conversion}
-use Rattle.tm_typed.specs.TypedTrees.{a_discard, LvalueTree, an_object, an_element, a_pointed_element, a_pointed}
-use Rattle.tm_typed.specs.TypedTrees.{an_arrow, a_part, RvalueTrees, no_rvalues, and_rvalue, lvalue_place}
-use Rattle.tm_typed.specs.WellTyped.{ValueKind, a_number, a_pointer, no_value, kind_of_scalar, kind_of}
-use Rattle.tm_typed.specs.WellTyped.{Context, IsRvalue, IsLvalue, AreArguments}
-use Rattle.tm_laid.specs.Layouts.{LaidTree, object_of}
-use Rattle.c_folds.proofs.ConvertedValues.{converted_is_in}
-use Rattle.concrete_values.specs.declared.values.Value.TheVariants.{Number}
-use Rattle.concrete_steps.specs.Places.{rvalue_place, is_pointer_scalar, gives_pointer}
-use Rattle.concrete_steps.specs.NextAction.{step_operator}
-use Rattle.flow_graph.specs.declared.operations.Operation.TheVariants as Op
-use Rattle.typed_file_laws.specs.Mentions.{Mentions, LvalueMentions, AllMention}
-use Rattle.typed_file_laws.specs.TypedBodies.{file_context, called}
-use Rattle.typed_file_laws.specs.Lawful.{object_type}
+use Rattle.temporary_types.specs.tm_cint.declared.int_types.IntType.{IntType}
+use Rattle.temporary_types.specs.tm_cint.declared.int_types.IntType.TheVariants as Ints
+use Rattle.temporary_types.specs.tm_cint.declared.operators.BinOp.TheVariants as Bins
+use Rattle.temporary_types.specs.tm_cint.IntTypes.{IsIn}
+use Rattle.temporary_types.specs.tm_cint.Operators.{result_type}
+use Rattle.temporary_types.specs.tm_typed.declared.types.CType.{CType}
+use Rattle.temporary_types.specs.tm_typed.declared.types.CType.TheVariants as Types
+use Rattle.temporary_types.specs.tm_typed.declared.types.Scalar.{Scalar}
+use Rattle.temporary_types.specs.tm_typed.declared.types.Scalar.TheVariants as Scalars
+use Rattle.temporary_types.specs.tm_typed.declared.expressions.Step.{Step as StepBy}
+use Rattle.temporary_types.specs.tm_typed.declared.scopes.ObjectNumber.{ObjectNumber}
+use Rattle.temporary_types.specs.tm_typed.declared.scopes.ObjectNumber.TheVariants as Objects
+use Rattle.temporary_types.specs.tm_typed.declared.files.LocalEntry.{LocalEntry}
+use Rattle.temporary_types.specs.tm_typed.Scopes.{Scope, Function, ctype_of}
+use Rattle.temporary_types.specs.tm_typed.Operands.{scalar_of, kept_sort}
+use Rattle.temporary_types.specs.tm_typed.TypeRows.{is_pointer_type}
+use Rattle.temporary_types.specs.tm_typed.Rules.{is_comparison, FitsRight}
+use Rattle.temporary_types.specs.tm_typed.Files.{TypedFunctionTree, no_typed_function}
+use Rattle.temporary_types.specs.tm_typed.TypedTrees.{RvalueTree, a_constant, a_folded, a_null, a_load, an_address}
+use Rattle.temporary_types.specs.tm_typed.TypedTrees.{a_structure}
+use Rattle.temporary_types.specs.tm_typed.TypedTrees.{the_same, a_unary, a_binary, a_comparison_of_pointers, a_move}
+use Rattle.temporary_types.specs.tm_typed.TypedTrees.{a_not, an_and}
+use Rattle.temporary_types.specs.tm_typed.TypedTrees.{an_or, a_choice, an_assignment, a_compound, a_compound_move}
+use Rattle.temporary_types.specs.tm_typed.TypedTrees.{a_unit_step}
+use Rattle.temporary_types.specs.tm_typed.TypedTrees.{a_pointer_step, a_function_call, an_input_value, a_probe, a_comma}
+use Rattle.temporary_types.specs.tm_typed.TypedTrees.{a_conversion}
+use Rattle.temporary_types.specs.tm_typed.TypedTrees.{a_discard, LvalueTree, an_object, an_element, a_pointed_element}
+use Rattle.temporary_types.specs.tm_typed.TypedTrees.{a_pointed}
+use Rattle.temporary_types.specs.tm_typed.TypedTrees.{an_arrow, a_part, RvalueTrees, no_rvalues, and_rvalue}
+use Rattle.temporary_types.specs.tm_typed.TypedTrees.{lvalue_place}
+use Rattle.temporary_types.specs.tm_typed.WellTyped.{ValueKind, a_number, a_pointer, no_value, kind_of_scalar, kind_of}
+use Rattle.temporary_types.specs.tm_typed.WellTyped.{Context, IsRvalue, IsLvalue, AreArguments}
+use Rattle.temporary_types.specs.tm_laid.Layouts.{LaidTree, object_of}
+use Rattle.next_action_laws.proofs.low.c_folds.ConvertedValues.{converted_is_in}
+use Rattle.temporary_types.specs.concrete_values.declared.values.Value.TheVariants.{Number}
+use Rattle.next_action_laws.specs.concrete_steps.Places.{rvalue_place, is_pointer_scalar, gives_pointer}
+use Rattle.next_action_laws.specs.concrete_steps.NextAction.{step_operator}
+use Rattle.temporary_types.specs.flow_graph.declared.operations.Operation.TheVariants as Op
+use Rattle.next_action_laws.specs.typed_file_laws.Mentions.{Mentions, LvalueMentions, AllMention}
+use Rattle.next_action_laws.specs.typed_file_laws.TypedBodies.{file_context, called}
+use Rattle.next_action_laws.specs.typed_file_laws.Lawful.{object_type}
 use Rattle.temporary_types.specs.Sorts.{Sort, numbers, pointers, sort_of_scalar, Within, LeadsInto, IsMutex}
-use Rattle.lowering.specs.Steps.{no_more, first_then, operate, value_of, code}
-use Rattle.lowering.specs.Table.{codes, address_code, inputs, into, implied, has_value, call_has_value, is_same_place}
-use Rattle.lowering.specs.Table.{is_value_type}
+use Rattle.lowering_laws.specs.lowering.Steps.{no_more, first_then, operate, value_of, code}
+use Rattle.lowering_laws.specs.lowering.Table.{codes, address_code, inputs, into, implied, has_value, call_has_value}
+use Rattle.lowering_laws.specs.lowering.Table.{is_same_place}
+use Rattle.lowering_laws.specs.lowering.Table.{is_value_type}
 use Rattle.lowering_laws.proofs.Operands.{is_value, AreCalled, gives}
 use Rattle.operation_laws.proofs.Within.{within_self}
 use Rattle.operation_laws.proofs.StepSorts.{StepFits, InputsFit, CodeFits}

@@ -2,17 +2,18 @@
 use Rattle.std.proofs.Common.{◌≡◌, refl, sym, subst, ℕ, ◌<◌, ◌≤◌, Bool, true, false, List, length, arith}
 use Rattle.std.specs.Prelude.{cond, find, Option, Some, None, Ok}
 use Rattle.std.proofs.lemmas.Option.{none-some, slice_get_within}
-use Rattle.tm_terms.specs.declared.refusals.Limit.{Limit}
-use Rattle.tm_terms.specs.declared.refusals.Limit.TheVariants as Limits
-use Rattle.tm_terms.specs.declared.tokens.Name.{Name}
-use Rattle.tm_trees.specs.FileTrees.{ItemTree}
-use Rattle.tm_typed.specs.Files.{TypedFileTree, IsTyped}
-use Rattle.tm_typed.specs.WellTyped.{OnAnswer}
-use Rattle.tm_laid.specs.Layouts.{LaidTree, layout_of, laid_limits, is_exceeded, unless_beyond, laid_out}
-use Rattle.typing_laws.proofs.Steps.{from_answer}
-use Rattle.typed_file_laws.proofs.TypedBodies.{bodies_are_well_formed}
-use Rattle.typed_file_laws.proofs.MentionFiles.{sites_stand}
-use Rattle.lowering.specs.Built.{built, graph_of}
+use Rattle.temporary_types.specs.tm_terms.declared.refusals.Limit.{Limit}
+use Rattle.temporary_types.specs.tm_terms.declared.refusals.Limit.TheVariants as Limits
+use Rattle.temporary_types.specs.tm_terms.declared.tokens.Name.{Name}
+use Rattle.temporary_types.specs.tm_trees.FileTrees.{ItemTree}
+use Rattle.temporary_types.specs.tm_typed.Files.{TypedFileTree, IsTyped}
+use Rattle.temporary_types.specs.tm_typed.WellTyped.{OnAnswer}
+use Rattle.temporary_types.specs.tm_laid.Layouts.{LaidTree, layout_of, laid_limits, is_exceeded, unless_beyond}
+use Rattle.temporary_types.specs.tm_laid.Layouts.{laid_out}
+use Rattle.next_action_laws.proofs.low.typing_laws.Steps.{from_answer}
+use Rattle.next_action_laws.proofs.low.typed_file_laws.TypedBodies.{bodies_are_well_formed}
+use Rattle.next_action_laws.proofs.low.typed_file_laws.MentionFiles.{sites_stand}
+use Rattle.lowering_laws.specs.lowering.Built.{built, graph_of}
 use Rattle.next_action_laws.proofs.RegularFiles.{bodies_are_regular}
 use Rattle.lowering_laws.specs.LaidFiles.{IsLaidFile}
 use Rattle.lowering_laws.proofs.Founded.{file_layable}

@@ -4,12 +4,12 @@ use Rattle.std.proofs.Common.{◌≡◌, refl, sym, subst, ℕ, suc, ◌<◌, �
 use Rattle.std.proofs.lemmas.Bool.{cases_eq}
 use Rattle.std.proofs.lemmas.Option.{slice_get_within}
 use Rattle.std.proofs.lemmas.List.{append-nil, append_assoc}
-use Rattle.tm_laid.specs.Layouts.{LaidTree}
-use Rattle.flow_graph.specs.declared.graphs.Edge.{Edge}
-use Rattle.flow_graph.specs.declared.operations.Operation.{Operation}
-use Rattle.flow_graph.specs.declared.operations.Operation.TheVariants as Op
-use Rattle.flow_graph.specs.Operations.{given}
-use Rattle.flow_graph.specs.Graphs.{Edges, Among}
+use Rattle.temporary_types.specs.tm_laid.Layouts.{LaidTree}
+use Rattle.temporary_types.specs.flow_graph.declared.graphs.Edge.{Edge}
+use Rattle.temporary_types.specs.flow_graph.declared.operations.Operation.{Operation}
+use Rattle.temporary_types.specs.flow_graph.declared.operations.Operation.TheVariants as Op
+use Rattle.temporary_types.specs.flow_graph.Operations.{given}
+use Rattle.temporary_types.specs.flow_graph.Graphs.{Edges, Among}
 use Rattle.temporary_types.specs.Sorts.{Sort, Works}
 use Rattle.temporary_types.specs.PointerMarks.{IsGivenIn, IsCopyOfGiven, CopiesFollow, AreCopiesOfGiven}
 

@@ -9,3 +9,4 @@ pub mod ExpressionSorts
 pub mod StatementSorts
 pub mod BodySorts
 pub mod FileSorts
+pub mod low

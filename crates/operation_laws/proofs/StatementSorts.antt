@@ -6,37 +6,44 @@ use Rattle.std.proofs.lemmas.Bool.{eqb-true}
 use Rattle.std.proofs.lemmas.Int.{ints}
 use Rattle.std.proofs.Common.{arith}
 use Rattle.std.proofs.lemmas.List.Elements.{All-nil, All-cons, All-head, All-tail}
-use Rattle.tm_cint.specs.declared.int_types.IntType.{IntType}
-use Rattle.tm_cint.specs.declared.int_types.IntType.TheVariants as Ints
-use Rattle.tm_cint.specs.IntTypes.{IsIn}
-use Rattle.tm_terms.specs.declared.places.Place.{Place}
-use Rattle.tm_typed.specs.declared.types.CType.{CType}
-use Rattle.tm_typed.specs.declared.types.CType.TheVariants as Types
-use Rattle.tm_typed.specs.declared.types.TypeEntry.{TypeEntry}
-use Rattle.tm_typed.specs.declared.types.Scalar.{Scalar}
-use Rattle.tm_typed.specs.declared.types.Scalar.TheVariants as Scalars
-use Rattle.tm_typed.specs.declared.scopes.ObjectNumber.TheVariants as Objects
-use Rattle.tm_typed.specs.declared.files.LocalEntry.{LocalEntry}
-use Rattle.tm_typed.specs.Scopes.{ctype_of, entry}
-use Rattle.tm_typed.specs.Operands.{scalar_by}
-use Rattle.tm_typed.specs.TypedTrees.{RvalueTree}
-use Rattle.tm_typed.specs.WellTyped.{a_number, kind_of_scalar, Context}
-use Rattle.tm_typed.specs.TypedStatements.{GivenTree, LocalInitialiserTree, LocalTree, TypedTree, evaluates, declares}
-use Rattle.tm_typed.specs.TypedStatements.{runs_block, branches, branches_else, loops_while, loops_do, loops_for}
-use Rattle.tm_typed.specs.TypedStatements.{selects, breaks, continues, returns, locks, unlocks, yields, TypedTrees}
-use Rattle.tm_typed.specs.TypedStatements.{no_statements, and_statement, a_label, a_default_label, a_labelled_step}
-use Rattle.tm_typed.specs.TypedStatements.{TypedCase, TypedCases, no_typed_cases, and_typed_case}
-use Rattle.tm_laid.specs.Layouts.{LaidTree, object_at, object_of}
-use Rattle.concrete_steps.specs.NextAction.{scalar_at, is_given, rest_of}
-use Rattle.typed_file_laws.specs.Bodies.{IsAnyRvalue, IsTest, IfGiven, IsGivenCell, AreGivenBy, IsLocal, IsReturned}
-use Rattle.typed_file_laws.specs.Bodies.{IsStatement, AreStatements, AreParts, IsPart}
-use Rattle.typed_file_laws.specs.Mentions.{Mentions, MayMention, GivenMention, StatementMentions, StatementsMention}
-use Rattle.typed_file_laws.specs.Mentions.{CasesMention, CaseMentions}
+use Rattle.temporary_types.specs.tm_cint.declared.int_types.IntType.{IntType}
+use Rattle.temporary_types.specs.tm_cint.declared.int_types.IntType.TheVariants as Ints
+use Rattle.temporary_types.specs.tm_cint.IntTypes.{IsIn}
+use Rattle.temporary_types.specs.tm_terms.declared.places.Place.{Place}
+use Rattle.temporary_types.specs.tm_typed.declared.types.CType.{CType}
+use Rattle.temporary_types.specs.tm_typed.declared.types.CType.TheVariants as Types
+use Rattle.temporary_types.specs.tm_typed.declared.types.TypeEntry.{TypeEntry}
+use Rattle.temporary_types.specs.tm_typed.declared.types.Scalar.{Scalar}
+use Rattle.temporary_types.specs.tm_typed.declared.types.Scalar.TheVariants as Scalars
+use Rattle.temporary_types.specs.tm_typed.declared.scopes.ObjectNumber.TheVariants as Objects
+use Rattle.temporary_types.specs.tm_typed.declared.files.LocalEntry.{LocalEntry}
+use Rattle.temporary_types.specs.tm_typed.Scopes.{ctype_of, entry}
+use Rattle.temporary_types.specs.tm_typed.Operands.{scalar_by}
+use Rattle.temporary_types.specs.tm_typed.TypedTrees.{RvalueTree}
+use Rattle.temporary_types.specs.tm_typed.WellTyped.{a_number, kind_of_scalar, Context}
+use Rattle.temporary_types.specs.tm_typed.TypedStatements.{GivenTree, LocalInitialiserTree, LocalTree, TypedTree}
+use Rattle.temporary_types.specs.tm_typed.TypedStatements.{evaluates, declares}
+use Rattle.temporary_types.specs.tm_typed.TypedStatements.{runs_block, branches, branches_else, loops_while, loops_do}
+use Rattle.temporary_types.specs.tm_typed.TypedStatements.{loops_for}
+use Rattle.temporary_types.specs.tm_typed.TypedStatements.{selects, breaks, continues, returns, locks, unlocks, yields}
+use Rattle.temporary_types.specs.tm_typed.TypedStatements.{TypedTrees}
+use Rattle.temporary_types.specs.tm_typed.TypedStatements.{no_statements, and_statement, a_label, a_default_label}
+use Rattle.temporary_types.specs.tm_typed.TypedStatements.{a_labelled_step}
+use Rattle.temporary_types.specs.tm_typed.TypedStatements.{TypedCase, TypedCases, no_typed_cases, and_typed_case}
+use Rattle.temporary_types.specs.tm_laid.Layouts.{LaidTree, object_at, object_of}
+use Rattle.next_action_laws.specs.concrete_steps.NextAction.{scalar_at, is_given, rest_of}
+use Rattle.next_action_laws.specs.typed_file_laws.Bodies.{IsAnyRvalue, IsTest, IfGiven, IsGivenCell, AreGivenBy}
+use Rattle.next_action_laws.specs.typed_file_laws.Bodies.{IsLocal, IsReturned}
+use Rattle.next_action_laws.specs.typed_file_laws.Bodies.{IsStatement, AreStatements, AreParts, IsPart}
+use Rattle.next_action_laws.specs.typed_file_laws.Mentions.{Mentions, MayMention, GivenMention, StatementMentions}
+use Rattle.next_action_laws.specs.typed_file_laws.Mentions.{StatementsMention}
+use Rattle.next_action_laws.specs.typed_file_laws.Mentions.{CasesMention, CaseMentions}
 use Rattle.temporary_types.specs.Sorts.{Sort, numbers, pointers, sort_of_scalar, Within}
-use Rattle.lowering.specs.Steps.{Steps, Code, Parts}
-use Rattle.lowering.specs.Table.{codes, nothing_stored, cell_value, cell_code, is_alone, cells_stored, initialised}
-use Rattle.lowering.specs.Table.{locals_steps, effect_steps, optional_fork, optional_code, plan, plans}
-use Rattle.lowering.specs.Table.{part_then, parts}
+use Rattle.lowering_laws.specs.lowering.Steps.{Steps, Code, Parts}
+use Rattle.lowering_laws.specs.lowering.Table.{codes, nothing_stored, cell_value, cell_code, is_alone, cells_stored}
+use Rattle.lowering_laws.specs.lowering.Table.{initialised}
+use Rattle.lowering_laws.specs.lowering.Table.{locals_steps, effect_steps, optional_fork, optional_code, plan, plans}
+use Rattle.lowering_laws.specs.lowering.Table.{part_then, parts}
 use Rattle.next_action_laws.specs.Regular.{HasScalar, GivesCells, IsRegular, AreRegular, AreRegularParts}
 use Rattle.next_action_laws.specs.Regular.{IsRegularPart}
 use Rattle.operation_laws.proofs.Within.{within_self}

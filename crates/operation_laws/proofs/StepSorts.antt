@@ -1,17 +1,21 @@
 -- Steps whose variables have sorts: what is done for an expression or a statement fits them.
 use Rattle.std.proofs.Common.{◌≡◌, ℕ, List, [], ◌∷◌, ◌++◌, true, false, Option, Some, None, slice_get}
-use Rattle.tm_cint.specs.declared.int_types.IntType.{IntType}
-use Rattle.tm_cint.specs.declared.int_types.IntType.TheVariants as Ints
-use Rattle.tm_laid.specs.Layouts.{LaidTree}
-use Rattle.flow_graph.specs.declared.operations.Operation.{Operation}
-use Rattle.flow_graph.specs.Operations.{given}
+use Rattle.temporary_types.specs.tm_cint.declared.int_types.IntType.{IntType}
+use Rattle.temporary_types.specs.tm_cint.declared.int_types.IntType.TheVariants as Ints
+use Rattle.temporary_types.specs.tm_laid.Layouts.{LaidTree}
+use Rattle.temporary_types.specs.flow_graph.declared.operations.Operation.{Operation}
+use Rattle.temporary_types.specs.flow_graph.Operations.{given}
 use Rattle.temporary_types.specs.Sorts.{Sort, numbers, Within, WorksTest, Works, Gives}
-use Rattle.lowering.specs.Steps.{Steps, no_more, first_then, Step, operate, value_of, only_do, truth_of, choose}
-use Rattle.lowering.specs.Steps.{choose_only, call_of, Inputs, no_inputs, and_input, Code, code, Fork, fork_by}
-use Rattle.lowering.specs.Steps.{converse}
-use Rattle.lowering.specs.Steps.{both_of, either_of, Plan, nothing_more, in_turn, all_steps, one_of, loop_while}
-use Rattle.lowering.specs.Steps.{loop_stepping, loop_until, select, break_off, go_on, give_back, Parts, no_parts}
-use Rattle.lowering.specs.Steps.{labelled, by_default, and_plan}
+use Rattle.lowering_laws.specs.lowering.Steps.{Steps, no_more, first_then, Step, operate, value_of, only_do, truth_of}
+use Rattle.lowering_laws.specs.lowering.Steps.{choose}
+use Rattle.lowering_laws.specs.lowering.Steps.{choose_only, call_of, Inputs, no_inputs, and_input, Code, code, Fork}
+use Rattle.lowering_laws.specs.lowering.Steps.{fork_by}
+use Rattle.lowering_laws.specs.lowering.Steps.{converse}
+use Rattle.lowering_laws.specs.lowering.Steps.{both_of, either_of, Plan, nothing_more, in_turn, all_steps, one_of}
+use Rattle.lowering_laws.specs.lowering.Steps.{loop_while}
+use Rattle.lowering_laws.specs.lowering.Steps.{loop_stepping, loop_until, select, break_off, go_on, give_back, Parts}
+use Rattle.lowering_laws.specs.lowering.Steps.{no_parts}
+use Rattle.lowering_laws.specs.lowering.Steps.{labelled, by_default, and_plan}
 
 -- the sorts of the variables, and of one more, if there is one
 abbrev pub with_var : List Sort → Option Sort → List Sort

@@ -4,30 +4,33 @@ use Rattle.std.proofs.Common.{◌++◌, length, Option, Some, None, slice_get, a
 use Rattle.std.specs.Prelude.{pos, if◌then◌else◌}
 use Rattle.std.proofs.lemmas.Bool.{false≢true, true≢false}
 use Rattle.std.proofs.lemmas.Int.{ints}
-use Rattle.tm_cint.specs.declared.int_types.IntType.{IntType}
-use Rattle.tm_cint.specs.declared.int_types.IntType.TheVariants as Ints
-use Rattle.tm_cint.specs.declared.operators.BinOp.{BinOp}
-use Rattle.tm_cint.specs.IntTypes.{IsIn}
-use Rattle.tm_cint.specs.Conversions.{represents_all}
-use Rattle.tm_cint.specs.Operators.{result_type}
-use Rattle.tm_terms.specs.declared.places.Place.{Place}
-use Rattle.tm_typed.specs.declared.types.Scalar.{Scalar}
-use Rattle.tm_typed.specs.declared.types.Scalar.TheVariants as Scalars
-use Rattle.tm_typed.specs.Rules.{is_comparison, FitsRight}
-use Rattle.tm_typed.specs.WellTyped.{ValueKind, a_number, a_pointer, no_value, kind_of_scalar, IsCondition}
-use Rattle.tm_laid.specs.Layouts.{LaidTree}
-use Rattle.concrete_values.specs.declared.values.Value.TheVariants.{Number}
-use Rattle.flow_graph.specs.declared.operations.Into.{Into}
-use Rattle.flow_graph.specs.declared.operations.Operation.TheVariants as Op
+use Rattle.temporary_types.specs.tm_cint.declared.int_types.IntType.{IntType}
+use Rattle.temporary_types.specs.tm_cint.declared.int_types.IntType.TheVariants as Ints
+use Rattle.temporary_types.specs.tm_cint.declared.operators.BinOp.{BinOp}
+use Rattle.temporary_types.specs.tm_cint.IntTypes.{IsIn}
+use Rattle.temporary_types.specs.tm_cint.Conversions.{represents_all}
+use Rattle.temporary_types.specs.tm_cint.Operators.{result_type}
+use Rattle.temporary_types.specs.tm_terms.declared.places.Place.{Place}
+use Rattle.temporary_types.specs.tm_typed.declared.types.Scalar.{Scalar}
+use Rattle.temporary_types.specs.tm_typed.declared.types.Scalar.TheVariants as Scalars
+use Rattle.temporary_types.specs.tm_typed.Rules.{is_comparison, FitsRight}
+use Rattle.temporary_types.specs.tm_typed.WellTyped.{ValueKind, a_number, a_pointer, no_value, kind_of_scalar}
+use Rattle.temporary_types.specs.tm_typed.WellTyped.{IsCondition}
+use Rattle.temporary_types.specs.tm_laid.Layouts.{LaidTree}
+use Rattle.temporary_types.specs.concrete_values.declared.values.Value.TheVariants.{Number}
+use Rattle.temporary_types.specs.flow_graph.declared.operations.Into.{Into}
+use Rattle.temporary_types.specs.flow_graph.declared.operations.Operation.TheVariants as Op
 use Rattle.temporary_types.specs.Sorts.{Sort, numbers, pointers, sort_of_scalar, Within, Holds, HoldsRight, LeadsInto}
 use Rattle.temporary_types.specs.Sorts.{outcome_type}
-use Rattle.lowering.specs.Steps.{Steps, no_more, first_then, Step, operate, value_of}
-use Rattle.lowering.specs.Steps.{Inputs, Code, code, Fork}
-use Rattle.lowering.specs.Table.{Conversion, conversion, convert_then, converted_at, more_after, Codes, valued, decided}
-use Rattle.lowering.specs.Table.{binary_code, binary_codes, pointers_codes}
-use Rattle.lowering.specs.Table.{move_code, loading, load_code, choice_code, comma_code, assignment_code, changed_steps}
-use Rattle.lowering.specs.Table.{changed_at, compound_with, unit_step_with, moved_code, converted_code}
-use Rattle.lowering.specs.Table.{call_code}
+use Rattle.lowering_laws.specs.lowering.Steps.{Steps, no_more, first_then, Step, operate, value_of}
+use Rattle.lowering_laws.specs.lowering.Steps.{Inputs, Code, code, Fork}
+use Rattle.lowering_laws.specs.lowering.Table.{Conversion, conversion, convert_then, converted_at, more_after, Codes}
+use Rattle.lowering_laws.specs.lowering.Table.{valued, decided}
+use Rattle.lowering_laws.specs.lowering.Table.{binary_code, binary_codes, pointers_codes}
+use Rattle.lowering_laws.specs.lowering.Table.{move_code, loading, load_code, choice_code, comma_code, assignment_code}
+use Rattle.lowering_laws.specs.lowering.Table.{changed_steps}
+use Rattle.lowering_laws.specs.lowering.Table.{changed_at, compound_with, unit_step_with, moved_code, converted_code}
+use Rattle.lowering_laws.specs.lowering.Table.{call_code}
 use Rattle.lowering_laws.proofs.Operands.{is_value}
 use Rattle.operation_laws.proofs.Within.{within_self, Grows, grows_on}
 use Rattle.operation_laws.proofs.StepSorts.{StepsFit, StepFits, InputsFit, CodeFits, ForkFits}

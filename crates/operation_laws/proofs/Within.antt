@@ -4,21 +4,21 @@ use Rattle.std.proofs.Common.{Option, Some, None, slice_get, arith, ℤ}
 use Rattle.std.specs.Prelude.{◌≤ℤ◌, int_le}
 use Rattle.std.proofs.lemmas.Bool.{and_parts, and_from}
 use Rattle.std.proofs.lemmas.Int.{ints}
-use Rattle.tm_cint.specs.declared.int_types.IntType.{IntType}
-use Rattle.tm_cint.specs.declared.int_types.IntType.TheVariants as Ints
-use Rattle.tm_cint.specs.declared.operators.BinOp.{BinOp}
-use Rattle.tm_cint.specs.declared.operators.BinOp.TheVariants as Bins
-use Rattle.tm_cint.specs.IntTypes.{lo_of, hi_of}
-use Rattle.tm_cint.specs.Conversions.{represents_all}
-use Rattle.tm_laid.specs.Layouts.{LaidTree}
-use Rattle.flow_graph.specs.declared.operations.Test.{Test}
-use Rattle.flow_graph.specs.declared.operations.Test.TheVariants as Tested
-use Rattle.flow_graph.specs.declared.operations.Operation.{Operation}
-use Rattle.flow_graph.specs.declared.operations.Operation.TheVariants as Op
-use Rattle.flow_graph.specs.Operations.{given, opposite}
+use Rattle.temporary_types.specs.tm_cint.declared.int_types.IntType.{IntType}
+use Rattle.temporary_types.specs.tm_cint.declared.int_types.IntType.TheVariants as Ints
+use Rattle.temporary_types.specs.tm_cint.declared.operators.BinOp.{BinOp}
+use Rattle.temporary_types.specs.tm_cint.declared.operators.BinOp.TheVariants as Bins
+use Rattle.temporary_types.specs.tm_cint.IntTypes.{lo_of, hi_of}
+use Rattle.temporary_types.specs.tm_cint.Conversions.{represents_all}
+use Rattle.temporary_types.specs.tm_laid.Layouts.{LaidTree}
+use Rattle.temporary_types.specs.flow_graph.declared.operations.Test.{Test}
+use Rattle.temporary_types.specs.flow_graph.declared.operations.Test.TheVariants as Tested
+use Rattle.temporary_types.specs.flow_graph.declared.operations.Operation.{Operation}
+use Rattle.temporary_types.specs.flow_graph.declared.operations.Operation.TheVariants as Op
+use Rattle.temporary_types.specs.flow_graph.Operations.{given, opposite}
 use Rattle.temporary_types.specs.Sorts.{Sort, numbers, pointers, Within, Holds, HoldsNumbers, HoldsAny, HoldsRight}
 use Rattle.temporary_types.specs.Sorts.{WorksTest, Works, Gives, GivesTo, FitsSorts}
-use Rattle.lowering.specs.Built.{renamed_test, renamed}
+use Rattle.lowering_laws.specs.lowering.Built.{renamed_test, renamed}
 
 -- ## Sorts within others
 

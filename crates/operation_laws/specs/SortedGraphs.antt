@@ -1,7 +1,7 @@
 -- Graphs whose temporaries have sorts.
 use Rattle.std.specs.Prelude.{◌≡◌, ℕ, List, length}
-use Rattle.tm_laid.specs.Layouts.{LaidTree}
-use Rattle.flow_graph.specs.Graphs.{Edges}
+use Rattle.temporary_types.specs.tm_laid.Layouts.{LaidTree}
+use Rattle.temporary_types.specs.flow_graph.Graphs.{Edges}
 use Rattle.temporary_types.specs.Sorts.{Sort, AreSorts}
 
 -- each of so many temporaries has one sort, and all operations of the graph fit them

@@ -1,7 +1,7 @@
 //! The laws, the contracts of functions that do nothing.
 ghost use Rattle.std.specs.Prelude.{ℕ, ◌<◌, length};
-ghost use Rattle.tm_laid.specs.Layouts.{LaidTree};
-ghost use Rattle.lowering.specs.Built.{built, graph_of};
+ghost use Rattle.temporary_types.specs.tm_laid.Layouts.{LaidTree};
+ghost use Rattle.lowering_laws.specs.lowering.Built.{built, graph_of};
 ghost use Rattle.lowering_laws.specs.LaidFiles.{IsLaidFile};
 ghost use Rattle.temporary_types.specs.PointerMarks.{AreCopiesOfGiven, pointer_marks, Tells};
 ghost use Rattle.operation_laws.specs.SortedGraphs.{HasSorts};

@@ -1,15 +1,15 @@
 -- Two answers to one relation are equal.
 use Rattle.std.proofs.Common.{◌≡◌, Bool, true, false, ℤ}
-use Rattle.strided_dom.specs.Combinations.{IsInBoth}
-use Rattle.pointer_dom.specs.Pointer.{Pointer}
-use Rattle.pointer_dom.specs.PointerSets.{Pointers, IsPointers}
-use Rattle.pointer_dom.specs.Values.{Values, IsValues, IsValuesMeet}
-use Rattle.pointer_dom.specs.Advances.{IsAdvance}
-use Rattle.pointer_dom.specs.Selections.{IsHullOfPointers}
-use Rattle.pointer_dom.specs.laws.OffsetLaws.{same_members}
-use Rattle.pointer_dom.specs.laws.PointerLaws.{pointers_order}
-use Rattle.pointer_dom.proofs.Meaning.{meet_one}
-use Rattle.pointer_dom.proofs.OperationMeaning.{advance_below, hull_below}
+use Rattle.filters.specs.strided_dom.Combinations.{IsInBoth}
+use Rattle.filters.specs.pointer_dom.Pointer.{Pointer}
+use Rattle.filters.specs.pointer_dom.PointerSets.{Pointers, IsPointers}
+use Rattle.filters.specs.pointer_dom.Values.{Values, IsValues, IsValuesMeet}
+use Rattle.filters.specs.pointer_dom.Advances.{IsAdvance}
+use Rattle.filters.specs.pointer_dom.Selections.{IsHullOfPointers}
+use Rattle.filters.specs.pointer_dom.laws.OffsetLaws.{same_members}
+use Rattle.filters.specs.pointer_dom.laws.PointerLaws.{pointers_order}
+use Rattle.filters.proofs.low.pointer_dom.Meaning.{meet_one}
+use Rattle.filters.proofs.low.pointer_dom.OperationMeaning.{advance_below, hull_below}
 use Rattle.operator_values.specs.MetValues.{met_values, met_values_is, met_values_fit}
 use Rattle.filters.specs.PointerPartners.{MayBeUnequal, ArePointersAssumed}
 use Rattle.operator_values.specs.SetsOfPointers.{common_pointers, common_pointers_are, common_pointers_fit}

@@ -1,15 +1,15 @@
 -- The classes of errors that an operator does not exclude, as tests.
 use Rattle.std.specs.Prelude.{◌≡◌, ◌↔◌, ℕ, Bool, false, not, IsTrue}
-use Rattle.strided_dom.specs.Progression.{Progression}
-use Rattle.strided_dom.specs.Combinations.{IsProduct}
+use Rattle.filters.specs.strided_dom.Progression.{Progression}
+use Rattle.filters.specs.strided_dom.Combinations.{IsProduct}
 use Rattle.tm_cint.specs.declared.Class.{Class}
 use Rattle.tm_cint.specs.declared.int_types.IntType.{IntType}
 use Rattle.tm_cint.specs.declared.operators.BinOp.{BinOp}
 use Rattle.transfer_int.specs.Values.{MayFail}
-use Rattle.pointer_dom.specs.Pointer.{Pointer}
-use Rattle.pointer_dom.specs.PointerSets.{Pointers, IsPointer}
-use Rattle.pointer_dom.specs.Advances.{IsSafeAdvance, AreSubscripts, directed}
-use Rattle.pointer_dom.specs.Selections.{Reaches}
+use Rattle.filters.specs.pointer_dom.Pointer.{Pointer}
+use Rattle.filters.specs.pointer_dom.PointerSets.{Pointers, IsPointer}
+use Rattle.filters.specs.pointer_dom.Advances.{IsSafeAdvance, AreSubscripts, directed}
+use Rattle.filters.specs.pointer_dom.Selections.{Reaches}
 use Rattle.operator_values.specs.laws.ClassTests.{fail_test, subscripts_test, safe_test, all_reach_test}
 use Rattle.operator_values.specs.laws.PointerResults.{truth_of, truth_is, refuted_is, true_test, move_listing}
 

@@ -1,7 +1,7 @@
 -- The operators on strided sets as functions. Each gives the one set that its relation describes.
 use Rattle.std.specs.Prelude.{pos}
-use Rattle.strided_dom.specs.Progression.{Progression, single, IsExactly}
-use Rattle.strided_dom.specs.Combinations.{IsInBoth}
+use Rattle.filters.specs.strided_dom.Progression.{Progression, single, IsExactly}
+use Rattle.filters.specs.strided_dom.Combinations.{IsInBoth}
 use Rattle.tm_cint.specs.declared.int_types.IntType.{IntType}
 use Rattle.tm_cint.specs.declared.operators.BinOp.{BinOp}
 use Rattle.tm_cint.specs.declared.operators.BinOp.TheVariants.{Sub}

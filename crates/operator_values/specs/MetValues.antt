@@ -1,5 +1,5 @@
 -- The meet of two sets of scalar values as a function.
-use Rattle.pointer_dom.specs.Values.{Values, IsValues, IsValuesMeet}
+use Rattle.filters.specs.pointer_dom.Values.{Values, IsValues, IsValuesMeet}
 use Rattle.operator_values.specs.Integers.{met_numbers, met_numbers_is}
 use Rattle.operator_values.specs.SetsOfPointers.{common_pointers, common_pointers_are, common_pointers_fit}
 

@@ -1,12 +1,12 @@
 -- The operators on sets of pointers as functions. Each gives the one set that its relation describes.
 use Rattle.std.specs.Prelude.{◌≡◌, ℕ, Bool, true, false, IsTrue, pos}
-use Rattle.strided_dom.specs.Progression.{Progression, IsExactly}
-use Rattle.strided_dom.specs.Combinations.{IsProduct}
-use Rattle.pointer_dom.specs.Pointer.{Pointer}
-use Rattle.pointer_dom.specs.PointerSets.{Pointers, IsPointers, IsMeet}
-use Rattle.pointer_dom.specs.Advances.{IsAdvance, IsElementStep, directed}
-use Rattle.pointer_dom.specs.Selections.{IsHullOfPointers, IsTarget}
-use Rattle.pointer_dom.specs.Equality.{IsEqualityValue}
+use Rattle.filters.specs.strided_dom.Progression.{Progression, IsExactly}
+use Rattle.filters.specs.strided_dom.Combinations.{IsProduct}
+use Rattle.filters.specs.pointer_dom.Pointer.{Pointer}
+use Rattle.filters.specs.pointer_dom.PointerSets.{Pointers, IsPointers, IsMeet}
+use Rattle.filters.specs.pointer_dom.Advances.{IsAdvance, IsElementStep, directed}
+use Rattle.filters.specs.pointer_dom.Selections.{IsHullOfPointers, IsTarget}
+use Rattle.filters.specs.pointer_dom.Equality.{IsEqualityValue}
 use Rattle.filters.specs.PointerPartners.{MayBeUnequal, ArePointersAssumed}
 use Rattle.operator_values.specs.laws.PointerResults.{met, met_is, met_pointers, advanced, advanced_is}
 use Rattle.operator_values.specs.laws.PointerResults.{advanced_pointers, part_listing, move_listing, element_listing}

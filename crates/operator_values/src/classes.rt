@@ -1,14 +1,14 @@
 //! The classes of errors. Each law speaks of definitions alone, so its function does nothing.
 ghost use Rattle.std.specs.Prelude.{◌≡◌, ◌↔◌, ℕ, Bool, false, IsTrue};
-ghost use Rattle.strided_dom.specs.Progression.{Progression};
-ghost use Rattle.strided_dom.specs.Combinations.{IsProduct};
+ghost use Rattle.filters.specs.strided_dom.Progression.{Progression};
+ghost use Rattle.filters.specs.strided_dom.Combinations.{IsProduct};
 ghost use Rattle.tm_cint.specs.declared.Class.{Class};
 ghost use Rattle.tm_cint.specs.declared.int_types.IntType.{IntType};
 ghost use Rattle.tm_cint.specs.declared.operators.BinOp.{BinOp};
 ghost use Rattle.transfer_int.specs.Values.{MayFail};
-ghost use Rattle.pointer_dom.specs.Pointer.{Pointer};
-ghost use Rattle.pointer_dom.specs.PointerSets.{Pointers, IsPointer};
-ghost use Rattle.pointer_dom.specs.Advances.{IsSafeAdvance, AreSubscripts, directed};
+ghost use Rattle.filters.specs.pointer_dom.Pointer.{Pointer};
+ghost use Rattle.filters.specs.pointer_dom.PointerSets.{Pointers, IsPointer};
+ghost use Rattle.filters.specs.pointer_dom.Advances.{IsSafeAdvance, AreSubscripts, directed};
 ghost use Rattle.operator_values.specs.Classes.{may_fail, index_fails, move_fails, dereference_fails, CanBeRead};
 
 use tm_cint::{BinOp, Class, IntType};

@@ -1,7 +1,7 @@
 //! The operators on strided sets. Each law speaks of definitions alone, so its function does nothing.
 ghost use Rattle.std.specs.Prelude.{◌≡◌, ℤ, pos};
-ghost use Rattle.strided_dom.specs.Progression.{Progression, single, IsExactly};
-ghost use Rattle.strided_dom.specs.Combinations.{IsInBoth};
+ghost use Rattle.filters.specs.strided_dom.Progression.{Progression, single, IsExactly};
+ghost use Rattle.filters.specs.strided_dom.Combinations.{IsInBoth};
 ghost use Rattle.tm_cint.specs.declared.int_types.IntType.{IntType};
 ghost use Rattle.tm_cint.specs.declared.operators.BinOp.{BinOp};
 ghost use Rattle.transfer_int.specs.Values.{IsValue, IsConverted, ones_of};

@@ -2,13 +2,13 @@
 //! function does nothing. That a set is one in which each pointer leads into its object (`IsPointers`) is what the code
 //! knows of every set that it makes.
 ghost use Rattle.std.specs.Prelude.{◌≡◌, ℕ, Bool, ℤ, pos};
-ghost use Rattle.strided_dom.specs.Progression.{Progression, IsExactly};
-ghost use Rattle.strided_dom.specs.Combinations.{IsProduct};
-ghost use Rattle.pointer_dom.specs.PointerSets.{Pointers, IsPointers, IsMeet};
-ghost use Rattle.pointer_dom.specs.Values.{Values, IsValues, IsValuesMeet};
-ghost use Rattle.pointer_dom.specs.Advances.{IsAdvance, IsElementStep, directed};
-ghost use Rattle.pointer_dom.specs.Selections.{IsHullOfPointers};
-ghost use Rattle.pointer_dom.specs.Equality.{IsEqualityValue};
+ghost use Rattle.filters.specs.strided_dom.Progression.{Progression, IsExactly};
+ghost use Rattle.filters.specs.strided_dom.Combinations.{IsProduct};
+ghost use Rattle.filters.specs.pointer_dom.PointerSets.{Pointers, IsPointers, IsMeet};
+ghost use Rattle.filters.specs.pointer_dom.Values.{Values, IsValues, IsValuesMeet};
+ghost use Rattle.filters.specs.pointer_dom.Advances.{IsAdvance, IsElementStep, directed};
+ghost use Rattle.filters.specs.pointer_dom.Selections.{IsHullOfPointers};
+ghost use Rattle.filters.specs.pointer_dom.Equality.{IsEqualityValue};
 ghost use Rattle.filters.specs.PointerPartners.{ArePointersAssumed};
 ghost use Rattle.operator_values.specs.SetsOfPointers.{common_pointers, offset_by, indexed, moved, IsReachable};
 ghost use Rattle.operator_values.specs.SetsOfPointers.{dereferenced, equality, left_pointers, right_pointers};

@@ -7,11 +7,11 @@ use Rattle.std.proofs.lemmas.Bool.{cases_eq}
 use Rattle.std.proofs.lemmas.List.{length-map, length-set, map-set, get_or-map, get_or-set_same}
 use Rattle.std.proofs.lemmas.List.{get_or-set_other}
 use Rattle.interfere_set.specs.Stores.{Interferences}
-use Rattle.transfer_rows.specs.StateForms.{State}
-use Rattle.program_equations.specs.Programs.{ProgramBodies, body_at}
-use Rattle.program_equations.specs.Systems.{FitsBody, FitsProgram}
-use Rattle.program_equations.specs.Solutions.{table_at}
-use Rattle.post_recheck.specs.Pairs.{Pair, FitsPair, lists_of, pair_of}
+use Rattle.thread_pass.specs.transfer_rows.StateForms.{State}
+use Rattle.thread_pass.specs.program_equations.Programs.{ProgramBodies, body_at}
+use Rattle.thread_pass.specs.program_equations.Systems.{FitsBody, FitsProgram}
+use Rattle.thread_pass.specs.program_equations.Solutions.{table_at}
+use Rattle.program_solutions.specs.post_recheck.Pairs.{Pair, FitsPair, lists_of, pair_of}
 
 -- ## One table
 

@@ -2,9 +2,7 @@
 
 use crate::pictures::{push_state, push_store, push_table};
 use crate::sources::analysed;
-use body_systems::BodyState;
-use post_recheck::Solution;
-use program_solutions::solution;
+use program_solutions::{BodyState, Solution, solution};
 use std::alloc::Global;
 use thread_pass::Analysis;
 use tm_lattice::NoMemory;

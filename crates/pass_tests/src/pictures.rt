@@ -1,9 +1,9 @@
 //! Tables and stores as text, in the lines of a certificate.
 
-use body_systems::BodyState;
 use cell_env::{CellState, State};
 use interfere_set::{Nested, Store};
 use pointer_dom::{AbsValue, Parts, PointerSet};
+use program_solutions::BodyState;
 use std::alloc::Global;
 use strided_dom::Strided;
 use tm_lattice::NoMemory;

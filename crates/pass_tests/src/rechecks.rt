@@ -3,17 +3,15 @@
 ghost use Rattle.std.specs.Prelude.{◌≡◌, IfOk};
 ghost use Rattle.std.specs.Arc.{arc_value};
 ghost use Rattle.interfere_set.specs.Stores.{Interferences};
-ghost use Rattle.program_equations.specs.Programs.{ProgramBodies};
-ghost use Rattle.program_equations.specs.Systems.{FitsProgram};
-ghost use Rattle.program_systems.specs.ReadPrograms.{program_of};
-ghost use Rattle.post_recheck.specs.Pairs.{pair_of, lists_of, FitsPair};
+ghost use Rattle.thread_pass.specs.program_equations.Programs.{ProgramBodies};
+ghost use Rattle.thread_pass.specs.program_equations.Systems.{FitsProgram};
+ghost use Rattle.thread_pass.specs.program_systems.ReadPrograms.{program_of};
+ghost use Rattle.program_solutions.specs.post_recheck.Pairs.{pair_of, lists_of, FitsPair};
 
 use crate::sources::analysed;
 use crate::tables::{BEGUN, BEGUN_TWICE, COUNTS, ENDLESS, MUTUAL, PENDING};
-use body_systems::BodyState;
 use interfere_set::Store;
-use post_recheck::{Checked, Solution, Table, recheck, recheck_in_order};
-use program_solutions::solution;
+use program_solutions::{BodyState, Checked, Solution, Table, recheck, recheck_in_order, solution};
 use std::alloc::Global;
 use std::sync::Arc;
 use std::test::Fail;

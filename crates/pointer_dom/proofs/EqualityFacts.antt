@@ -5,7 +5,7 @@ use Rattle.std.proofs.lemmas.Bool.{cases_eq}
 use Rattle.std.specs.FinMap as map
 use Rattle.strided_dom.specs.Progression.{Progression, empty, single, Has, IsExactly, IsSpaced}
 use Rattle.strided_dom.proofs.Members.{not_in_empty}
-use Rattle.tm_numbers.proofs.Congruences.{cong_up}
+use Rattle.strided_dom.proofs.low.tm_numbers.Congruences.{cong_up}
 use Rattle.pointer_dom.specs.Pointer.{Pointer, null, invalid, to}
 use Rattle.pointer_dom.specs.PointerSets.{Pointers, IsPointer, no_pointer, offsets_or_none}
 use Rattle.pointer_dom.specs.Equality.{IsEqualityValue, Meet, Differ, IsOnly, HasNoneOrTwo}

@@ -11,3 +11,4 @@ pub mod OnlyFacts
 pub mod CommonFacts
 pub mod RemovalFacts
 pub mod OperationMeaning
+pub mod low

@@ -4,7 +4,7 @@ use Rattle.std.proofs.lemmas.Int.{ints}
 use Rattle.strided_dom.specs.Progression.{Progression, empty, single, Has, IsExactly, IsHull, IsSpaced}
 use Rattle.strided_dom.specs.Combinations.{IsInBoth, IsInEither}
 use Rattle.strided_dom.specs.Rounding.{IsInRounding}
-use Rattle.tm_numbers.proofs.Congruences.{cong_up}
+use Rattle.strided_dom.proofs.low.tm_numbers.Congruences.{cong_up}
 use Rattle.strided_dom.proofs.Members.{not_in_empty}
 use Rattle.strided_dom.proofs.Spans.{exactly_same}
 use Rattle.pointer_dom.specs.Offset.{IsOffset, IsOffsetAmong, IsInRoundingWithin}

@@ -5,7 +5,7 @@ use Rattle.std.proofs.lemmas.Int.{ints, clamps, to_z-of_z}
 use Rattle.std.specs.FinMap as map
 use Rattle.strided_dom.specs.Progression.{Progression, single, Has, IsSubset, IsExactly, IsSpaced, IsInReach}
 use Rattle.strided_dom.specs.Combinations.{IsInBoth, IsProduct}
-use Rattle.tm_numbers.proofs.Congruences.{cong_up}
+use Rattle.strided_dom.proofs.low.tm_numbers.Congruences.{cong_up}
 use Rattle.strided_dom.proofs.Products.{mul_between}
 use Rattle.strided_dom.proofs.Spans.{exactly_same}
 use Rattle.tm_lattice.specs.Tables.{Table}

@@ -8,9 +8,9 @@ use Rattle.std.proofs.lemmas.Option.{get_or_from_slice_get}
 use Rattle.tm_lattice.specs.declared.memory.NoMemory.{NoMemory}
 use Rattle.interfere_set.specs.Stores.{Interferences, IsStoreBelow, joined_store, rounded_store}
 use Rattle.least_tables.specs.Solutions.{IsSolution}
-use Rattle.program_equations.specs.Programs.{ProgramBodies, body_at, IsProgram}
-use Rattle.program_equations.specs.Systems.{states, FitsBody, IsSection}
-use Rattle.program_equations.specs.Solutions.{table_at, tables_of}
+use Rattle.shared_programs.specs.program_equations.Programs.{ProgramBodies, body_at, IsProgram}
+use Rattle.shared_programs.specs.program_equations.Systems.{states, FitsBody, IsSection}
+use Rattle.shared_programs.specs.program_equations.Solutions.{table_at, tables_of}
 use Rattle.post_recheck.specs.Pairs.{Pair, FitsPair}
 use Rattle.post_recheck.specs.Bodies.{IsBodyCheck, IsCoveredIn, AreChecked, contributed_at}
 use Rattle.post_recheck.specs.Checks.{IsAnswer}

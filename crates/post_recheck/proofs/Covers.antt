@@ -3,23 +3,23 @@ use Rattle.std.proofs.Common.{◌≡◌, ℕ, zero, suc, ◌<◌, ◌≤◌, nat
 use Rattle.std.proofs.Common.{Some, IfSome, refl, inl, inr}
 use Rattle.std.proofs.Common.{sym, ap, subst, arith}
 use Rattle.std.proofs.lemmas.Bool.{cases_lt}
-use Rattle.edge_actions.proofs.Lists.{lt_from, lt_test}
+use Rattle.shared_programs.proofs.low.edge_actions.Lists.{lt_from, lt_test}
 use Rattle.interfere_set.specs.Stores.{Interferences, IsStoreBelow, no_interference}
 use Rattle.interfere_set.specs.Stores.{rounded_store}
 use Rattle.interfere_set.specs.laws.StoreLaws.{store_order, store_join, store_closure}
-use Rattle.transfer_rows.specs.StateForms.{State}
+use Rattle.shared_programs.specs.transfer_rows.StateForms.{State}
 use Rattle.least_tables.specs.declared.links.Link.{Link}
 use Rattle.least_tables.specs.Systems.{from_of}
 use Rattle.least_tables.specs.Solutions.{NodeTable}
 use Rattle.least_tables.specs.laws.AddedTotals as totals
-use Rattle.task_equations.specs.Bodies.{copy_at}
-use Rattle.task_equations.specs.Equations.{added_along, link_of}
-use Rattle.program_equations.specs.Programs.{ProgramBodies, body_at, IsProgram}
-use Rattle.program_equations.specs.Systems.{stores, FitsBody, FitsProgram, added_at}
-use Rattle.program_equations.specs.Solutions.{tables_of, IsStoreCovered}
-use Rattle.program_equations.specs.laws.StoresFit.{nothing_fits, joined_fits, bottom}
-use Rattle.program_equations.specs.laws.Lawful.{program_is_lawful}
-use Rattle.program_equations.specs.laws.Passing.{fitting}
+use Rattle.shared_programs.specs.task_equations.Bodies.{copy_at}
+use Rattle.shared_programs.specs.task_equations.Equations.{added_along, link_of}
+use Rattle.shared_programs.specs.program_equations.Programs.{ProgramBodies, body_at, IsProgram}
+use Rattle.shared_programs.specs.program_equations.Systems.{stores, FitsBody, FitsProgram, added_at}
+use Rattle.shared_programs.specs.program_equations.Solutions.{tables_of, IsStoreCovered}
+use Rattle.shared_programs.specs.program_equations.laws.StoresFit.{nothing_fits, joined_fits, bottom}
+use Rattle.shared_programs.specs.program_equations.laws.Lawful.{program_is_lawful}
+use Rattle.shared_programs.specs.program_equations.laws.Passing.{fitting}
 use Rattle.post_recheck.specs.Pairs.{Pair, FitsPair}
 use Rattle.post_recheck.specs.Bodies.{contributed_at}
 use Rattle.post_recheck.specs.reading.Joins.{joined_below}

@@ -4,21 +4,23 @@ use Rattle.std.proofs.Common.{◌≡◌, ℕ, ◌<◌, ◌≤◌, nat_lt, Bool, 
 use Rattle.std.proofs.Common.{IfSome, refl, inl, inr}
 use Rattle.std.proofs.Common.{sym, ap, subst, ◌∙◌, arith}
 use Rattle.std.proofs.lemmas.Bool.{cases_lt, false≢true}
-use Rattle.edge_actions.proofs.Lists.{lt_from, lt_test}
-use Rattle.transfer_rows.specs.StateForms.{State}
+use Rattle.shared_programs.proofs.low.edge_actions.Lists.{lt_from, lt_test}
+use Rattle.shared_programs.specs.transfer_rows.StateForms.{State}
 use Rattle.least_tables.specs.Systems.{System, IsLawfulSystem}
 use Rattle.least_tables.specs.Solutions.{at, AreFitting, IsFirstUncovered}
 use Rattle.least_tables.specs.declared.covers.Uncovered.{Uncovered}
-use Rattle.least_tables.specs.declared.covers.Uncovered.TheVariants.{Entry as the_entry, Edge as the_edge}
+use Rattle.least_tables.specs.declared.covers.Uncovered.TheVariants.{Entry as the_entry}
+use Rattle.least_tables.specs.declared.covers.Uncovered.TheVariants.{Edge as the_edge}
 use Rattle.least_tables.proofs.Rechecks.{entry_covered, edge_covered}
-use Rattle.state_fits.specs.laws.PlacesFit.{states_order, states_join}
-use Rattle.program_equations.specs.Programs.{ProgramBodies, body_at, IsProgram}
-use Rattle.program_equations.specs.Entries.{first_state, ended}
-use Rattle.program_equations.specs.Systems.{states, FitsBody, section_system, entry_after, task_entry, task_system}
-use Rattle.program_equations.specs.Solutions.{table_at, tables_of, system_at, IsSolvedAt}
-use Rattle.program_equations.specs.laws.Fitting.{body_is_lawful}
-use Rattle.program_equations.specs.laws.Sections.{section_is_lawful}
-use Rattle.program_equations.specs.laws.TaskEntries.{first_fits, ended_ends, begins_later}
+use Rattle.shared_programs.specs.state_fits.laws.PlacesFit.{states_order, states_join}
+use Rattle.shared_programs.specs.program_equations.Programs.{ProgramBodies, body_at, IsProgram}
+use Rattle.shared_programs.specs.program_equations.Entries.{first_state, ended}
+use Rattle.shared_programs.specs.program_equations.Systems.{states, FitsBody, section_system, entry_after, task_entry}
+use Rattle.shared_programs.specs.program_equations.Systems.{task_system}
+use Rattle.shared_programs.specs.program_equations.Solutions.{table_at, tables_of, system_at, IsSolvedAt}
+use Rattle.shared_programs.specs.program_equations.laws.Fitting.{body_is_lawful}
+use Rattle.shared_programs.specs.program_equations.laws.Sections.{section_is_lawful}
+use Rattle.shared_programs.specs.program_equations.laws.TaskEntries.{first_fits, ended_ends, begins_later}
 use Rattle.post_recheck.specs.Pairs.{Pair, FitsPair}
 
 module _ (p : ProgramBodies) (is : IsProgram p) (pair : Pair) (fits : FitsPair p pair) where

@@ -4,20 +4,21 @@ use Rattle.std.proofs.Common.{sym, ap, subst, ◌∙◌}
 use Rattle.std.specs.declared.vec.Vec.{Vec}
 use Rattle.std.proofs.lemmas.List.{get_or-map, length-map}
 use Rattle.interfere_set.specs.Stores.{Interferences, no_interference, joined_store}
-use Rattle.transfer_rows.specs.StateForms.{State}
-use Rattle.temporary_types.specs.Sorts.{Sort}
+use Rattle.shared_programs.specs.transfer_rows.StateForms.{State}
+use Rattle.shared_programs.specs.temporary_types.Sorts.{Sort}
 use Rattle.least_tables.specs.declared.covers.Uncovered.{Uncovered}
-use Rattle.least_tables.specs.declared.covers.Uncovered.TheVariants.{Entry as the_entry, Edge as the_edge}
+use Rattle.least_tables.specs.declared.covers.Uncovered.TheVariants.{Entry as the_entry}
+use Rattle.least_tables.specs.declared.covers.Uncovered.TheVariants.{Edge as the_edge}
 use Rattle.least_tables.specs.Systems.{System}
 use Rattle.least_tables.specs.Solutions.{NodeTable, at, AreFitting, IsSolution, IsFirstUncovered}
 use Rattle.least_tables.specs.Passes.{added_below}
-use Rattle.task_equations.specs.Bodies.{Body, copy_at}
-use Rattle.task_equations.specs.Equations.{equations_of, link_of, added_along}
-use Rattle.task_equations.specs.Premises.{IsBody}
-use Rattle.program_equations.specs.Programs.{ProgramBodies, body_at, IsProgram}
-use Rattle.program_equations.specs.Entries.{first_state}
-use Rattle.program_equations.specs.Systems.{states, FitsBody, task_entry, added_at}
-use Rattle.program_equations.specs.Solutions.{table_at, tables_of, system_at, IsSolvedAt, edge_number}
+use Rattle.shared_programs.specs.task_equations.Bodies.{Body, copy_at}
+use Rattle.shared_programs.specs.task_equations.Equations.{equations_of, link_of, added_along}
+use Rattle.shared_programs.specs.task_equations.Premises.{IsBody}
+use Rattle.shared_programs.specs.program_equations.Programs.{ProgramBodies, body_at, IsProgram}
+use Rattle.shared_programs.specs.program_equations.Entries.{first_state}
+use Rattle.shared_programs.specs.program_equations.Systems.{states, FitsBody, task_entry, added_at}
+use Rattle.shared_programs.specs.program_equations.Solutions.{table_at, tables_of, system_at, IsSolvedAt, edge_number}
 use Rattle.post_recheck.specs.Pairs.{Pair, FitsPair, lists_of}
 use Rattle.post_recheck.specs.Bodies.{IsUncoveredIn, contributed_at}
 use Rattle.post_recheck.specs.reading.Numbers.{number_in, IsNumberedIn}

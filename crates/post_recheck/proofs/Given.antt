@@ -6,13 +6,13 @@ use Rattle.flow_graph.specs.Graphs.{Edges}
 use Rattle.mutex_configs.specs.declared.nodes.ConfiguredGraph.{ConfiguredGraph}
 use Rattle.mutex_configs.specs.declared.nodes.EdgeCopy.{EdgeCopy}
 use Rattle.mutex_configs.specs.declared.programs.Program.{Program}
-use Rattle.transfer_rows.specs.StateForms.{State}
-use Rattle.program_equations.specs.Programs.{ProgramBodies, body_at, IsProgram}
-use Rattle.program_equations.specs.Systems.{FitsBody, task_entry}
-use Rattle.program_equations.specs.Solutions.{table_at}
-use Rattle.program_systems.specs.Analysable.{IsAnalysable}
-use Rattle.program_systems.specs.ProgramFacts.{AllFacts, AreProgramFacts, program_with}
-use Rattle.program_systems.proofs.Bodies.{is_program, is_program_of, body_count}
+use Rattle.shared_programs.specs.transfer_rows.StateForms.{State}
+use Rattle.shared_programs.specs.program_equations.Programs.{ProgramBodies, body_at, IsProgram}
+use Rattle.shared_programs.specs.program_equations.Systems.{FitsBody, task_entry}
+use Rattle.shared_programs.specs.program_equations.Solutions.{table_at}
+use Rattle.shared_programs.specs.program_systems.Analysable.{IsAnalysable}
+use Rattle.shared_programs.specs.program_systems.ProgramFacts.{AllFacts, AreProgramFacts, program_with}
+use Rattle.shared_programs.proofs.low.program_systems.Bodies.{is_program, is_program_of, body_count}
 use Rattle.post_recheck.specs.Pairs.{Pair}
 use Rattle.post_recheck.specs.Bodies.{IsGiven}
 use Rattle.post_recheck.proofs.Fits as tables

@@ -4,10 +4,11 @@ use Rattle.std.proofs.Common.{sym, subst}
 use Rattle.tm_lattice.specs.Rounds.{IsClosed}
 use Rattle.interfere_set.specs.laws.StoreLaws.{store_order}
 use Rattle.least_tables.specs.Solutions.{IsLeastSolution}
-use Rattle.program_equations.specs.Programs.{ProgramBodies, body_at, IsProgram}
-use Rattle.program_equations.specs.Systems.{states, stores, FitsBody, task_system, added_at, IsLeastSection}
-use Rattle.program_equations.specs.Solutions.{passing, table_at, tables_of, IsPair, IsStoreCovered}
-use Rattle.program_equations.specs.laws.Tables.{pass_is_one}
+use Rattle.shared_programs.specs.program_equations.Programs.{ProgramBodies, body_at, IsProgram}
+use Rattle.shared_programs.specs.program_equations.Systems.{states, stores, FitsBody, task_system, added_at}
+use Rattle.shared_programs.specs.program_equations.Systems.{IsLeastSection}
+use Rattle.shared_programs.specs.program_equations.Solutions.{passing, table_at, tables_of, IsPair, IsStoreCovered}
+use Rattle.shared_programs.specs.program_equations.laws.Tables.{pass_is_one}
 use Rattle.post_recheck.specs.Pairs.{Pair, FitsPair}
 use Rattle.post_recheck.proofs.Covers.{added, adds, task_fits, task_holds}
 

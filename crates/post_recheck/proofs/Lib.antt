@@ -7,3 +7,4 @@ pub mod Ranges
 pub mod LeastPairs
 pub mod Given
 pub mod Shared
+pub mod low

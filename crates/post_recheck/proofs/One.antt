@@ -4,11 +4,13 @@ use Rattle.std.proofs.Common.{sym, ap, subst, ◌∙◌, arith}
 use Rattle.std.proofs.lemmas.Bool.{cases_lt}
 use Rattle.least_tables.specs.Solutions.{IsSolution, IsFirstUncovered}
 use Rattle.least_tables.specs.declared.covers.Uncovered.{Uncovered}
-use Rattle.least_tables.specs.declared.covers.Uncovered.TheVariants.{Entry as the_entry, Edge as the_edge}
-use Rattle.program_equations.specs.Programs.{ProgramBodies, body_at, IsProgram}
-use Rattle.program_equations.specs.Systems.{states, FitsBody, section_system}
-use Rattle.program_equations.specs.Solutions.{IsPair, IsSolvedAt, IsUncoveredAt, IsUncoveredStore, system_at, tables_of}
-use Rattle.program_equations.specs.Solutions.{edge_number}
+use Rattle.least_tables.specs.declared.covers.Uncovered.TheVariants.{Entry as the_entry}
+use Rattle.least_tables.specs.declared.covers.Uncovered.TheVariants.{Edge as the_edge}
+use Rattle.shared_programs.specs.program_equations.Programs.{ProgramBodies, body_at, IsProgram}
+use Rattle.shared_programs.specs.program_equations.Systems.{states, FitsBody, section_system}
+use Rattle.shared_programs.specs.program_equations.Solutions.{IsPair, IsSolvedAt, IsUncoveredAt, IsUncoveredStore}
+use Rattle.shared_programs.specs.program_equations.Solutions.{system_at, tables_of}
+use Rattle.shared_programs.specs.program_equations.Solutions.{edge_number}
 use Rattle.post_recheck.specs.Pairs.{Pair, FitsPair}
 use Rattle.post_recheck.specs.Checks.{IsAnswer}
 use Rattle.post_recheck.specs.declared.solutions.Checked.{Checked}

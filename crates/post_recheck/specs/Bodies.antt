@@ -4,14 +4,14 @@ use Rattle.std.specs.declared.result.Result.{Result}
 use Rattle.mutex_configs.specs.declared.programs.Program.{Program}
 use Rattle.tm_lattice.specs.declared.memory.NoMemory.{NoMemory}
 use Rattle.interfere_set.specs.Stores.{Interferences, no_interference}
-use Rattle.transfer_rows.specs.StateForms.{State}
+use Rattle.shared_programs.specs.transfer_rows.StateForms.{State}
 use Rattle.least_tables.specs.declared.covers.Uncovered.{Uncovered}
 use Rattle.least_tables.specs.Solutions.{IsFirstUncovered}
-use Rattle.program_equations.specs.Programs.{ProgramBodies, body_at}
-use Rattle.program_equations.specs.Systems.{states, FitsBody, task_entry, added_at}
-use Rattle.program_equations.specs.Solutions.{table_at, tables_of, system_at, IsSolvedAt, edge_number}
-use Rattle.program_systems.specs.Analysable.{IsAnalysable}
-use Rattle.program_systems.specs.ProgramFacts.{AllFacts, AreProgramFacts, program_with}
+use Rattle.shared_programs.specs.program_equations.Programs.{ProgramBodies, body_at}
+use Rattle.shared_programs.specs.program_equations.Systems.{states, FitsBody, task_entry, added_at}
+use Rattle.shared_programs.specs.program_equations.Solutions.{table_at, tables_of, system_at, IsSolvedAt, edge_number}
+use Rattle.shared_programs.specs.program_systems.Analysable.{IsAnalysable}
+use Rattle.shared_programs.specs.program_systems.ProgramFacts.{AllFacts, AreProgramFacts, program_with}
 use Rattle.post_recheck.specs.Pairs.{Pair, FitsPair}
 use Rattle.post_recheck.specs.declared.bodies.BodyCheck.{BodyCheck}
 use Rattle.post_recheck.specs.declared.bodies.BodyCheck.TheVariants as Bodies

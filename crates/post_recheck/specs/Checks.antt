@@ -1,7 +1,7 @@
 -- What a check answers.
 use Rattle.std.specs.Prelude.{◌≡◌}
-use Rattle.program_equations.specs.Programs.{ProgramBodies}
-use Rattle.program_equations.specs.Solutions.{IsPair, IsUncoveredAt, IsUncoveredStore}
+use Rattle.shared_programs.specs.program_equations.Programs.{ProgramBodies}
+use Rattle.shared_programs.specs.program_equations.Solutions.{IsPair, IsUncoveredAt, IsUncoveredStore}
 use Rattle.post_recheck.specs.Pairs.{Pair}
 use Rattle.post_recheck.specs.declared.solutions.Checked.{Checked}
 use Rattle.post_recheck.specs.declared.solutions.Checked.TheVariants as Answers

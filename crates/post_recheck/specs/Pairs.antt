@@ -2,10 +2,10 @@
 use Rattle.std.specs.Prelude.{◌≡◌, ℕ, ◌<◌, List, length, map, get_or, Option, None, IfSome}
 use Rattle.std.specs.declared.vec.Vec.{Vec}
 use Rattle.interfere_set.specs.Stores.{Interferences}
-use Rattle.transfer_rows.specs.StateForms.{State}
-use Rattle.program_equations.specs.Programs.{ProgramBodies, body_at}
-use Rattle.program_equations.specs.Systems.{FitsBody, FitsProgram}
-use Rattle.program_equations.specs.Solutions.{table_at}
+use Rattle.shared_programs.specs.transfer_rows.StateForms.{State}
+use Rattle.shared_programs.specs.program_equations.Programs.{ProgramBodies, body_at}
+use Rattle.shared_programs.specs.program_equations.Systems.{FitsBody, FitsProgram}
+use Rattle.shared_programs.specs.program_equations.Solutions.{table_at}
 
 -- tables of states, those of the tasks by their numbers, then that of the initial section; and a store
 pub record Pair : Type 0 where

@@ -1,7 +1,7 @@
 //! The answer for the checks of all bodies.
 ghost use Rattle.std.specs.Prelude.{◌≡◌, ◌<◌, ◌^◌, length, IfOk};
 ghost use Rattle.std.specs.Arc.{arc_value};
-ghost use Rattle.program_equations.specs.Programs.{ProgramBodies, IsProgram};
+ghost use Rattle.shared_programs.specs.program_equations.Programs.{ProgramBodies, IsProgram};
 ghost use Rattle.post_recheck.specs.Pairs.{pair_of, FitsPair};
 ghost use Rattle.post_recheck.specs.Bodies.{AreChecked};
 ghost use Rattle.post_recheck.specs.Checks.{IsAnswer};

@@ -1,20 +1,19 @@
 //! The check of one body.
 ghost use Rattle.std.specs.Prelude.{◌≡◌, ◌<◌, ◌≤◌, length, IfOk};
-ghost use Rattle.program_systems.specs.ProgramFacts.{program_with};
+ghost use Rattle.shared_programs.specs.program_systems.ProgramFacts.{program_with};
 ghost use Rattle.post_recheck.specs.Pairs.{pair_of};
 ghost use Rattle.post_recheck.specs.Bodies.{IsBodyCheck, IsGiven};
 ghost use Rattle.post_recheck.specs.reading.Numbers.{number_in, IsNumberedIn};
 
 use crate::contributions::joined_contributions;
 use crate::solutions::Table;
-use body_systems::BodySystem;
 use cell_env::State;
 use flow_graph::Edge;
 use interfere_set::Store;
 use least_tables::{Uncovered, first_uncovered};
 use mutex_configs::{EdgeCopy, Program};
 use pointer_dom::AbsValue;
-use program_systems::{ProgramFacts, body_over_store, section_entry};
+use shared_programs::{BodySystem, ProgramFacts, body_over_store, section_entry};
 use std::alloc::Global;
 use tm_lattice::NoMemory;
 

@@ -1,9 +1,9 @@
 //! Checks of tables and a store.
 ghost use Rattle.std.specs.Prelude.{◌≡◌, ◌<◌, length, IfOk};
 ghost use Rattle.std.specs.Arc.{arc_value};
-ghost use Rattle.program_equations.specs.Solutions.{table_at};
-ghost use Rattle.program_systems.specs.Analysable.{IsAnalysable};
-ghost use Rattle.program_systems.specs.ProgramFacts.{AreProgramFacts, program_with};
+ghost use Rattle.shared_programs.specs.program_equations.Solutions.{table_at};
+ghost use Rattle.shared_programs.specs.program_systems.Analysable.{IsAnalysable};
+ghost use Rattle.shared_programs.specs.program_systems.ProgramFacts.{AreProgramFacts, program_with};
 ghost use Rattle.post_recheck.specs.Pairs.{pair_of, lists_of, FitsPair};
 ghost use Rattle.post_recheck.specs.Bodies.{AreEntries, AreChecked, IsBodyCheck, IsGiven};
 ghost use Rattle.post_recheck.specs.Checks.{IsAnswer};
@@ -12,12 +12,11 @@ use crate::answers::answered;
 use crate::bodies::{BodyCheck, checked_body};
 use crate::side_by_side::{Given, checks_of};
 use crate::solutions::{Checked, Table};
-use body_systems::BodyState;
 use cell_env::State;
 use interfere_set::Store;
 use mutex_configs::Program;
 use pointer_dom::AbsValue;
-use program_systems::{ProgramFacts, task_entries};
+use shared_programs::{BodyState, ProgramFacts, task_entries};
 use std::alloc::Global;
 use std::sync::Arc;
 use std::thread::Threads;

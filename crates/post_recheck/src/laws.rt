@@ -2,9 +2,9 @@
 ghost use Rattle.std.specs.Prelude.{◌≡◌, ◌<◌, ℕ};
 ghost use Rattle.tm_lattice.specs.Rounds.{IsClosed};
 ghost use Rattle.least_tables.specs.Solutions.{IsLeastSolution};
-ghost use Rattle.program_equations.specs.Programs.{ProgramBodies, body_at, IsProgram};
-ghost use Rattle.program_equations.specs.Systems.{states, stores, FitsBody, task_system, IsLeastSection};
-ghost use Rattle.program_equations.specs.Solutions.{passing, table_at, tables_of};
+ghost use Rattle.shared_programs.specs.program_equations.Programs.{ProgramBodies, body_at, IsProgram};
+ghost use Rattle.shared_programs.specs.program_equations.Systems.{states, stores, FitsBody, task_system, IsLeastSection};
+ghost use Rattle.shared_programs.specs.program_equations.Solutions.{passing, table_at, tables_of};
 ghost use Rattle.post_recheck.specs.Pairs.{Pair, FitsPair};
 ghost use Rattle.post_recheck.specs.Checks.{IsAnswer};
 ghost use Rattle.post_recheck.specs.declared.solutions.Checked.{Checked as AChecked};

@@ -17,4 +17,5 @@ mod solutions;
 
 pub use checking::{recheck, recheck_in_order};
 pub use laws::{checks_are_one, least_tables_are_solutions};
+pub use shared_programs::{BodyOverStore, BodyState, ProgramFacts, body_over_store};
 pub use solutions::{Checked, Solution, Table};

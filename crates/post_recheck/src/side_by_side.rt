@@ -10,8 +10,8 @@ use cell_env::State;
 use interfere_set::Store;
 use mutex_configs::Program;
 use pointer_dom::AbsValue;
-use program_systems::ProgramFacts;
 use rayon::prelude::*;
+use shared_programs::ProgramFacts;
 use std::alloc::Global;
 use std::thread::Threads;
 use tm_lattice::NoMemory;
@@ -43,7 +43,7 @@ pub(crate) struct Given<'a> {
 
 impl<'a> Numbered for Given<'a> {
     ghost use Rattle.std.specs.Prelude.{◌<◌, length};
-    ghost use Rattle.program_systems.specs.ProgramFacts.{program_with};
+    ghost use Rattle.shared_programs.specs.program_systems.ProgramFacts.{program_with};
     ghost use Rattle.post_recheck.specs.Pairs.{pair_of};
     ghost use Rattle.post_recheck.specs.Bodies.{IsBodyCheck, IsGiven};
 

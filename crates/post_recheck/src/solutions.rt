@@ -3,8 +3,8 @@ ghost use Rattle.std.specs.Prelude.{◌≡◌};
 ghost use Rattle.std.specs.Arc.{arc_value};
 ghost use Rattle.post_recheck.specs.Pairs.{pair_of, lists_of};
 
-use body_systems::BodyState;
 use interfere_set::Store;
+use shared_programs::BodyState;
 use std::marker::Model;
 use std::sync::Arc;
 

@@ -4,24 +4,24 @@ use Rattle.std.specs.Prelude.{◌≡◌, ℕ, zero, suc, true, false, pos, List,
 use Rattle.std.proofs.Common.{ap, ◌∙◌}
 use Rattle.std.specs.FinMap as map
 use Rattle.std.specs.FinMap.{insert}
-use Rattle.strided_dom.specs.Progression.{single, Has}
-use Rattle.tm_lattice.specs.laws.TableLaws.{get-insert_here}
-use Rattle.tm_cint.specs.declared.int_types.IntType.TheVariants.{Int}
-use Rattle.tm_terms.specs.declared.places.Place.{Place}
-use Rattle.tm_typed.specs.declared.types.Scalar.TheVariants as Scalars
-use Rattle.tm_typed.specs.Files.{TypedFileTree}
-use Rattle.tm_laid.specs.declared.objects.Initial.TheVariants as Initials
-use Rattle.tm_laid.specs.declared.objects.LaidObject.{LaidObject}
-use Rattle.tm_laid.specs.Layouts.{LaidTree}
-use Rattle.flow_graph.specs.declared.operations.Into.TheVariants as Into
-use Rattle.flow_graph.specs.declared.operations.Operation.TheVariants as Op
-use Rattle.flow_graph.specs.Graphs.{Edges}
-use Rattle.mutex_configs.specs.declared.nodes.ConfiguredNode.{ConfiguredNode}
-use Rattle.mutex_configs.specs.Nodes.{entry_node}
-use Rattle.pointer_dom.specs.Values.{Values, joined_values, no_value}
-use Rattle.pointer_dom.specs.laws.OffsetLaws.{hull_left, hull_right}
-use Rattle.transfer_rows.specs.StateForms.{Cell, State, only_numbers, own_value, own_of}
-use Rattle.least_tables.specs.Solutions.{NodeTable}
+use Rattle.edge_filters.specs.strided_dom.Progression.{single, Has}
+use Rattle.region_cells.specs.tm_lattice.laws.TableLaws.{get-insert_here}
+use Rattle.region_cells.specs.tm_cint.declared.int_types.IntType.TheVariants.{Int}
+use Rattle.region_cells.specs.tm_terms.declared.places.Place.{Place}
+use Rattle.region_cells.specs.tm_typed.declared.types.Scalar.TheVariants as Scalars
+use Rattle.region_cells.specs.tm_typed.Files.{TypedFileTree}
+use Rattle.region_cells.specs.tm_laid.declared.objects.Initial.TheVariants as Initials
+use Rattle.region_cells.specs.tm_laid.declared.objects.LaidObject.{LaidObject}
+use Rattle.region_cells.specs.tm_laid.Layouts.{LaidTree}
+use Rattle.region_cells.specs.flow_graph.declared.operations.Into.TheVariants as Into
+use Rattle.region_cells.specs.flow_graph.declared.operations.Operation.TheVariants as Op
+use Rattle.region_cells.specs.flow_graph.Graphs.{Edges}
+use Rattle.task_equations.specs.mutex_configs.declared.nodes.ConfiguredNode.{ConfiguredNode}
+use Rattle.task_equations.specs.mutex_configs.Nodes.{entry_node}
+use Rattle.edge_filters.specs.pointer_dom.Values.{Values, joined_values, no_value}
+use Rattle.edge_filters.specs.pointer_dom.laws.OffsetLaws.{hull_left, hull_right}
+use Rattle.edge_filters.specs.transfer_rows.StateForms.{Cell, State, only_numbers, own_value, own_of}
+use Rattle.task_equations.specs.least_tables.Solutions.{NodeTable}
 use Rattle.program_equations.specs.Entries.{initial_of, entry_cell, entry_state, is_end, ended_in, later_state}
 
 abbrev place : Place

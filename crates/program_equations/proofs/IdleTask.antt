@@ -1,16 +1,16 @@
 -- A program with one task that does nothing keeps what the equations ask of programs, and its pass adds nothing.
 use Rattle.std.specs.Prelude.{◌≡◌, ◌<◌, ℕ, zero, suc, ℤ, List, [], ◌∷◌, None, refl}
 use Rattle.std.proofs.Common.{arith}
-use Rattle.tm_typed.specs.declared.types.Scalar.{Scalar}
-use Rattle.tm_typed.specs.Files.{TypedFileTree}
-use Rattle.tm_laid.specs.Layouts.{LaidTree}
-use Rattle.mutex_configs.specs.Nodes.{entry_node}
-use Rattle.cell_env.specs.Cells.{IsWithin}
-use Rattle.interfere_set.specs.Stores.{Interferences, no_interference}
-use Rattle.transfer_rows.specs.Actions.{Spot}
-use Rattle.transfer_rows.specs.Meanings.{IsSpotOf}
-use Rattle.edge_actions.specs.Layouts.{spots_of}
-use Rattle.typed_values.specs.Types.{HaveEnds}
+use Rattle.region_cells.specs.tm_typed.declared.types.Scalar.{Scalar}
+use Rattle.region_cells.specs.tm_typed.Files.{TypedFileTree}
+use Rattle.region_cells.specs.tm_laid.Layouts.{LaidTree}
+use Rattle.task_equations.specs.mutex_configs.Nodes.{entry_node}
+use Rattle.edge_filters.specs.cell_env.Cells.{IsWithin}
+use Rattle.edge_filters.specs.interfere_set.Stores.{Interferences, no_interference}
+use Rattle.edge_filters.specs.transfer_rows.Actions.{Spot}
+use Rattle.edge_filters.specs.transfer_rows.Meanings.{IsSpotOf}
+use Rattle.edge_filters.specs.edge_actions.Layouts.{spots_of}
+use Rattle.task_equations.specs.typed_values.Types.{HaveEnds}
 use Rattle.task_equations.specs.Bodies.{Body, node_at}
 use Rattle.task_equations.specs.Premises.{IsBody}
 use Rattle.program_equations.specs.Programs.{ProgramBodies, IsBodyAt, IsProgram}

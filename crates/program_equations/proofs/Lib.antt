@@ -1,3 +1,4 @@
 -- The definitions tried on a small program (Examples), and on one whose task does nothing (IdleTask).
 mod Examples
 mod IdleTask
+pub mod low

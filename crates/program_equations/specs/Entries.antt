@@ -4,21 +4,21 @@ use Rattle.std.specs.Prelude.{ℕ, zero, suc, ◌==◌, Bool, true, false, not, 
 use Rattle.std.specs.Prelude.{slice_get, get_or, Option, Some, None}
 use Rattle.std.specs.FinMap.{empty as no_entry, insert}
 use Rattle.std.specs.Option.{option_map}
-use Rattle.strided_dom.specs.Progression.{single}
-use Rattle.tm_lattice.specs.Tables.{Table, joined_at}
-use Rattle.tm_laid.specs.declared.objects.Initial.{Initial}
-use Rattle.tm_laid.specs.declared.objects.Initial.TheVariants as Initials
-use Rattle.tm_laid.specs.Layouts.{LaidTree, abstract_at, cell_at}
-use Rattle.flow_graph.specs.Graphs.{Edges}
-use Rattle.pointer_dom.specs.Values.{Values, joined_values, no_value}
-use Rattle.cell_env.specs.States.{joined_state}
-use Rattle.transfer_rows.specs.StateForms.{Cell, State, only_numbers, only_pointers, own_of}
-use Rattle.edge_actions.specs.Edges.{only_null, pointer_within}
-use Rattle.edge_actions.specs.Layouts.{open_value, is_reachable, is_shared_cell}
-use Rattle.tm_laid.specs.Layouts.{object_at}
-use Rattle.least_tables.specs.Solutions.{NodeTable}
-use Rattle.mutex_configs.specs.declared.nodes.ConfiguredNode.{ConfiguredNode}
-use Rattle.mutex_configs.specs.Nodes.{entry_node}
+use Rattle.edge_filters.specs.strided_dom.Progression.{single}
+use Rattle.region_cells.specs.tm_lattice.Tables.{Table, joined_at}
+use Rattle.region_cells.specs.tm_laid.declared.objects.Initial.{Initial}
+use Rattle.region_cells.specs.tm_laid.declared.objects.Initial.TheVariants as Initials
+use Rattle.region_cells.specs.tm_laid.Layouts.{LaidTree, abstract_at, cell_at}
+use Rattle.region_cells.specs.flow_graph.Graphs.{Edges}
+use Rattle.edge_filters.specs.pointer_dom.Values.{Values, joined_values, no_value}
+use Rattle.edge_filters.specs.cell_env.States.{joined_state}
+use Rattle.edge_filters.specs.transfer_rows.StateForms.{Cell, State, only_numbers, only_pointers, own_of}
+use Rattle.edge_filters.specs.edge_actions.Edges.{only_null, pointer_within}
+use Rattle.edge_filters.specs.edge_actions.Layouts.{open_value, is_reachable, is_shared_cell}
+use Rattle.region_cells.specs.tm_laid.Layouts.{object_at}
+use Rattle.task_equations.specs.least_tables.Solutions.{NodeTable}
+use Rattle.task_equations.specs.mutex_configs.declared.nodes.ConfiguredNode.{ConfiguredNode}
+use Rattle.task_equations.specs.mutex_configs.Nodes.{entry_node}
 use Rattle.task_equations.specs.Bodies.{Body}
 
 -- ## Before the program runs

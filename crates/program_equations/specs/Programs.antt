@@ -1,25 +1,25 @@
 -- A program as its bodies, and what it keeps of which the equations are solved.
 use Rattle.std.specs.Prelude.{◌≡◌, ℕ, suc, ◌<◌, ◌≤◌, ℤ, Bool, true, false, max, List, [], ◌∷◌, ◌++◌, length, map}
 use Rattle.std.specs.Prelude.{get_or, Option, Some, None}
-use Rattle.tm_typed.specs.declared.files.TypedTask.{TypedTask}
-use Rattle.tm_typed.specs.declared.types.Scalar.{Scalar}
-use Rattle.tm_laid.specs.Layouts.{LaidTree, abstract_at, cell_at}
-use Rattle.flow_graph.specs.declared.graphs.Graph.{Graph}
-use Rattle.flow_graph.specs.declared.operations.Operation.{Operation}
-use Rattle.flow_graph.specs.declared.operations.Operation.TheVariants as Op
-use Rattle.flow_graph.specs.Operations.{given}
-use Rattle.flow_graph.specs.Graphs.{Edges}
-use Rattle.transfer_rows.specs.Actions.{Spot}
-use Rattle.transfer_rows.specs.Meanings.{IsSpotOf}
-use Rattle.edge_actions.specs.Layouts.{spots_of}
+use Rattle.region_cells.specs.tm_typed.declared.files.TypedTask.{TypedTask}
+use Rattle.region_cells.specs.tm_typed.declared.types.Scalar.{Scalar}
+use Rattle.region_cells.specs.tm_laid.Layouts.{LaidTree, abstract_at, cell_at}
+use Rattle.region_cells.specs.flow_graph.declared.graphs.Graph.{Graph}
+use Rattle.region_cells.specs.flow_graph.declared.operations.Operation.{Operation}
+use Rattle.region_cells.specs.flow_graph.declared.operations.Operation.TheVariants as Op
+use Rattle.region_cells.specs.flow_graph.Operations.{given}
+use Rattle.region_cells.specs.flow_graph.Graphs.{Edges}
+use Rattle.edge_filters.specs.transfer_rows.Actions.{Spot}
+use Rattle.edge_filters.specs.transfer_rows.Meanings.{IsSpotOf}
+use Rattle.edge_filters.specs.edge_actions.Layouts.{spots_of}
 use Rattle.edge_filters.specs.Tests.{IsTestable}
-use Rattle.graph_facts.specs.Live.{AreLive}
-use Rattle.graph_facts.specs.Heads.{AreHeads}
+use Rattle.region_cells.specs.graph_facts.Live.{AreLive}
+use Rattle.region_cells.specs.graph_facts.Heads.{AreHeads}
 use Rattle.region_cells.specs.Written.{AreAllWritten}
-use Rattle.mutex_configs.specs.declared.nodes.ConfiguredGraph.{ConfiguredGraph}
-use Rattle.temporary_types.specs.Sorts.{Sort}
-use Rattle.temporary_types.specs.PointerMarks.{pointer_marks}
-use Rattle.typed_values.specs.Types.{IsOfType}
+use Rattle.task_equations.specs.mutex_configs.declared.nodes.ConfiguredGraph.{ConfiguredGraph}
+use Rattle.task_equations.specs.temporary_types.Sorts.{Sort}
+use Rattle.task_equations.specs.temporary_types.PointerMarks.{pointer_marks}
+use Rattle.task_equations.specs.typed_values.Types.{IsOfType}
 use Rattle.task_equations.specs.Bodies.{Body, no_edge, node_at, live_at}
 use Rattle.task_equations.specs.Premises.{IsBody}
 use Rattle.program_equations.specs.Readings.{read_layout}

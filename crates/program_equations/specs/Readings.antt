@@ -1,7 +1,7 @@
 -- What the equations read of a layout.
 use Rattle.std.specs.Prelude.{[], None}
-use Rattle.tm_typed.specs.Files.{TypedFileTree}
-use Rattle.tm_laid.specs.Layouts.{LaidTree}
+use Rattle.region_cells.specs.tm_typed.Files.{TypedFileTree}
+use Rattle.region_cells.specs.tm_laid.Layouts.{LaidTree}
 
 -- The types, by which pointed values are found, and the mutexes; the bodies of functions, and what typing keeps for
 -- other layers, are left out.

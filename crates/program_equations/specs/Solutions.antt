@@ -1,18 +1,19 @@
 -- The solutions of a program, as least tables of several tasks over one store are: the parts of the whole system, and
 -- what a pair of tables and a store does not cover.
 use Rattle.std.specs.Prelude.{◌≡◌, ℕ, suc, ◌<◌, nat_lt, ℤ, Bool, cond, List, [], length, map, get_or, is_some, Option}
-use Rattle.tm_lattice.specs.declared.passers.Passer as passer
-use Rattle.interfere_set.specs.Stores.{Interferences, no_interference}
-use Rattle.transfer_rows.specs.StateForms.{State}
-use Rattle.value_heights.specs.Heights.{value_height}
-use Rattle.cell_env.specs.States.{state_height}
-use Rattle.least_tables.specs.declared.links.Link.{Link}
-use Rattle.least_tables.specs.declared.covers.Uncovered.{Uncovered}
-use Rattle.least_tables.specs.declared.covers.Uncovered.TheVariants.{Entry as the_entry, Edge as the_edge}
-use Rattle.least_tables.specs.Systems.{System}
-use Rattle.least_tables.specs.Solutions.{NodeTable, at, IsSolution, IsFirstUncovered}
-use Rattle.least_tables.specs.Whole as whole
-use Rattle.state_fits.specs.Tops.{top_state}
+use Rattle.region_cells.specs.tm_lattice.declared.passers.Passer as passer
+use Rattle.edge_filters.specs.interfere_set.Stores.{Interferences, no_interference}
+use Rattle.edge_filters.specs.transfer_rows.StateForms.{State}
+use Rattle.task_equations.specs.value_heights.Heights.{value_height}
+use Rattle.edge_filters.specs.cell_env.States.{state_height}
+use Rattle.task_equations.specs.least_tables.declared.links.Link.{Link}
+use Rattle.task_equations.specs.least_tables.declared.covers.Uncovered.{Uncovered}
+use Rattle.task_equations.specs.least_tables.declared.covers.Uncovered.TheVariants.{Entry as the_entry}
+use Rattle.task_equations.specs.least_tables.declared.covers.Uncovered.TheVariants.{Edge as the_edge}
+use Rattle.task_equations.specs.least_tables.Systems.{System}
+use Rattle.task_equations.specs.least_tables.Solutions.{NodeTable, at, IsSolution, IsFirstUncovered}
+use Rattle.task_equations.specs.least_tables.Whole as whole
+use Rattle.task_equations.specs.state_fits.Tops.{top_state}
 use Rattle.task_equations.specs.Bodies.{Body, node_at, copy_at, live_at}
 use Rattle.task_equations.specs.Equations.{after_along, added_along, link_of, cells_at, rounded_at}
 use Rattle.program_equations.specs.Programs.{ProgramBodies, body_at, IsProgram}

@@ -1,18 +1,19 @@
 -- The equations of the bodies of a program, over what the tasks share and after the initial section.
 use Rattle.std.specs.Prelude.{ℕ, zero, suc, nat_lt, ℤ, Bool, cond, List, [], ◌∷◌, ◌++◌, length, map}
 use Rattle.std.specs.Prelude.{Option, Some}
-use Rattle.tm_lattice.specs.declared.lattices.Lattice as lattice
-use Rattle.pointer_dom.specs.Values.{joined_values, rounded_values}
-use Rattle.cell_env.specs.States.{joined_state, rounded_state}
-use Rattle.interfere_set.specs.Stores.{Interferences, IsStore, IsStoreBelow, joined_store, rounded_store}
-use Rattle.interfere_set.specs.Stores.{no_interference}
-use Rattle.interfere_set.specs.laws.StoreLaws.{HasNoInterference}
-use Rattle.transfer_rows.specs.StateForms.{State, IsStateForm, IsStateUnder}
-use Rattle.temporary_types.specs.Sorts.{Sort}
-use Rattle.state_fits.specs.Fits.{FitsStore}
-use Rattle.least_tables.specs.Systems.{System}
-use Rattle.least_tables.specs.Solutions.{NodeTable, at, least_of, IsNodewiseBelow, IsSolution, IsLeastSolution}
-use Rattle.least_tables.specs.Passes.{added_below}
+use Rattle.region_cells.specs.tm_lattice.declared.lattices.Lattice as lattice
+use Rattle.edge_filters.specs.pointer_dom.Values.{joined_values, rounded_values}
+use Rattle.edge_filters.specs.cell_env.States.{joined_state, rounded_state}
+use Rattle.edge_filters.specs.interfere_set.Stores.{Interferences, IsStore, IsStoreBelow, joined_store, rounded_store}
+use Rattle.edge_filters.specs.interfere_set.Stores.{no_interference}
+use Rattle.edge_filters.specs.interfere_set.laws.StoreLaws.{HasNoInterference}
+use Rattle.edge_filters.specs.transfer_rows.StateForms.{State, IsStateForm, IsStateUnder}
+use Rattle.task_equations.specs.temporary_types.Sorts.{Sort}
+use Rattle.task_equations.specs.state_fits.Fits.{FitsStore}
+use Rattle.task_equations.specs.least_tables.Systems.{System}
+use Rattle.task_equations.specs.least_tables.Solutions.{NodeTable, at, least_of, IsNodewiseBelow, IsSolution}
+use Rattle.task_equations.specs.least_tables.Solutions.{IsLeastSolution}
+use Rattle.task_equations.specs.least_tables.Passes.{added_below}
 use Rattle.task_equations.specs.Bodies.{Body, copy_at}
 use Rattle.task_equations.specs.Equations.{equations_of, link_of, added_along}
 use Rattle.task_equations.specs.Premises.{IsBody, FitsNode}

@@ -2,10 +2,10 @@
 use Rattle.std.proofs.Common.{◌≡◌, ◌<◌, ◌≤◌, ◌^◌, ℕ, List, [], ◌∷◌, ◌++◌, length, map, get_or, ap, subst, sym, arith, All}
 use Rattle.std.specs.Prelude.{Option, Some, None}
 use Rattle.std.proofs.lemmas.List.{length-append, length-map}
-use Rattle.tm_typed.specs.Files.{TypedFileTree}
+use Rattle.tm_laid.specs.tm_typed.Files.{TypedFileTree}
 use Rattle.tm_laid.specs.Layouts.{LaidTree, layout_of}
 use Rattle.tm_laid.specs.Paths.{bodies_of, listed}
-use Rattle.flow_graph.specs.declared.graphs.Graph.{Graph}
+use Rattle.mutex_configs.specs.flow_graph.declared.graphs.Graph.{Graph}
 use Rattle.layout_laws.specs.Limited.{IsLimited}
 use Rattle.layout_laws.proofs.Kept.{limits_kept}
 use Rattle.lowering_laws.specs.LaidFiles.{IsLaidFile}

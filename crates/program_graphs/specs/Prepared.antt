@@ -5,7 +5,7 @@ use Rattle.tm_terms.specs.declared.refusals.Fail.TheVariants as Fails
 use Rattle.tm_terms.specs.declared.refusals.Limit.TheVariants as Limits
 use Rattle.tm_terms.specs.declared.refusals.Refusal.{Refusal}
 use Rattle.tm_laid.specs.Layouts.{LaidTree, beyond}
-use Rattle.flow_graph.specs.declared.graphs.Graph.{Graph}
+use Rattle.mutex_configs.specs.flow_graph.declared.graphs.Graph.{Graph}
 use Rattle.mutex_configs.specs.declared.nodes.ConfiguredGraph.{ConfiguredGraph}
 use Rattle.mutex_configs.specs.declared.programs.Program.{Program}
 use Rattle.mutex_configs.specs.Programs.{IsAnswer}

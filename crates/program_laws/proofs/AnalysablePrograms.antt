@@ -1,22 +1,22 @@
 -- A program that is prepared can be analysed.
 use Rattle.std.specs.Prelude.{ℕ, ◌<◌, ◌≤◌, ◌^◌, List, length, get_or, All, Ok}
 use Rattle.std.proofs.Common.{arith}
-use Rattle.tm_typed.specs.TypedFiles.{typed_file_tree}
-use Rattle.tm_laid.specs.Layouts.{LaidTree, laid_tree}
-use Rattle.call_graph.specs.Orders.{IsWholeOrder}
-use Rattle.flow_graph.specs.declared.graphs.Graph.{Graph}
-use Rattle.graph_facts.specs.Edges.{AreInRange}
+use Rattle.layout_laws.specs.tm_typed.TypedFiles.{typed_file_tree}
+use Rattle.layout_laws.specs.tm_laid.Layouts.{LaidTree, laid_tree}
+use Rattle.operation_laws.specs.call_graph.Orders.{IsWholeOrder}
+use Rattle.graph_builder.specs.flow_graph.declared.graphs.Graph.{Graph}
+use Rattle.operation_laws.specs.graph_facts.Edges.{AreInRange}
 use Rattle.graph_builder.specs.Lowered.{AreGraphs}
-use Rattle.mutex_configs.specs.declared.nodes.ConfiguredNode.{ConfiguredNode}
-use Rattle.mutex_configs.specs.declared.nodes.ConfiguredGraph.{ConfiguredGraph}
-use Rattle.mutex_configs.specs.declared.programs.Program.{Program}
-use Rattle.mutex_configs.specs.Graphs.{IsGraph}
-use Rattle.mutex_configs.specs.Nodes.{IsConfigured}
-use Rattle.mutex_configs.specs.Programs.{IsAnswer}
-use Rattle.mutex_configs.proofs.Whole.{places_are, same_length}
+use Rattle.operation_laws.specs.mutex_configs.declared.nodes.ConfiguredNode.{ConfiguredNode}
+use Rattle.operation_laws.specs.mutex_configs.declared.nodes.ConfiguredGraph.{ConfiguredGraph}
+use Rattle.operation_laws.specs.mutex_configs.declared.programs.Program.{Program}
+use Rattle.operation_laws.specs.mutex_configs.Graphs.{IsGraph}
+use Rattle.operation_laws.specs.mutex_configs.Nodes.{IsConfigured}
+use Rattle.operation_laws.specs.mutex_configs.Programs.{IsAnswer}
+use Rattle.operation_laws.proofs.low.mutex_configs.Whole.{places_are, same_length}
 use Rattle.thresholds.specs.Thresholds.{Numbers, AreThresholds}
-use Rattle.lowering_laws.specs.LaidFiles.{IsLaidFile}
-use Rattle.lowering_laws.proofs.Configured.{configurable}
+use Rattle.operation_laws.specs.lowering_laws.LaidFiles.{IsLaidFile}
+use Rattle.operation_laws.proofs.low.lowering_laws.Configured.{configurable}
 use Rattle.program_systems.specs.Analysable.{IsAnalysable}
 use Rattle.program_laws.proofs.LayableFiles.{files_layable}
 use Rattle.program_laws.proofs.LaidCells.{limited}

@@ -7,34 +7,37 @@ use Rattle.std.proofs.lemmas.Bool.{false≢true, cases_lt, ltb-false}
 use Rattle.std.proofs.lemmas.Option.{same_Some, slice_get-get_or}
 use Rattle.std.proofs.lemmas.List.{length-map, length-append, length-set, map-append, get_or_past}
 use Rattle.std.proofs.lemmas.List.Elements.{All-head, All-tail, All-weaker}
-use Rattle.tm_terms.specs.declared.refusals.Limit.TheVariants as Limits
-use Rattle.tm_typed.specs.declared.types.Scalar.{Scalar}
-use Rattle.tm_typed.specs.declared.types.Scalar.TheVariants as Scalars
-use Rattle.tm_typed.specs.declared.files.StaticCell.{StaticCell}
-use Rattle.tm_typed.specs.declared.files.StaticValue.{StaticValue}
-use Rattle.tm_typed.specs.declared.files.StaticValue.TheVariants as Values
-use Rattle.tm_typed.specs.States.{Static, no_static}
-use Rattle.tm_typed.specs.Files.{TypedFileTree}
-use Rattle.tm_laid.specs.declared.objects.DeclaredObject.{DeclaredObject}
-use Rattle.tm_laid.specs.declared.objects.LaidObject.{LaidObject}
-use Rattle.tm_laid.specs.declared.objects.Initial.{Initial}
-use Rattle.tm_laid.specs.declared.cells.LaidCell.{LaidCell}
-use Rattle.tm_laid.specs.TypeCells.{TypeCell, type_cells, type_depth, cells_of_type, abstract_cells_of_type}
-use Rattle.tm_laid.specs.Objects.{static_objects, path_objects, static_numbers, objects_from, laid_cell, cells_from}
-use Rattle.tm_laid.specs.Objects.{nothing_given, value_given, with_given, initial_values}
-use Rattle.tm_laid.specs.Paths.{paths_of}
-use Rattle.tm_laid.specs.Layable.{IsLayable}
-use Rattle.tm_laid.specs.Layouts.{LaidTree, no_object, no_cell, cell_at, abstract_at, scalars_of_type, summed_types}
-use Rattle.tm_laid.specs.Layouts.{declared_objects, layout_along, layout_of, is_exceeded, laid_count, over_objects}
-use Rattle.cell_layout.proofs.CellPairs.{cells_of_objects}
-use Rattle.cell_types.proofs.Types.{length_of}
-use Rattle.typed_file_laws.specs.Sites.{is_defined_object}
-use Rattle.next_action_laws.specs.InitialValues.{IsValueFor, IsFilled, AreFilled}
-use Rattle.next_action_laws.proofs.ObjectPlaces.{count_is, scalars_are, laid_at, static_declared}
-use Rattle.next_action_laws.proofs.PathPlaces.{all_cells}
-use Rattle.next_action_laws.proofs.StartingCells.{given_scalar}
-use Rattle.typed_values.specs.Types.{IsOfType}
-use Rattle.program_equations.specs.Entries.{initial_or_none, initial_at}
+use Rattle.layout_laws.specs.tm_terms.declared.refusals.Limit.TheVariants as Limits
+use Rattle.layout_laws.specs.tm_typed.declared.types.Scalar.{Scalar}
+use Rattle.layout_laws.specs.tm_typed.declared.types.Scalar.TheVariants as Scalars
+use Rattle.layout_laws.specs.tm_typed.declared.files.StaticCell.{StaticCell}
+use Rattle.layout_laws.specs.tm_typed.declared.files.StaticValue.{StaticValue}
+use Rattle.layout_laws.specs.tm_typed.declared.files.StaticValue.TheVariants as Values
+use Rattle.layout_laws.specs.tm_typed.States.{Static, no_static}
+use Rattle.layout_laws.specs.tm_typed.Files.{TypedFileTree}
+use Rattle.layout_laws.specs.tm_laid.declared.objects.DeclaredObject.{DeclaredObject}
+use Rattle.layout_laws.specs.tm_laid.declared.objects.LaidObject.{LaidObject}
+use Rattle.layout_laws.specs.tm_laid.declared.objects.Initial.{Initial}
+use Rattle.layout_laws.specs.tm_laid.declared.cells.LaidCell.{LaidCell}
+use Rattle.layout_laws.specs.tm_laid.TypeCells.{TypeCell, type_cells, type_depth, cells_of_type, abstract_cells_of_type}
+use Rattle.layout_laws.specs.tm_laid.Objects.{static_objects, path_objects, static_numbers, objects_from, laid_cell}
+use Rattle.layout_laws.specs.tm_laid.Objects.{cells_from}
+use Rattle.layout_laws.specs.tm_laid.Objects.{nothing_given, value_given, with_given, initial_values}
+use Rattle.layout_laws.specs.tm_laid.Paths.{paths_of}
+use Rattle.layout_laws.specs.tm_laid.Layable.{IsLayable}
+use Rattle.layout_laws.specs.tm_laid.Layouts.{LaidTree, no_object, no_cell, cell_at, abstract_at, scalars_of_type}
+use Rattle.layout_laws.specs.tm_laid.Layouts.{summed_types}
+use Rattle.layout_laws.specs.tm_laid.Layouts.{declared_objects, layout_along, layout_of, is_exceeded, laid_count}
+use Rattle.layout_laws.specs.tm_laid.Layouts.{over_objects}
+use Rattle.layout_laws.proofs.low.cell_layout.CellPairs.{cells_of_objects}
+use Rattle.operation_laws.proofs.low.cell_types.Types.{length_of}
+use Rattle.operation_laws.specs.typed_file_laws.Sites.{is_defined_object}
+use Rattle.operation_laws.specs.next_action_laws.InitialValues.{IsValueFor, IsFilled, AreFilled}
+use Rattle.operation_laws.proofs.low.next_action_laws.ObjectPlaces.{count_is, scalars_are, laid_at, static_declared}
+use Rattle.operation_laws.proofs.low.next_action_laws.PathPlaces.{all_cells}
+use Rattle.operation_laws.proofs.low.next_action_laws.StartingCells.{given_scalar}
+use Rattle.program_systems.specs.typed_values.Types.{IsOfType}
+use Rattle.program_systems.specs.program_equations.Entries.{initial_or_none, initial_at}
 use Rattle.program_laws.proofs.InitialValues.{Fits, number_fits, null_fits, address_fits, nothing_fits}
 
 -- ## Lists of values

@@ -5,29 +5,29 @@ use Rattle.std.proofs.lemmas.Bool.{cases_eq}
 use Rattle.std.specs.Ordering.{nat_cmp}
 use Rattle.std.specs.FinMap as map
 use Rattle.std.specs.FinMap.{get, get-empty}
-use Rattle.strided_dom.specs.Progression.{single, Has}
-use Rattle.tm_lattice.specs.laws.TableLaws.{get-insert_here, get-insert_there}
-use Rattle.tm_cint.specs.declared.int_types.IntType.{IntType}
-use Rattle.tm_cint.specs.IntTypes.{IsIn}
-use Rattle.tm_cint.proofs.Values.{zero_in}
-use Rattle.tm_typed.specs.declared.types.Scalar.{Scalar}
-use Rattle.tm_typed.specs.declared.types.Scalar.TheVariants as Scalars
-use Rattle.tm_laid.specs.declared.objects.Initial.{Initial}
-use Rattle.tm_laid.specs.declared.objects.Initial.TheVariants as Initials
-use Rattle.tm_laid.specs.Objects.{nothing_given}
-use Rattle.tm_laid.specs.Layouts.{LaidTree, object_at}
-use Rattle.concrete_values.specs.declared.values.Pointer.TheVariants as Pointers
-use Rattle.concrete_values.specs.declared.values.Value.{Value}
-use Rattle.concrete_values.specs.declared.values.Value.TheVariants as Constant
-use Rattle.flow_graph.specs.declared.operations.Operation.TheVariants as Op
-use Rattle.pointer_dom.specs.OffsetSets.{OffsetSet}
-use Rattle.pointer_dom.specs.PointerSets.{Pointers, no_pointer, pointer_to}
-use Rattle.pointer_dom.specs.Values.{Values, IsValues}
-use Rattle.transfer_rows.specs.Actions.{constant, constant_is, gives, IsAction, gives_is}
-use Rattle.edge_actions.specs.Edges.{only_null, constant_value}
-use Rattle.edge_actions.proofs.ActionForms.{edge_is}
-use Rattle.typed_values.specs.Types.{AreObjects, IsOfType}
-use Rattle.program_equations.specs.Entries.{initial_value}
+use Rattle.thresholds.specs.strided_dom.Progression.{single, Has}
+use Rattle.thresholds.specs.tm_lattice.laws.TableLaws.{get-insert_here, get-insert_there}
+use Rattle.thresholds.specs.tm_cint.declared.int_types.IntType.{IntType}
+use Rattle.thresholds.specs.tm_cint.IntTypes.{IsIn}
+use Rattle.thresholds.proofs.low.tm_cint.Values.{zero_in}
+use Rattle.layout_laws.specs.tm_typed.declared.types.Scalar.{Scalar}
+use Rattle.layout_laws.specs.tm_typed.declared.types.Scalar.TheVariants as Scalars
+use Rattle.layout_laws.specs.tm_laid.declared.objects.Initial.{Initial}
+use Rattle.layout_laws.specs.tm_laid.declared.objects.Initial.TheVariants as Initials
+use Rattle.layout_laws.specs.tm_laid.Objects.{nothing_given}
+use Rattle.layout_laws.specs.tm_laid.Layouts.{LaidTree, object_at}
+use Rattle.graph_builder.specs.concrete_values.declared.values.Pointer.TheVariants as Pointers
+use Rattle.graph_builder.specs.concrete_values.declared.values.Value.{Value}
+use Rattle.graph_builder.specs.concrete_values.declared.values.Value.TheVariants as Constant
+use Rattle.graph_builder.specs.flow_graph.declared.operations.Operation.TheVariants as Op
+use Rattle.program_systems.specs.pointer_dom.OffsetSets.{OffsetSet}
+use Rattle.program_systems.specs.pointer_dom.PointerSets.{Pointers, no_pointer, pointer_to}
+use Rattle.program_systems.specs.pointer_dom.Values.{Values, IsValues}
+use Rattle.program_systems.specs.transfer_rows.Actions.{constant, constant_is, gives, IsAction, gives_is}
+use Rattle.program_systems.specs.edge_actions.Edges.{only_null, constant_value}
+use Rattle.program_systems.proofs.low.edge_actions.ActionForms.{edge_is}
+use Rattle.program_systems.specs.typed_values.Types.{AreObjects, IsOfType}
+use Rattle.program_systems.specs.program_equations.Entries.{initial_value}
 
 one_number : (n x : ℤ) → Has (single n) x → x ≡ n
 unfolding Has

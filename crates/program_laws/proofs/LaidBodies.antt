@@ -5,52 +5,54 @@ use Rattle.std.specs.Prelude.{refl}
 use Rattle.std.proofs.Common.{sym, ap, subst, ◌∙◌, inl, inr, arith}
 use Rattle.std.proofs.lemmas.Bool.{cases_lt}
 use Rattle.std.proofs.lemmas.Int.{ints}
-use Rattle.strided_dom.specs.Progression.{IsInReach}
-use Rattle.tm_cint.proofs.Wide.{wide}
-use Rattle.tm_typed.specs.declared.types.Scalar.{Scalar}
-use Rattle.tm_laid.specs.Layouts.{LaidTree}
-use Rattle.flow_graph.specs.declared.graphs.Edge.{Edge}
-use Rattle.flow_graph.specs.declared.graphs.Graph.{Graph}
-use Rattle.flow_graph.specs.declared.operations.Test.{Test}
-use Rattle.flow_graph.specs.declared.operations.Test.TheVariants as Tests
-use Rattle.flow_graph.specs.declared.operations.Operation.{Operation}
-use Rattle.flow_graph.specs.declared.operations.Operation.TheVariants as Op
-use Rattle.flow_graph.specs.Graphs.{Edges, IsLive}
-use Rattle.concrete_values.specs.declared.values.Pointer.{Pointer}
-use Rattle.concrete_values.specs.declared.values.Pointer.TheVariants as Pointers
-use Rattle.concrete_values.specs.declared.values.Value.{Value}
-use Rattle.concrete_values.specs.declared.values.Value.TheVariants as Constant
-use Rattle.graph_facts.specs.Live.{AreLive}
-use Rattle.lowering.specs.Built.{graph_of}
+use Rattle.thresholds.specs.strided_dom.Progression.{IsInReach}
+use Rattle.thresholds.proofs.low.tm_cint.Wide.{wide}
+use Rattle.layout_laws.specs.tm_typed.declared.types.Scalar.{Scalar}
+use Rattle.layout_laws.specs.tm_laid.Layouts.{LaidTree}
+use Rattle.graph_builder.specs.flow_graph.declared.graphs.Edge.{Edge}
+use Rattle.graph_builder.specs.flow_graph.declared.graphs.Graph.{Graph}
+use Rattle.graph_builder.specs.flow_graph.declared.operations.Test.{Test}
+use Rattle.graph_builder.specs.flow_graph.declared.operations.Test.TheVariants as Tests
+use Rattle.graph_builder.specs.flow_graph.declared.operations.Operation.{Operation}
+use Rattle.graph_builder.specs.flow_graph.declared.operations.Operation.TheVariants as Op
+use Rattle.graph_builder.specs.flow_graph.Graphs.{Edges, IsLive}
+use Rattle.graph_builder.specs.concrete_values.declared.values.Pointer.{Pointer}
+use Rattle.graph_builder.specs.concrete_values.declared.values.Pointer.TheVariants as Pointers
+use Rattle.graph_builder.specs.concrete_values.declared.values.Value.{Value}
+use Rattle.graph_builder.specs.concrete_values.declared.values.Value.TheVariants as Constant
+use Rattle.operation_laws.specs.graph_facts.Live.{AreLive}
+use Rattle.graph_builder.specs.lowering.Built.{graph_of}
 use Rattle.graph_builder.specs.Lowered.{IsGraphOf, AreGraphs}
-use Rattle.mutex_configs.specs.declared.nodes.ConfiguredNode.{ConfiguredNode}
-use Rattle.mutex_configs.specs.declared.nodes.ConfiguredGraph.{ConfiguredGraph}
-use Rattle.mutex_configs.specs.Nodes.{AreNodes, IsConfigured}
-use Rattle.mutex_configs.specs.Programs.{AreConfigured, IsAnswer}
-use Rattle.transfer_rows.specs.Actions.{Spot}
-use Rattle.transfer_rows.specs.Meanings.{IsSpotOf}
-use Rattle.edge_actions.specs.Layouts.{spots_of}
-use Rattle.edge_filters.specs.Tests.{IsTestable}
-use Rattle.typed_values.specs.Types.{HaveEnds}
-use Rattle.temporary_types.specs.Sorts.{Sort, FitsSorts, AreSorts}
-use Rattle.state_fits.specs.Typed.{PointsToObject, NamesObject, NamesObjects, SpotsAgree}
-use Rattle.typed_file_laws.specs.Lawful.{IsNumber}
-use Rattle.lowering_laws.specs.LaidFiles.{IsLaidFile}
-use Rattle.lowering_laws.specs.Operations.{PointsNowhere, IsPlainValue, HasPlainConstant, IsPlainTest, HasPlainTest}
-use Rattle.lowering_laws.proofs.Ranges.{leads_on}
-use Rattle.lowering_laws.proofs.GraphLaws.{none_live}
-use Rattle.lowering_laws.proofs.Configured.{configurable}
-use Rattle.lowering_laws.proofs.TableGraphs.{constants_of_file, tests_of_file}
+use Rattle.operation_laws.specs.mutex_configs.declared.nodes.ConfiguredNode.{ConfiguredNode}
+use Rattle.operation_laws.specs.mutex_configs.declared.nodes.ConfiguredGraph.{ConfiguredGraph}
+use Rattle.operation_laws.specs.mutex_configs.Nodes.{AreNodes, IsConfigured}
+use Rattle.operation_laws.specs.mutex_configs.Programs.{AreConfigured, IsAnswer}
+use Rattle.program_systems.specs.transfer_rows.Actions.{Spot}
+use Rattle.program_systems.specs.transfer_rows.Meanings.{IsSpotOf}
+use Rattle.program_systems.specs.edge_actions.Layouts.{spots_of}
+use Rattle.program_systems.specs.edge_filters.Tests.{IsTestable}
+use Rattle.program_systems.specs.typed_values.Types.{HaveEnds}
+use Rattle.operation_laws.specs.temporary_types.Sorts.{Sort, FitsSorts, AreSorts}
+use Rattle.program_systems.specs.state_fits.Typed.{PointsToObject, NamesObject, NamesObjects, SpotsAgree}
+use Rattle.operation_laws.specs.typed_file_laws.Lawful.{IsNumber}
+use Rattle.operation_laws.specs.lowering_laws.LaidFiles.{IsLaidFile}
+use Rattle.operation_laws.specs.lowering_laws.Operations.{PointsNowhere, IsPlainValue, HasPlainConstant, IsPlainTest}
+use Rattle.operation_laws.specs.lowering_laws.Operations.{HasPlainTest}
+use Rattle.operation_laws.proofs.low.lowering_laws.Ranges.{leads_on}
+use Rattle.operation_laws.proofs.low.lowering_laws.GraphLaws.{none_live}
+use Rattle.operation_laws.proofs.low.lowering_laws.Configured.{configurable}
+use Rattle.operation_laws.proofs.low.lowering_laws.TableGraphs.{constants_of_file, tests_of_file}
 use Rattle.operation_laws.proofs.FileSorts.{file_sorts}
-use Rattle.task_equations.specs.Bodies.{Body, no_edge, node_at, live_at}
-use Rattle.task_equations.specs.Premises.{IsBody}
-use Rattle.task_equations.specs.Configured.{NeverReturns, IsTypedBody}
-use Rattle.task_equations.proofs.PlacesOfBodies.{entry_first}
-use Rattle.task_equations.proofs.ConfiguredBodies.{configured_body}
-use Rattle.program_equations.specs.Readings.{read_layout}
-use Rattle.program_equations.specs.Programs.{ProgramBodies, body_at, IsBodyIn, IsNumbered, IsProgramOf, IsTested}
-use Rattle.program_equations.specs.Programs.{IsBodyAt}
-use Rattle.program_equations.specs.laws.ReadAlike.{spots_read, sorts_read, agree_read}
+use Rattle.program_systems.specs.task_equations.Bodies.{Body, no_edge, node_at, live_at}
+use Rattle.program_systems.specs.task_equations.Premises.{IsBody}
+use Rattle.program_systems.specs.task_equations.Configured.{NeverReturns, IsTypedBody}
+use Rattle.program_systems.proofs.low.task_equations.PlacesOfBodies.{entry_first}
+use Rattle.program_systems.proofs.low.task_equations.ConfiguredBodies.{configured_body}
+use Rattle.program_systems.specs.program_equations.Readings.{read_layout}
+use Rattle.program_systems.specs.program_equations.Programs.{ProgramBodies, body_at, IsBodyIn, IsNumbered, IsProgramOf}
+use Rattle.program_systems.specs.program_equations.Programs.{IsTested}
+use Rattle.program_systems.specs.program_equations.Programs.{IsBodyAt}
+use Rattle.program_systems.specs.program_equations.laws.ReadAlike.{spots_read, sorts_read, agree_read}
 use Rattle.program_laws.proofs.LaidCells.{cells_agree, cells_within}
 
 -- ## Operations

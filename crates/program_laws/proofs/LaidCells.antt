@@ -1,28 +1,29 @@
 -- The cells of a file that is typed and laid out.
 use Rattle.std.proofs.Common.{sym, subst, ℕ, zero, suc, ◌+◌, ◌<◌, ◌≤◌, List, [], ◌∷◌, length, get_or}
 use Rattle.std.proofs.Common.{arith}
-use Rattle.tm_typed.specs.declared.types.Scalar.{Scalar}
-use Rattle.tm_typed.specs.Files.{TypedFileTree}
-use Rattle.tm_laid.specs.declared.objects.DeclaredObject.{DeclaredObject}
-use Rattle.tm_laid.specs.declared.objects.LaidObject.{LaidObject}
-use Rattle.tm_laid.specs.TypeCells.{cells_of_type, abstract_cells_of_type}
-use Rattle.tm_laid.specs.Objects.{objects_from}
-use Rattle.tm_laid.specs.Paths.{paths_of}
-use Rattle.tm_laid.specs.Layouts.{LaidTree, no_object, abstract_at, cell_at, summed_types, declared_objects, layout_of}
-use Rattle.cell_layout.proofs.CellPairs.{cells_of_objects}
+use Rattle.layout_laws.specs.tm_typed.declared.types.Scalar.{Scalar}
+use Rattle.layout_laws.specs.tm_typed.Files.{TypedFileTree}
+use Rattle.layout_laws.specs.tm_laid.declared.objects.DeclaredObject.{DeclaredObject}
+use Rattle.layout_laws.specs.tm_laid.declared.objects.LaidObject.{LaidObject}
+use Rattle.layout_laws.specs.tm_laid.TypeCells.{cells_of_type, abstract_cells_of_type}
+use Rattle.layout_laws.specs.tm_laid.Objects.{objects_from}
+use Rattle.layout_laws.specs.tm_laid.Paths.{paths_of}
+use Rattle.layout_laws.specs.tm_laid.Layouts.{LaidTree, no_object, abstract_at, cell_at, summed_types, declared_objects}
+use Rattle.layout_laws.specs.tm_laid.Layouts.{layout_of}
+use Rattle.layout_laws.proofs.low.cell_layout.CellPairs.{cells_of_objects}
 use Rattle.layout_laws.specs.Limited.{IsLimited}
 use Rattle.layout_laws.proofs.Counted.{abstracts_counted}
 use Rattle.layout_laws.proofs.Kept.{limits_kept}
-use Rattle.transfer_rows.specs.Actions.{Spot}
-use Rattle.transfer_rows.specs.Meanings.{IsSpotOf}
-use Rattle.edge_actions.specs.Layouts.{spots_of}
-use Rattle.typed_values.specs.Types.{IsOfType}
-use Rattle.state_fits.specs.Typed.{SpotsAgree}
-use Rattle.lowering_laws.specs.LaidFiles.{IsLaidFile}
-use Rattle.lowering_laws.proofs.Founded.{file_layable}
-use Rattle.next_action_laws.proofs.RegularFiles.{initial_values_fit}
+use Rattle.program_systems.specs.transfer_rows.Actions.{Spot}
+use Rattle.program_systems.specs.transfer_rows.Meanings.{IsSpotOf}
+use Rattle.program_systems.specs.edge_actions.Layouts.{spots_of}
+use Rattle.program_systems.specs.typed_values.Types.{IsOfType}
+use Rattle.program_systems.specs.state_fits.Typed.{SpotsAgree}
+use Rattle.operation_laws.specs.lowering_laws.LaidFiles.{IsLaidFile}
+use Rattle.operation_laws.proofs.low.lowering_laws.Founded.{file_layable}
+use Rattle.operation_laws.proofs.low.next_action_laws.RegularFiles.{initial_values_fit}
 use Rattle.operation_laws.proofs.FileSorts.{few_cells}
-use Rattle.program_equations.specs.Entries.{initial_at}
+use Rattle.program_systems.specs.program_equations.Entries.{initial_at}
 use Rattle.program_laws.proofs.SpotsOfCells.{AreCells, AreAmong, spots_agree, spots_within}
 use Rattle.program_laws.proofs.InitialCells.{initial_fits}
 

@@ -2,21 +2,21 @@
 use Rattle.std.specs.Prelude.{◌≡◌, ℕ, suc, ◌<◌, ◌≤◌, ℤ, List, [], ◌∷◌, length, map, Option, Some, None, Ok}
 use Rattle.std.proofs.Common.{sym, ap, subst, ◌∙◌, arith}
 use Rattle.std.proofs.lemmas.List.{length-append, length-map}
-use Rattle.tm_typed.specs.declared.files.TypedTask.{TypedTask}
-use Rattle.tm_typed.specs.Files.{TypedFileTree}
-use Rattle.tm_laid.specs.Paths.{listed}
-use Rattle.tm_laid.specs.Layouts.{LaidTree, layout_of, cell_at, abstract_at}
-use Rattle.flow_graph.specs.declared.graphs.Graph.{Graph}
+use Rattle.layout_laws.specs.tm_typed.declared.files.TypedTask.{TypedTask}
+use Rattle.layout_laws.specs.tm_typed.Files.{TypedFileTree}
+use Rattle.layout_laws.specs.tm_laid.Paths.{listed}
+use Rattle.layout_laws.specs.tm_laid.Layouts.{LaidTree, layout_of, cell_at, abstract_at}
+use Rattle.graph_builder.specs.flow_graph.declared.graphs.Graph.{Graph}
 use Rattle.graph_builder.specs.Lowered.{AreGraphs}
-use Rattle.mutex_configs.specs.declared.nodes.ConfiguredGraph.{ConfiguredGraph}
-use Rattle.mutex_configs.specs.Programs.{IsAnswer}
+use Rattle.operation_laws.specs.mutex_configs.declared.nodes.ConfiguredGraph.{ConfiguredGraph}
+use Rattle.operation_laws.specs.mutex_configs.Programs.{IsAnswer}
 use Rattle.thresholds.specs.Thresholds.{Numbers, AreThresholds}
-use Rattle.typed_values.specs.Types.{IsOfType}
-use Rattle.lowering_laws.specs.LaidFiles.{IsLaidFile}
-use Rattle.program_equations.specs.Readings.{read_layout}
-use Rattle.program_equations.specs.Entries.{initial_at}
-use Rattle.program_equations.specs.Programs.{ProgramBodies, priorities_of, IsProgramOf, IsProgram}
-use Rattle.program_equations.specs.laws.ReadAlike.{type_read, initial_read}
+use Rattle.program_systems.specs.typed_values.Types.{IsOfType}
+use Rattle.operation_laws.specs.lowering_laws.LaidFiles.{IsLaidFile}
+use Rattle.program_systems.specs.program_equations.Readings.{read_layout}
+use Rattle.program_systems.specs.program_equations.Entries.{initial_at}
+use Rattle.program_systems.specs.program_equations.Programs.{ProgramBodies, priorities_of, IsProgramOf, IsProgram}
+use Rattle.program_systems.specs.program_equations.laws.ReadAlike.{type_read, initial_read}
 use Rattle.program_laws.proofs.ThresholdEnds.{have_ends}
 use Rattle.program_laws.proofs.LaidCells.{limited, of_layout, holds_at_first}
 use Rattle.program_laws.proofs.LaidBodies.{sorts_at, body_kept}

@@ -1,15 +1,15 @@
 -- A typed file that is laid out can be laid out in its own order of functions.
 use Rattle.std.specs.Prelude.{◌≡◌, ℕ, ◌<◌, List, All, refl}
 use Rattle.std.proofs.Common.{sym, ap, subst, ◌∙◌}
-use Rattle.tm_typed.specs.TypedFiles.{typed_file_tree}
-use Rattle.tm_typed.specs.Files.{TypedFileTree}
-use Rattle.tm_laid.specs.declared.layouts.Laid.{Laid}
-use Rattle.tm_laid.specs.Layable.{IsLayable}
-use Rattle.tm_laid.specs.Layouts.{LaidTree, layout_of, laid_tree}
-use Rattle.call_graph.specs.Orders.{IsWholeOrder}
-use Rattle.typed_file_laws.proofs.Layable.{are_layable}
-use Rattle.lowering_laws.specs.LaidFiles.{IsLaidFile}
-use Rattle.lowering_laws.proofs.Founded.{file_layable}
+use Rattle.layout_laws.specs.tm_typed.TypedFiles.{typed_file_tree}
+use Rattle.layout_laws.specs.tm_typed.Files.{TypedFileTree}
+use Rattle.layout_laws.specs.tm_laid.declared.layouts.Laid.{Laid}
+use Rattle.layout_laws.specs.tm_laid.Layable.{IsLayable}
+use Rattle.layout_laws.specs.tm_laid.Layouts.{LaidTree, layout_of, laid_tree}
+use Rattle.operation_laws.specs.call_graph.Orders.{IsWholeOrder}
+use Rattle.operation_laws.proofs.low.typed_file_laws.Layable.{are_layable}
+use Rattle.operation_laws.specs.lowering_laws.LaidFiles.{IsLaidFile}
+use Rattle.operation_laws.proofs.low.lowering_laws.Founded.{file_layable}
 use Rattle.program_laws.proofs.LaidCells.{limited}
 
 -- the file of the layout of a file is that file

@@ -3,16 +3,17 @@ use Rattle.std.specs.Prelude.{◌≡◌, ◌⊎◌, ℕ, zero, suc, ◌+◌, ◌
 use Rattle.std.specs.Prelude.{length}
 use Rattle.std.specs.Prelude.{refl}
 use Rattle.std.proofs.Common.{sym, subst, ◌∙◌, inl, inr, arith}
-use Rattle.tm_typed.specs.declared.types.Scalar.{Scalar}
-use Rattle.tm_typed.specs.declared.types.Scalar.TheVariants as Scalars
-use Rattle.tm_laid.specs.Layouts.{LaidTree, object_at, cell_at, abstract_at, cell_of, abstract_of, is_same_scalar}
-use Rattle.cell_layout.specs.Laws.{IsCellOf}
-use Rattle.transfer_rows.specs.Actions.{Spot}
-use Rattle.transfer_rows.specs.Meanings.{IsSpotOf}
-use Rattle.edge_actions.specs.Layouts.{is_reachable, spot_at, spots_in, spots_before, spots_of}
-use Rattle.typed_values.specs.Types.{HaveSameValues}
-use Rattle.state_fits.specs.Typed.{SpotsAgree}
-use Rattle.next_action_laws.proofs.TypePlaces.{same_scalar}
+use Rattle.layout_laws.specs.tm_typed.declared.types.Scalar.{Scalar}
+use Rattle.layout_laws.specs.tm_typed.declared.types.Scalar.TheVariants as Scalars
+use Rattle.layout_laws.specs.tm_laid.Layouts.{LaidTree, object_at, cell_at, abstract_at, cell_of, abstract_of}
+use Rattle.layout_laws.specs.tm_laid.Layouts.{is_same_scalar}
+use Rattle.layout_laws.specs.cell_layout.Laws.{IsCellOf}
+use Rattle.program_systems.specs.transfer_rows.Actions.{Spot}
+use Rattle.program_systems.specs.transfer_rows.Meanings.{IsSpotOf}
+use Rattle.program_systems.specs.edge_actions.Layouts.{is_reachable, spot_at, spots_in, spots_before, spots_of}
+use Rattle.program_systems.specs.typed_values.Types.{HaveSameValues}
+use Rattle.program_systems.specs.state_fits.Typed.{SpotsAgree}
+use Rattle.operation_laws.proofs.low.next_action_laws.TypePlaces.{same_scalar}
 
 spot_cases : (xs ys : List Spot) (spot : Spot) → IsSpotOf (xs ++ ys) spot → IsSpotOf xs spot ⊎ IsSpotOf ys spot
 spot_cases [] ys spot h = inr h

@@ -3,13 +3,13 @@ use Rattle.std.specs.Prelude.{◌<◌, ℤ, List, ◌++◌, Contains, refl}
 use Rattle.std.specs.List.{flat_map}
 use Rattle.std.proofs.Common.{arith}
 use Rattle.std.proofs.lemmas.List.Elements.{Contains-append_left, Contains-append_right}
-use Rattle.tm_cint.specs.declared.int_types.IntType.{IntType}
-use Rattle.tm_cint.specs.declared.int_types.IntType.TheVariants as Ints
-use Rattle.tm_cint.specs.IntTypes.{lo_of, hi_of}
+use Rattle.thresholds.specs.tm_cint.declared.int_types.IntType.{IntType}
+use Rattle.thresholds.specs.tm_cint.declared.int_types.IntType.TheVariants as Ints
+use Rattle.thresholds.specs.tm_cint.IntTypes.{lo_of, hi_of}
 use Rattle.thresholds.specs.Thresholds.{Numbers, units, ends_of, all_types, of_length, of_constant, of_given}
 use Rattle.thresholds.specs.Thresholds.{thresholds}
 use Rattle.thresholds.specs.Thresholds.{AreThresholds}
-use Rattle.typed_values.specs.Types.{HaveEnds}
+use Rattle.program_systems.specs.typed_values.Types.{HaveEnds}
 
 least_is : (t : IntType) → Contains (flat_map ends_of all_types) (lo_of t)
 unfolding all_types

@@ -1,19 +1,19 @@
 //! The laws. They speak of definitions alone: no call is made.
 ghost use Rattle.std.specs.Prelude.{ℕ, ℤ, List, Ok};
-ghost use Rattle.tm_typed.specs.TypedFiles.{typed_file_tree};
-ghost use Rattle.tm_laid.specs.declared.layouts.Laid.{Laid};
-ghost use Rattle.tm_laid.specs.Layouts.{LaidTree, laid_tree};
-ghost use Rattle.tm_laid.specs.Layable.{IsLayable};
-ghost use Rattle.call_graph.specs.Orders.{IsWholeOrder};
-ghost use Rattle.flow_graph.specs.declared.graphs.Graph.{Graph};
+ghost use Rattle.layout_laws.specs.tm_typed.TypedFiles.{typed_file_tree};
+ghost use Rattle.layout_laws.specs.tm_laid.declared.layouts.Laid.{Laid};
+ghost use Rattle.layout_laws.specs.tm_laid.Layouts.{LaidTree, laid_tree};
+ghost use Rattle.layout_laws.specs.tm_laid.Layable.{IsLayable};
+ghost use Rattle.operation_laws.specs.call_graph.Orders.{IsWholeOrder};
+ghost use Rattle.graph_builder.specs.flow_graph.declared.graphs.Graph.{Graph};
 ghost use Rattle.graph_builder.specs.Lowered.{AreGraphs};
-ghost use Rattle.mutex_configs.specs.declared.nodes.ConfiguredGraph.{ConfiguredGraph};
-ghost use Rattle.mutex_configs.specs.declared.programs.Program.{Program};
-ghost use Rattle.mutex_configs.specs.Programs.{IsAnswer};
+ghost use Rattle.operation_laws.specs.mutex_configs.declared.nodes.ConfiguredGraph.{ConfiguredGraph};
+ghost use Rattle.operation_laws.specs.mutex_configs.declared.programs.Program.{Program};
+ghost use Rattle.operation_laws.specs.mutex_configs.Programs.{IsAnswer};
 ghost use Rattle.thresholds.specs.Thresholds.{Numbers, AreThresholds};
-ghost use Rattle.typed_values.specs.Types.{HaveEnds};
-ghost use Rattle.lowering_laws.specs.LaidFiles.{IsLaidFile};
-ghost use Rattle.program_equations.specs.Programs.{ProgramBodies, IsProgramOf, IsProgram};
+ghost use Rattle.program_systems.specs.typed_values.Types.{HaveEnds};
+ghost use Rattle.operation_laws.specs.lowering_laws.LaidFiles.{IsLaidFile};
+ghost use Rattle.program_systems.specs.program_equations.Programs.{ProgramBodies, IsProgramOf, IsProgram};
 ghost use Rattle.program_systems.specs.Analysable.{IsAnalysable};
 
 /// Thresholds have the least and the greatest value of each integer type.

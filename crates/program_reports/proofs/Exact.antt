@@ -5,12 +5,12 @@ use Rattle.std.specs.Prelude.{Contains}
 use Rattle.tm_cint.specs.declared.Class.{Class}
 use Rattle.tm_terms.specs.declared.alarms.Alarm.{Alarm}
 use Rattle.tm_terms.specs.declared.places.Place.{Place}
-use Rattle.transfer_rows.specs.StateForms.{State}
-use Rattle.transfer_rows.specs.Reports.{targets_of}
-use Rattle.least_tables.specs.Solutions.{NodeTable}
-use Rattle.task_equations.specs.Bodies.{copy_at}
-use Rattle.task_equations.specs.Equations.{action_along, tests_pointer}
-use Rattle.program_equations.specs.Programs.{ProgramBodies, body_at, IsProgram}
+use Rattle.post_recheck.specs.transfer_rows.StateForms.{State}
+use Rattle.post_recheck.specs.transfer_rows.Reports.{targets_of}
+use Rattle.post_recheck.specs.least_tables.Solutions.{NodeTable}
+use Rattle.post_recheck.specs.task_equations.Bodies.{copy_at}
+use Rattle.post_recheck.specs.task_equations.Equations.{action_along, tests_pointer}
+use Rattle.post_recheck.specs.program_equations.Programs.{ProgramBodies, body_at, IsProgram}
 use Rattle.access_races.specs.declared.accesses.Way.{Way}
 use Rattle.access_races.specs.declared.accesses.Access.{Access}
 use Rattle.access_races.specs.Races.{do_race, IsRaceAt, IsRaceAlarm, IsReportOf}

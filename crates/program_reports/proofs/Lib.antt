@@ -5,3 +5,4 @@ mod Exact
 mod Steps
 mod Tables
 mod Numbered
+pub mod low

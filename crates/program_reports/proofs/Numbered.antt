@@ -8,14 +8,14 @@ use Rattle.flow_graph.specs.declared.graphs.Graph.{Graph}
 use Rattle.mutex_configs.specs.declared.nodes.ConfiguredGraph.{ConfiguredGraph}
 use Rattle.mutex_configs.specs.declared.nodes.EdgeCopy.{EdgeCopy}
 use Rattle.mutex_configs.specs.declared.programs.Program.{Program}
-use Rattle.transfer_rows.specs.StateForms.{State}
-use Rattle.least_tables.specs.Solutions.{at}
-use Rattle.task_equations.specs.Bodies.{Body}
-use Rattle.program_equations.specs.Programs.{ProgramBodies, body_at, IsProgram}
-use Rattle.program_equations.specs.Solutions.{table_at, tables_of}
-use Rattle.program_systems.specs.Analysable.{IsAnalysable}
-use Rattle.program_systems.specs.ProgramFacts.{AllFacts, AreProgramFacts, program_with}
-use Rattle.program_systems.proofs.Bodies.{is_program, is_program_of, body_count}
+use Rattle.post_recheck.specs.transfer_rows.StateForms.{State}
+use Rattle.post_recheck.specs.least_tables.Solutions.{at}
+use Rattle.post_recheck.specs.task_equations.Bodies.{Body}
+use Rattle.post_recheck.specs.program_equations.Programs.{ProgramBodies, body_at, IsProgram}
+use Rattle.post_recheck.specs.program_equations.Solutions.{table_at, tables_of}
+use Rattle.post_recheck.specs.program_systems.Analysable.{IsAnalysable}
+use Rattle.post_recheck.specs.program_systems.ProgramFacts.{AllFacts, AreProgramFacts, program_with}
+use Rattle.post_recheck.proofs.low.program_systems.Bodies.{is_program, is_program_of, body_count}
 use Rattle.post_recheck.specs.Pairs.{Pair, FitsPair}
 use Rattle.access_races.specs.declared.accesses.Access.{Access}
 use Rattle.access_races.proofs.Joins.{either}

@@ -4,9 +4,9 @@ use Rattle.std.specs.Prelude.{Contains}
 use Rattle.tm_cint.specs.declared.Class.{Class}
 use Rattle.tm_terms.specs.declared.alarms.Alarm.{Alarm}
 use Rattle.tm_terms.specs.declared.places.Place.{Place}
-use Rattle.transfer_rows.specs.StateForms.{State}
-use Rattle.least_tables.specs.Solutions.{NodeTable}
-use Rattle.program_equations.specs.Programs.{ProgramBodies, body_at, IsProgram}
+use Rattle.post_recheck.specs.transfer_rows.StateForms.{State}
+use Rattle.post_recheck.specs.least_tables.Solutions.{NodeTable}
+use Rattle.post_recheck.specs.program_equations.Programs.{ProgramBodies, body_at, IsProgram}
 use Rattle.program_reports.specs.Reports.{IsReachedIn, IsFaulty, IsAccess, AreRacing, IsRacing, IsAlarm, IsReport}
 use Rattle.program_reports.specs.Reports.IsAlarm.{faulty, racing}
 use Rattle.program_reports.specs.Laws.{Agree}

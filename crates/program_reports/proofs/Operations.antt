@@ -2,12 +2,12 @@
 use Rattle.std.proofs.Common.{◌≡◌, ℕ, refl, Bool, true, Some, arith}
 use Rattle.std.specs.Prelude.{Contains}
 use Rattle.tm_terms.specs.declared.places.Place.{Place}
-use Rattle.tm_laid.specs.Layouts.{LaidTree}
+use Rattle.flow_graph.specs.tm_laid.Layouts.{LaidTree}
 use Rattle.flow_graph.specs.declared.operations.Operation.{Operation}
 use Rattle.flow_graph.specs.declared.operations.Operation.TheVariants as Op
-use Rattle.transfer_rows.specs.StateForms.{State}
-use Rattle.transfer_rows.specs.Reports.{targets_of}
-use Rattle.edge_actions.specs.Edges.{action_of}
+use Rattle.post_recheck.specs.transfer_rows.StateForms.{State}
+use Rattle.post_recheck.specs.transfer_rows.Reports.{targets_of}
+use Rattle.post_recheck.specs.edge_actions.Edges.{action_of}
 use Rattle.program_reports.specs.Reports.{place_of, IsWriting}
 use Rattle.program_reports.specs.reading.Found.{is_writing}
 

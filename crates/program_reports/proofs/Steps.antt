@@ -3,15 +3,16 @@ use Rattle.std.proofs.Common.{◌≡◌, ◌↔◌, ◌⊎◌, ℕ, ◌+◌, ◌
 use Rattle.std.proofs.Common.{length, take, get_or, Option, Some, None, IsTrue, arith}
 use Rattle.std.proofs.lemmas.Bool.{cases_eq}
 use Rattle.tm_cint.specs.declared.Class.{Class}
-use Rattle.tm_cint.specs.declared.Class.TheVariants.{Overflow, Div, Shift, Index, Pointer, Deref, Lock, Race}
+use Rattle.tm_cint.specs.declared.Class.TheVariants.{Overflow, Div, Shift, Index, Pointer, Deref, Lock}
+use Rattle.tm_cint.specs.declared.Class.TheVariants.{Race}
 use Rattle.tm_terms.specs.declared.alarms.Alarm.{Alarm}
 use Rattle.tm_terms.specs.declared.places.Place.{Place}
 use Rattle.transfer_int.specs.declared.outcomes.Classes.{Classes}
 use Rattle.transfer_int.specs.Outcomes.{notes}
-use Rattle.transfer_rows.specs.StateForms.{State}
-use Rattle.least_tables.specs.Solutions.{NodeTable}
-use Rattle.task_equations.specs.Bodies.{Body, copy_at}
-use Rattle.program_equations.specs.Programs.{ProgramBodies}
+use Rattle.post_recheck.specs.transfer_rows.StateForms.{State}
+use Rattle.post_recheck.specs.least_tables.Solutions.{NodeTable}
+use Rattle.post_recheck.specs.task_equations.Bodies.{Body, copy_at}
+use Rattle.post_recheck.specs.program_equations.Programs.{ProgramBodies}
 use Rattle.access_races.specs.declared.accesses.Way.{Way}
 use Rattle.access_races.specs.declared.accesses.Access.{Access}
 use Rattle.access_races.proofs.Joins.{either, front_more}

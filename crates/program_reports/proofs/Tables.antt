@@ -8,14 +8,14 @@ use Rattle.tm_terms.specs.declared.alarms.Alarm.{Alarm}
 use Rattle.tm_terms.specs.declared.places.Place.{Place}
 use Rattle.transfer_int.specs.Outcomes.{notes}
 use Rattle.interfere_set.specs.Stores.{Interferences}
-use Rattle.transfer_rows.specs.StateForms.{State}
-use Rattle.edge_effects.specs.declared.views.After.{After}
-use Rattle.edge_effects.specs.Effects.{IsAfter}
+use Rattle.post_recheck.specs.transfer_rows.StateForms.{State}
+use Rattle.post_recheck.specs.edge_effects.declared.views.After.{After}
+use Rattle.post_recheck.specs.edge_effects.Effects.{IsAfter}
 use Rattle.mutex_configs.specs.declared.nodes.EdgeCopy.{EdgeCopy}
-use Rattle.least_tables.specs.Solutions.{at}
-use Rattle.task_equations.specs.Bodies.{Body, no_copy, copy_at}
-use Rattle.task_equations.specs.Equations.{action_along, around_along}
-use Rattle.program_equations.specs.Systems.{FitsBody}
+use Rattle.post_recheck.specs.least_tables.Solutions.{at}
+use Rattle.post_recheck.specs.task_equations.Bodies.{Body, no_copy, copy_at}
+use Rattle.post_recheck.specs.task_equations.Equations.{action_along, around_along}
+use Rattle.post_recheck.specs.program_equations.Systems.{FitsBody}
 use Rattle.access_races.specs.declared.accesses.Way.{Way}
 use Rattle.access_races.specs.declared.accesses.Access.{Access}
 use Rattle.access_races.proofs.Joins.{either}

@@ -1,8 +1,8 @@
 -- Tables that agree.
 use Rattle.std.specs.Prelude.{◌≡◌, ℕ, ◌<◌, length}
-use Rattle.transfer_rows.specs.StateForms.{State}
-use Rattle.least_tables.specs.Solutions.{NodeTable}
-use Rattle.program_equations.specs.Programs.{ProgramBodies, body_at}
+use Rattle.post_recheck.specs.transfer_rows.StateForms.{State}
+use Rattle.post_recheck.specs.least_tables.Solutions.{NodeTable}
+use Rattle.post_recheck.specs.program_equations.Programs.{ProgramBodies, body_at}
 
 -- at each node of each body
 abbrev pub Agree : ProgramBodies → (ℕ → NodeTable State) → (ℕ → NodeTable State) → Type 0

@@ -10,12 +10,12 @@ use Rattle.flow_graph.specs.declared.operations.Operation.TheVariants as Op
 use Rattle.mutex_configs.specs.declared.nodes.ConfiguredNode.{ConfiguredNode}
 use Rattle.mutex_configs.specs.declared.nodes.EdgeCopy.{EdgeCopy}
 use Rattle.interfere_set.specs.Stores.{are_apart}
-use Rattle.transfer_rows.specs.StateForms.{State}
-use Rattle.transfer_rows.specs.Reports.{targets_of, IsListed}
-use Rattle.least_tables.specs.Solutions.{NodeTable}
-use Rattle.task_equations.specs.Bodies.{edge_of, node_at, copy_at}
-use Rattle.task_equations.specs.Equations.{action_along, around_along}
-use Rattle.program_equations.specs.Programs.{ProgramBodies, body_at}
+use Rattle.post_recheck.specs.transfer_rows.StateForms.{State}
+use Rattle.post_recheck.specs.transfer_rows.Reports.{targets_of, IsListed}
+use Rattle.post_recheck.specs.least_tables.Solutions.{NodeTable}
+use Rattle.post_recheck.specs.task_equations.Bodies.{edge_of, node_at, copy_at}
+use Rattle.post_recheck.specs.task_equations.Equations.{action_along, around_along}
+use Rattle.post_recheck.specs.program_equations.Programs.{ProgramBodies, body_at}
 
 -- ## Operations
 

@@ -1,11 +1,11 @@
 //! What a body gives to a report.
 ghost use Rattle.std.specs.Prelude.{◌≡◌, ◌<◌, ◌⊎◌, ◌↔◌, true, length, Contains, OnOk};
 ghost use Rattle.tm_terms.specs.declared.alarms.Alarm.{Alarm as AnAlarm};
-ghost use Rattle.least_tables.specs.Solutions.{at};
-ghost use Rattle.program_equations.specs.Solutions.{tables_of};
-ghost use Rattle.body_systems.specs.Systems.{body_of};
-ghost use Rattle.program_systems.specs.Analysable.{IsAnalysable};
-ghost use Rattle.program_systems.specs.ProgramFacts.{AreProgramFacts, program_with};
+ghost use Rattle.post_recheck.specs.least_tables.Solutions.{at};
+ghost use Rattle.post_recheck.specs.program_equations.Solutions.{tables_of};
+ghost use Rattle.post_recheck.specs.body_systems.Systems.{body_of};
+ghost use Rattle.post_recheck.specs.program_systems.Analysable.{IsAnalysable};
+ghost use Rattle.post_recheck.specs.program_systems.ProgramFacts.{AreProgramFacts, program_with};
 ghost use Rattle.post_recheck.specs.Pairs.{FitsPair, lists_of, pair_of};
 ghost use Rattle.access_races.specs.declared.accesses.Access.{Access as AnAccess};
 ghost use Rattle.program_reports.specs.reading.Found.{IsAlarmBelow, IsAccessBelow};
@@ -13,11 +13,9 @@ ghost use Rattle.program_reports.specs.reading.Parts.{ArePartsOf, FitsTable};
 ghost use Rattle.program_reports.specs.reading.Bodies.{IsAlarmOf, IsAccessOf};
 
 use crate::copies::{BodyParts, Found, add_copy};
-use body_systems::BodyState;
 use interfere_set::Store;
 use mutex_configs::Program;
-use post_recheck::Table;
-use program_systems::{ProgramFacts, body_over_store};
+use post_recheck::{BodyState, ProgramFacts, Table, body_over_store};
 use std::alloc::Global;
 use tm_lattice::NoMemory;
 

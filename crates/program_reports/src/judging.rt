@@ -1,9 +1,9 @@
 //! The report of tables.
 ghost use Rattle.std.specs.Prelude.{◌↔◌, length, Contains, IfOk};
 ghost use Rattle.tm_terms.specs.declared.alarms.Alarm.{Alarm as AnAlarm};
-ghost use Rattle.program_equations.specs.Solutions.{tables_of};
-ghost use Rattle.program_systems.specs.Analysable.{IsAnalysable};
-ghost use Rattle.program_systems.specs.ProgramFacts.{AreProgramFacts, program_with};
+ghost use Rattle.post_recheck.specs.program_equations.Solutions.{tables_of};
+ghost use Rattle.post_recheck.specs.program_systems.Analysable.{IsAnalysable};
+ghost use Rattle.post_recheck.specs.program_systems.ProgramFacts.{AreProgramFacts, program_with};
 ghost use Rattle.post_recheck.specs.Pairs.{FitsPair, lists_of, pair_of};
 ghost use Rattle.access_races.specs.declared.accesses.Access.{Access as AnAccess};
 ghost use Rattle.program_reports.specs.Reports.{IsReport};
@@ -14,8 +14,7 @@ use crate::copies::Found;
 use access_races::report_of;
 use interfere_set::Store;
 use mutex_configs::Program;
-use post_recheck::Table;
-use program_systems::ProgramFacts;
+use post_recheck::{ProgramFacts, Table};
 use std::alloc::Global;
 use tm_lattice::NoMemory;
 use tm_terms::Report;

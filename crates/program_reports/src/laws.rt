@@ -1,9 +1,9 @@
 //! The laws. They speak of definitions alone: no call is made.
 ghost use Rattle.std.specs.Prelude.{◌≡◌, ℕ, List};
 ghost use Rattle.tm_terms.specs.declared.alarms.Alarm.{Alarm};
-ghost use Rattle.transfer_rows.specs.StateForms.{State};
-ghost use Rattle.least_tables.specs.Solutions.{NodeTable};
-ghost use Rattle.program_equations.specs.Programs.{ProgramBodies, IsProgram};
+ghost use Rattle.post_recheck.specs.transfer_rows.StateForms.{State};
+ghost use Rattle.post_recheck.specs.least_tables.Solutions.{NodeTable};
+ghost use Rattle.post_recheck.specs.program_equations.Programs.{ProgramBodies, IsProgram};
 ghost use Rattle.program_reports.specs.Reports.{IsReport};
 ghost use Rattle.program_reports.specs.Laws.{Agree};
 

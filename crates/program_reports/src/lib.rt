@@ -14,3 +14,4 @@ mod places;
 pub use judging::judge;
 pub use laws::reports_are_one;
 pub use places::place_of;
+pub use post_recheck::{BodyState, Checked, Solution, Table, recheck, recheck_in_order};

@@ -4,26 +4,26 @@ use Rattle.std.specs.Prelude.{◌≡◌, ℕ, ◌<◌, nat_lt, pos, ◌*ℤ◌, 
 use Rattle.std.specs.Prelude.{IsSome, Contains, refl}
 use Rattle.std.proofs.Common.{suc, zero, inl, inr}
 use native.Mathlib.Decide.{ℕ_discrete, dec_lt}
-use Rattle.tm_cint.specs.declared.Class.{Class}
-use Rattle.tm_cint.specs.declared.Class.TheVariants as Classes
-use Rattle.tm_terms.specs.declared.places.Place.{Place}
-use Rattle.tm_typed.specs.declared.types.Scalar.{Scalar}
-use Rattle.tm_typed.specs.declared.types.Scalar.TheVariants as Scalars
-use Rattle.tm_laid.specs.Layouts.{LaidTree, path_at, object_at, cell_at, cell_of, abstract_at}
-use Rattle.concrete_values.specs.declared.values.Pointer.TheVariants as Pointers
-use Rattle.concrete_values.specs.declared.values.Value.{Value}
-use Rattle.concrete_values.specs.declared.values.Value.TheVariants.{Number, Pointer as APointer}
-use Rattle.concrete_values.specs.declared.actions.Next.{Next}
-use Rattle.concrete_values.specs.declared.actions.Next.TheVariants as Acts
-use Rattle.concrete_values.specs.Values.{truth_value, number_of as number_in_value, pointer_of}
-use Rattle.concrete_values.specs.Pointers.{shifted}
-use Rattle.concrete_values.specs.Actions.{is_of, is_between}
+use Rattle.concrete_steps.specs.tm_cint.declared.Class.{Class}
+use Rattle.concrete_steps.specs.tm_cint.declared.Class.TheVariants as Classes
+use Rattle.concrete_steps.specs.tm_terms.declared.places.Place.{Place}
+use Rattle.concrete_steps.specs.tm_typed.declared.types.Scalar.{Scalar}
+use Rattle.concrete_steps.specs.tm_typed.declared.types.Scalar.TheVariants as Scalars
+use Rattle.concrete_steps.specs.tm_laid.Layouts.{LaidTree, path_at, object_at, cell_at, cell_of, abstract_at}
+use Rattle.concrete_steps.specs.concrete_values.declared.values.Pointer.TheVariants as Pointers
+use Rattle.concrete_steps.specs.concrete_values.declared.values.Value.{Value}
+use Rattle.concrete_steps.specs.concrete_values.declared.values.Value.TheVariants.{Number, Pointer as APointer}
+use Rattle.concrete_steps.specs.concrete_values.declared.actions.Next.{Next}
+use Rattle.concrete_steps.specs.concrete_values.declared.actions.Next.TheVariants as Acts
+use Rattle.concrete_steps.specs.concrete_values.Values.{truth_value, number_of as number_in_value, pointer_of}
+use Rattle.concrete_steps.specs.concrete_values.Pointers.{shifted}
+use Rattle.concrete_steps.specs.concrete_values.Actions.{is_of, is_between}
 use Rattle.concrete_steps.specs.Worlds.{is_part}
-use Rattle.flow_graph.specs.declared.operations.Operation.{Operation as GraphOperation}
-use Rattle.flow_graph.specs.declared.operations.Operation.TheVariants as Op
-use Rattle.flow_graph.specs.declared.graphs.Edge.{Edge}
-use Rattle.flow_graph.specs.Graphs.{Edges, Among, Leaves}
-use Rattle.flow_graph.specs.Operations.{Temps, put_at, Silent, Asks, Breaks, effect}
+use Rattle.mutex_configs.specs.flow_graph.declared.operations.Operation.{Operation as GraphOperation}
+use Rattle.mutex_configs.specs.flow_graph.declared.operations.Operation.TheVariants as Op
+use Rattle.mutex_configs.specs.flow_graph.declared.graphs.Edge.{Edge}
+use Rattle.mutex_configs.specs.flow_graph.Graphs.{Edges, Among, Leaves}
+use Rattle.mutex_configs.specs.flow_graph.Operations.{Temps, put_at, Silent, Asks, Breaks, effect}
 use Rattle.mutex_configs.specs.Sets.{answers_of, has, held_after, found_after}
 use Rattle.tm_soundness.specs.Shape.{Shape, Operation, calculation, load, load_any, store, clear, lock, unlock, yields}
 use Rattle.tm_soundness.specs.Shape.{probe, Content, given, open_cell}

@@ -3,15 +3,15 @@ use Rattle.std.specs.Prelude.{◌≡◌, ℕ, ◌<◌, length, Option, Some, Non
 use Rattle.std.proofs.Common.{sym, ap, subst, inl, inr, arith}
 use Rattle.std.proofs.lemmas.Bool.{cases_lt}
 use Rattle.tm_lattice.specs.Tables.{IsBelow}
-use Rattle.transfer_rows.specs.StateForms.{State, IsStateForm, IsStateUnder}
-use Rattle.state_fits.specs.laws.PlacesFit.{states_order}
-use Rattle.program_equations.specs.Programs.{ProgramBodies, body_at, HasSection, IsProgram}
-use Rattle.program_equations.specs.Systems.{FitsBody}
-use Rattle.program_equations.specs.Solutions.{table_at, tables_of}
-use Rattle.program_equations.specs.laws.Fitting.{body_is}
-use Rattle.program_equations.specs.laws.Lawful.{in_bodies}
-use Rattle.post_recheck.specs.Pairs.{Pair}
-use Rattle.post_recheck.proofs.Fits.{table_fits, is_section}
+use Rattle.store_limits.specs.transfer_rows.StateForms.{State, IsStateForm, IsStateUnder}
+use Rattle.store_limits.specs.state_fits.laws.PlacesFit.{states_order}
+use Rattle.store_limits.specs.program_equations.Programs.{ProgramBodies, body_at, HasSection, IsProgram}
+use Rattle.store_limits.specs.program_equations.Systems.{FitsBody}
+use Rattle.store_limits.specs.program_equations.Solutions.{table_at, tables_of}
+use Rattle.store_limits.specs.program_equations.laws.Fitting.{body_is}
+use Rattle.store_limits.specs.program_equations.laws.Lawful.{in_bodies}
+use Rattle.program_reports.specs.post_recheck.Pairs.{Pair}
+use Rattle.program_reports.proofs.low.post_recheck.Fits.{table_fits, is_section}
 use Rattle.program_solutions.specs.LeastReports.{IsLeastPair}
 
 module _ (p : ProgramBodies) (is : IsProgram p) where

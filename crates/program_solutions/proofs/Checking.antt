@@ -3,17 +3,17 @@ use Rattle.std.specs.Prelude.{◌≡◌, ℕ, List, Option}
 use Rattle.std.proofs.Common.{sym, subst}
 use Rattle.tm_terms.specs.declared.alarms.Alarm.{Alarm}
 use Rattle.interfere_set.specs.Stores.{Interferences}
-use Rattle.mutex_configs.specs.declared.programs.Program.{Program}
-use Rattle.transfer_rows.specs.StateForms.{State}
-use Rattle.program_equations.specs.Programs.{IsProgram}
-use Rattle.program_equations.specs.Solutions.{tables_of}
-use Rattle.program_systems.specs.Analysable.{IsAnalysable}
-use Rattle.program_systems.specs.ReadPrograms.{ReadProgram, program_of}
-use Rattle.program_systems.specs.ProgramFacts.{AllFacts, AreProgramFacts, read_with, program_with}
-use Rattle.program_systems.proofs.Bodies.{is_program}
-use Rattle.post_recheck.specs.Pairs.{Pair, FitsPair}
-use Rattle.post_recheck.specs.Checks.{IsAnswer}
-use Rattle.post_recheck.specs.declared.solutions.Checked.TheVariants as Answers
+use Rattle.store_limits.specs.mutex_configs.declared.programs.Program.{Program}
+use Rattle.store_limits.specs.transfer_rows.StateForms.{State}
+use Rattle.store_limits.specs.program_equations.Programs.{IsProgram}
+use Rattle.store_limits.specs.program_equations.Solutions.{tables_of}
+use Rattle.thread_pass.specs.program_systems.Analysable.{IsAnalysable}
+use Rattle.thread_pass.specs.program_systems.ReadPrograms.{ReadProgram, program_of}
+use Rattle.thread_pass.specs.program_systems.ProgramFacts.{AllFacts, AreProgramFacts, read_with, program_with}
+use Rattle.thread_pass.proofs.low.program_systems.Bodies.{is_program}
+use Rattle.program_reports.specs.post_recheck.Pairs.{Pair, FitsPair}
+use Rattle.program_reports.specs.post_recheck.Checks.{IsAnswer}
+use Rattle.program_reports.specs.post_recheck.declared.solutions.Checked.TheVariants as Answers
 use Rattle.program_reports.specs.Reports.{IsReport}
 use Rattle.program_solutions.specs.LeastReports.{IsLeastPair, IsLeastReport}
 use Rattle.program_solutions.specs.reading.Turns.{AreLeastTables}

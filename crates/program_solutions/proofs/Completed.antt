@@ -6,28 +6,31 @@ use Rattle.std.proofs.lemmas.List.{length_push, get_or_append_left, get_or_push}
 use Rattle.tm_lattice.specs.Rounds.{IsHistory, IsClosed}
 use Rattle.interfere_set.specs.Stores.{Interferences}
 use Rattle.interfere_set.specs.laws.StoreLaws.{store_order, store_join, store_closure}
-use Rattle.transfer_rows.specs.StateForms.{State}
-use Rattle.state_fits.specs.laws.PlacesFit.{states_order, states_join}
+use Rattle.store_limits.specs.transfer_rows.StateForms.{State}
+use Rattle.store_limits.specs.state_fits.laws.PlacesFit.{states_order, states_join}
 use Rattle.least_tables.specs.Solutions.{at, IsLeastSolution}
 use Rattle.least_tables.specs.laws.WholeLeast as least
-use Rattle.program_equations.specs.Programs.{ProgramBodies, body_at, HasSection, IsProgram}
-use Rattle.program_equations.specs.Systems.{states, stores, FitsBody, task_system, section_system, least_section}
-use Rattle.program_equations.specs.Systems.{least_local, IsSection, IsSectionBelow, IsLeastSection}
-use Rattle.program_equations.specs.Solutions.{node_count, links_in, after_in, entry_in, outward_in, heads_in, suits_in}
-use Rattle.program_equations.specs.Solutions.{height_of, limit_in, added_in, passing, IsWholeLeast, table_at, tables_of}
-use Rattle.program_equations.specs.laws.StoresFit.{bottom}
-use Rattle.program_equations.specs.laws.Lawful.{program_is_lawful}
-use Rattle.program_equations.specs.laws.Passing.{fitting}
-use Rattle.program_equations.specs.laws.Tables.{system_is_one}
-use Rattle.program_equations.specs.laws.WholeTables.{whole_is_one}
+use Rattle.store_limits.specs.program_equations.Programs.{ProgramBodies, body_at, HasSection, IsProgram}
+use Rattle.store_limits.specs.program_equations.Systems.{states, stores, FitsBody, task_system, section_system}
+use Rattle.store_limits.specs.program_equations.Systems.{least_section}
+use Rattle.store_limits.specs.program_equations.Systems.{least_local, IsSection, IsSectionBelow, IsLeastSection}
+use Rattle.store_limits.specs.program_equations.Solutions.{node_count, links_in, after_in, entry_in, outward_in}
+use Rattle.store_limits.specs.program_equations.Solutions.{heads_in, suits_in}
+use Rattle.store_limits.specs.program_equations.Solutions.{height_of, limit_in, added_in, passing, IsWholeLeast}
+use Rattle.store_limits.specs.program_equations.Solutions.{table_at, tables_of}
+use Rattle.store_limits.specs.program_equations.laws.StoresFit.{bottom}
+use Rattle.store_limits.specs.program_equations.laws.Lawful.{program_is_lawful}
+use Rattle.store_limits.specs.program_equations.laws.Passing.{fitting}
+use Rattle.store_limits.specs.program_equations.laws.Tables.{system_is_one}
+use Rattle.store_limits.specs.program_equations.laws.WholeTables.{whole_is_one}
 use Rattle.store_limits.proofs.Climbing.{quiet_is_closed}
 use Rattle.thread_pass.specs.Analyses.{IsSectionTable}
-use Rattle.post_recheck.specs.Pairs.{Pair, FitsPair}
-use Rattle.post_recheck.specs.Checks.{IsAnswer}
-use Rattle.post_recheck.specs.declared.solutions.Checked.{Checked}
-use Rattle.post_recheck.specs.declared.solutions.Checked.TheVariants as Answers
-use Rattle.post_recheck.proofs.LeastPairs.{least_pair}
-use Rattle.post_recheck.proofs.One.{answer_is_one}
+use Rattle.program_reports.specs.post_recheck.Pairs.{Pair, FitsPair}
+use Rattle.program_reports.specs.post_recheck.Checks.{IsAnswer}
+use Rattle.program_reports.specs.post_recheck.declared.solutions.Checked.{Checked}
+use Rattle.program_reports.specs.post_recheck.declared.solutions.Checked.TheVariants as Answers
+use Rattle.program_reports.proofs.low.post_recheck.LeastPairs.{least_pair}
+use Rattle.program_reports.proofs.low.post_recheck.One.{answer_is_one}
 use Rattle.program_solutions.specs.LeastReports.{IsLeastPair}
 use Rattle.program_solutions.specs.reading.Turns.{HasEnded, AreCompleted, AreLeastTables}
 

@@ -2,8 +2,8 @@
 use Rattle.std.proofs.Common.{◌≡◌}
 use Rattle.std.specs.Prelude.{List}
 use Rattle.tm_terms.specs.declared.alarms.Alarm.{Alarm}
-use Rattle.program_equations.specs.Programs.{ProgramBodies, IsProgram}
-use Rattle.program_equations.specs.Solutions.{tables_of}
+use Rattle.store_limits.specs.program_equations.Programs.{ProgramBodies, IsProgram}
+use Rattle.store_limits.specs.program_equations.Solutions.{tables_of}
 use Rattle.program_reports.proofs.One.{one_report}
 use Rattle.program_solutions.specs.LeastReports.{IsLeastReport}
 use Rattle.program_solutions.proofs.Agreeing.{tables_agree}

@@ -10,13 +10,13 @@ use Rattle.std.proofs.Math.Nat.{mul-le-mul_right}
 use Rattle.interfere_set.specs.Stores.{Interferences, IsStoreBelow, no_interference, store_height}
 use Rattle.interfere_set.specs.laws.StoreLaws.{store_order}
 use Rattle.tm_lattice.specs.Rounds.{IsPublished}
-use Rattle.transfer_rows.specs.StateForms.{State}
-use Rattle.value_heights.specs.Heights.{value_height}
-use Rattle.program_equations.specs.Programs.{ProgramBodies, IsProgram}
-use Rattle.program_equations.specs.Systems.{stores, FitsProgram}
-use Rattle.program_equations.specs.Solutions.{passing, table_at}
-use Rattle.program_equations.specs.laws.StoresFit.{nothing_fits}
-use Rattle.post_recheck.specs.Pairs.{lists_of}
+use Rattle.store_limits.specs.transfer_rows.StateForms.{State}
+use Rattle.store_limits.specs.value_heights.Heights.{value_height}
+use Rattle.store_limits.specs.program_equations.Programs.{ProgramBodies, IsProgram}
+use Rattle.store_limits.specs.program_equations.Systems.{stores, FitsProgram}
+use Rattle.store_limits.specs.program_equations.Solutions.{passing, table_at}
+use Rattle.store_limits.specs.program_equations.laws.StoresFit.{nothing_fits}
+use Rattle.program_reports.specs.post_recheck.Pairs.{lists_of}
 use Rattle.store_limits.specs.Limits.{store_limit, published}
 use Rattle.store_limits.proofs.Climbing.{published_fits, published_above, published_nearer}
 use Rattle.thread_pass.specs.Analyses.{IsLeastTable, IsStartTable}

@@ -1,9 +1,9 @@
 -- The least solution of a program, and its report.
 use Rattle.std.specs.Prelude.{List}
 use Rattle.tm_terms.specs.declared.alarms.Alarm.{Alarm}
-use Rattle.program_equations.specs.Programs.{ProgramBodies}
-use Rattle.program_equations.specs.Solutions.{table_at, tables_of, IsPair, IsWholeLeast}
-use Rattle.post_recheck.specs.Pairs.{Pair, FitsPair}
+use Rattle.store_limits.specs.program_equations.Programs.{ProgramBodies}
+use Rattle.store_limits.specs.program_equations.Solutions.{table_at, tables_of, IsPair, IsWholeLeast}
+use Rattle.program_reports.specs.post_recheck.Pairs.{Pair, FitsPair}
 use Rattle.program_reports.specs.Reports.{IsReport}
 
 -- tables and a store that fit the program, are a solution of it, and lie below every solution

@@ -1,6 +1,6 @@
 //! The report of a program.
 ghost use Rattle.std.specs.Prelude.{IfOk};
-ghost use Rattle.program_systems.specs.ReadPrograms.{program_of};
+ghost use Rattle.thread_pass.specs.program_systems.ReadPrograms.{program_of};
 ghost use Rattle.program_solutions.specs.LeastReports.{IsLeastReport};
 
 use crate::solutions::solution;

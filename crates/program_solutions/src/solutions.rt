@@ -1,15 +1,15 @@
 //! The least solution of a program.
 ghost use Rattle.std.specs.Prelude.{◌≡◌, IfOk};
 ghost use Rattle.std.specs.Arc.{arc_value};
-ghost use Rattle.program_systems.specs.ReadPrograms.{program_of};
-ghost use Rattle.post_recheck.specs.Pairs.{pair_of};
+ghost use Rattle.thread_pass.specs.program_systems.ReadPrograms.{program_of};
+ghost use Rattle.program_reports.specs.post_recheck.Pairs.{pair_of};
 ghost use Rattle.program_solutions.specs.LeastReports.{IsLeastPair};
 ghost use Rattle.program_solutions.specs.reading.Turns.{AreLeastTables};
 
 use crate::tables::completed;
 use crate::turns::{Turns, passes_in_turn};
 use interfere_set::Store;
-use post_recheck::{Checked, Solution, Table, recheck_in_order};
+use program_reports::{Checked, Solution, Table, recheck_in_order};
 use std::alloc::Global;
 use std::sync::Arc;
 use thread_pass::Analysis;

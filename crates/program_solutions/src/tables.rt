@@ -1,12 +1,11 @@
 //! The tables of a pair.
 ghost use Rattle.std.specs.Prelude.{◌≡◌, ℕ, ◌<◌, [], length, IfOk};
-ghost use Rattle.program_equations.specs.Solutions.{table_at};
-ghost use Rattle.program_systems.specs.ReadPrograms.{program_of};
-ghost use Rattle.post_recheck.specs.Pairs.{lists_of};
+ghost use Rattle.store_limits.specs.program_equations.Solutions.{table_at};
+ghost use Rattle.thread_pass.specs.program_systems.ReadPrograms.{program_of};
+ghost use Rattle.program_reports.specs.post_recheck.Pairs.{lists_of};
 ghost use Rattle.program_solutions.specs.reading.Turns.{AreCompleted};
 
-use body_systems::BodyState;
-use post_recheck::Table;
+use program_reports::{BodyState, Table};
 use std::alloc::Global;
 use thread_pass::Analysis;
 use tm_lattice::{Lattice, NoMemory};

@@ -1,17 +1,16 @@
 //! Passes of the tasks in turn.
 ghost use Rattle.std.specs.Prelude.{◌≡◌, ℕ, ◌<◌, ◌≤◌, length, IfOk, IsOk};
-ghost use Rattle.program_equations.specs.Systems.{FitsProgram, pass_of};
-ghost use Rattle.program_systems.specs.ReadPrograms.{program_of};
+ghost use Rattle.store_limits.specs.program_equations.Systems.{FitsProgram, pass_of};
+ghost use Rattle.thread_pass.specs.program_systems.ReadPrograms.{program_of};
 ghost use Rattle.thread_pass.specs.Analyses.{IsLeastTable};
-ghost use Rattle.post_recheck.specs.Pairs.{lists_of};
+ghost use Rattle.program_reports.specs.post_recheck.Pairs.{lists_of};
 ghost use Rattle.program_solutions.specs.reading.Turns.{IsPassed, IsKeptTable, IsUnderway, HasEnded, left};
 ghost use Rattle.program_solutions.specs.reading.Turns.{turn_after};
 
 use crate::tables::empty_tables;
-use body_systems::BodyState;
 use interfere_set::Store;
 use least_tables::Pass;
-use post_recheck::Table;
+use program_reports::{BodyState, Table};
 use std::alloc::Global;
 use thread_pass::{Analysis, local, local_from};
 use tm_lattice::{Lattice, NoMemory, Passer};

@@ -1,13 +1,14 @@
 -- A program with its facts is the program of its layout, its graphs and their configured graphs.
 use Rattle.std.specs.Prelude.{◌≡◌, ℕ, zero, suc, ◌+◌, ◌<◌, List, [], ◌∷◌, length, get_or, refl}
 use Rattle.std.proofs.Common.{sym, ap, subst, ◌∙◌, arith}
-use Rattle.tm_laid.specs.Layouts.{laid_tree}
-use Rattle.flow_graph.specs.declared.graphs.Graph.{Graph}
+use Rattle.mutex_configs.specs.tm_laid.Layouts.{laid_tree}
+use Rattle.mutex_configs.specs.flow_graph.declared.graphs.Graph.{Graph}
 use Rattle.mutex_configs.specs.declared.nodes.ConfiguredGraph.{ConfiguredGraph}
 use Rattle.mutex_configs.specs.declared.programs.Program.{Program}
-use Rattle.task_equations.specs.Bodies.{Body}
-use Rattle.program_equations.specs.Programs.{ProgramBodies, body_at, marked_from, IsBodyIn, IsNumbered, IsProgramOf, IsProgram}
-use Rattle.body_systems.specs.Facts.{Facts}
+use Rattle.entry_states.specs.task_equations.Bodies.{Body}
+use Rattle.entry_states.specs.program_equations.Programs.{ProgramBodies, body_at, marked_from, IsBodyIn, IsNumbered}
+use Rattle.entry_states.specs.program_equations.Programs.{IsProgramOf, IsProgram}
+use Rattle.entry_states.specs.body_systems.Facts.{Facts}
 use Rattle.program_systems.specs.Analysable.{IsAnalysable}
 use Rattle.program_systems.specs.ReadPrograms.{ReadBody, ReadProgram, body_from, bodies_from, program_of}
 use Rattle.program_systems.specs.ProgramFacts.{AllFacts, read_body, read_bodies, read_with, program_with, AreProgramFacts}

@@ -4,3 +4,4 @@ mod FactsInOrder
 pub mod Bodies
 pub mod SystemsOfBodies
 pub mod TaskEntries
+pub mod low

@@ -1,18 +1,18 @@
 -- The equations of a body of a program.
 use Rattle.std.specs.Prelude.{◌≡◌, ℕ, ◌<◌, length, map, get_or, Option, IfSome}
 use Rattle.std.proofs.Common.{sym, subst, ◌∙◌, arith}
-use Rattle.flow_graph.specs.declared.graphs.Graph.{Graph}
+use Rattle.mutex_configs.specs.flow_graph.declared.graphs.Graph.{Graph}
 use Rattle.mutex_configs.specs.declared.nodes.ConfiguredGraph.{ConfiguredGraph}
 use Rattle.mutex_configs.specs.declared.programs.Program.{Program}
 use Rattle.interfere_set.specs.Stores.{Interferences}
-use Rattle.transfer_rows.specs.StateForms.{State}
-use Rattle.task_equations.specs.Bodies.{Body, no_edge}
-use Rattle.task_equations.specs.Equations.{link_of}
-use Rattle.task_equations.specs.Premises.{IsBody}
-use Rattle.program_equations.specs.Programs.{ProgramBodies, body_at, IsTested}
-use Rattle.program_equations.specs.Systems.{FitsBody, FitsProgram}
-use Rattle.body_systems.specs.Facts.{Facts}
-use Rattle.body_systems.specs.Systems.{SystemOf, body_of, system_with, IsSystemOf}
+use Rattle.entry_states.specs.transfer_rows.StateForms.{State}
+use Rattle.entry_states.specs.task_equations.Bodies.{Body, no_edge}
+use Rattle.entry_states.specs.task_equations.Equations.{link_of}
+use Rattle.entry_states.specs.task_equations.Premises.{IsBody}
+use Rattle.entry_states.specs.program_equations.Programs.{ProgramBodies, body_at, IsTested}
+use Rattle.entry_states.specs.program_equations.Systems.{FitsBody, FitsProgram}
+use Rattle.entry_states.specs.body_systems.Facts.{Facts}
+use Rattle.entry_states.specs.body_systems.Systems.{SystemOf, body_of, system_with, IsSystemOf}
 use Rattle.program_systems.specs.Analysable.{IsAnalysable}
 use Rattle.program_systems.specs.ProgramFacts.{AllFacts, program_with, AreProgramFacts}
 use Rattle.program_systems.proofs.Bodies.{body_count, body_is, is_program}

@@ -2,19 +2,19 @@
 use Rattle.std.specs.Prelude.{◌≡◌, ℕ, ◌<◌, nat_lt, Bool, true, false, List, [], length, get_or, Option, Some, ◌≤◌, refl, Result, Ok, Err, IfOk}
 use Rattle.std.proofs.Common.{sym, ap, subst, ◌∙◌, arith}
 use Rattle.std.proofs.lemmas.List.{get_or_default}
-use Rattle.tm_laid.specs.Layouts.{laid_tree}
-use Rattle.edge_actions.proofs.Lists.{lt_from, lt_test}
-use Rattle.flow_graph.specs.declared.graphs.Graph.{Graph}
+use Rattle.mutex_configs.specs.tm_laid.Layouts.{laid_tree}
+use Rattle.entry_states.proofs.low.edge_actions.Lists.{lt_from, lt_test}
+use Rattle.mutex_configs.specs.flow_graph.declared.graphs.Graph.{Graph}
 use Rattle.mutex_configs.specs.declared.nodes.ConfiguredGraph.{ConfiguredGraph}
 use Rattle.mutex_configs.specs.declared.programs.Program.{Program}
-use Rattle.transfer_rows.specs.StateForms.{State}
-use Rattle.least_tables.specs.Solutions.{at}
-use Rattle.task_equations.specs.Bodies.{Body}
-use Rattle.program_equations.specs.Readings.{read_layout}
-use Rattle.program_equations.specs.Programs.{ProgramBodies, body_at}
-use Rattle.program_equations.specs.Entries.{first_state, later_state, ended_in}
-use Rattle.program_equations.specs.Systems.{entry_after, task_entry}
-use Rattle.body_systems.specs.Facts.{Facts}
+use Rattle.entry_states.specs.transfer_rows.StateForms.{State}
+use Rattle.entry_states.specs.least_tables.Solutions.{at}
+use Rattle.entry_states.specs.task_equations.Bodies.{Body}
+use Rattle.entry_states.specs.program_equations.Readings.{read_layout}
+use Rattle.entry_states.specs.program_equations.Programs.{ProgramBodies, body_at}
+use Rattle.entry_states.specs.program_equations.Entries.{first_state, later_state, ended_in}
+use Rattle.entry_states.specs.program_equations.Systems.{entry_after, task_entry}
+use Rattle.entry_states.specs.body_systems.Facts.{Facts}
 use Rattle.program_systems.specs.Analysable.{IsAnalysable}
 use Rattle.program_systems.specs.ProgramFacts.{AllFacts, program_with, AreProgramFacts}
 use Rattle.program_systems.proofs.Bodies.{body_count, body_is}

@@ -1,16 +1,16 @@
 -- Programs that can be analysed.
 use Rattle.std.specs.Prelude.{◌≡◌, ℕ, ◌<◌, ◌≤◌, ◌^◌, length, get_or, All}
 use Rattle.tm_typed.specs.TypedFiles.{typed_file_tree}
-use Rattle.tm_laid.specs.Layouts.{laid_tree}
-use Rattle.tm_laid.specs.Layable.{IsLayable}
-use Rattle.flow_graph.specs.declared.graphs.Graph.{Graph}
-use Rattle.graph_facts.specs.Edges.{AreInRange}
+use Rattle.mutex_configs.specs.tm_laid.Layouts.{laid_tree}
+use Rattle.mutex_configs.specs.tm_laid.Layable.{IsLayable}
+use Rattle.mutex_configs.specs.flow_graph.declared.graphs.Graph.{Graph}
+use Rattle.mutex_configs.specs.graph_facts.Edges.{AreInRange}
 use Rattle.mutex_configs.specs.declared.nodes.ConfiguredNode.{ConfiguredNode}
 use Rattle.mutex_configs.specs.declared.nodes.ConfiguredGraph.{ConfiguredGraph}
 use Rattle.mutex_configs.specs.declared.programs.Program.{Program}
-use Rattle.program_equations.specs.Readings.{read_layout}
+use Rattle.entry_states.specs.program_equations.Readings.{read_layout}
 use Rattle.entry_states.specs.Beginnings.{BeginsInTypes}
-use Rattle.program_equations.specs.Programs.{ProgramBodies, IsProgramOf, IsProgram}
+use Rattle.entry_states.specs.program_equations.Programs.{ProgramBodies, IsProgramOf, IsProgram}
 
 -- The file can be laid out, and cells hold values of their types at first; each task has a graph; edges join nodes of
 -- their graphs; each graph has its configured graph, whose nodes are at its places; and whatever the program is as

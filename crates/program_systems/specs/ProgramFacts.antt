@@ -1,11 +1,11 @@
 -- What is computed once of a program, and the program with it.
 use Rattle.std.specs.Prelude.{◌≡◌, ℕ, ◌<◌, List, [], ◌∷◌, length, get_or}
-use Rattle.tm_laid.specs.Layouts.{laid_tree}
-use Rattle.flow_graph.specs.declared.graphs.Graph.{Graph}
+use Rattle.mutex_configs.specs.tm_laid.Layouts.{laid_tree}
+use Rattle.mutex_configs.specs.flow_graph.declared.graphs.Graph.{Graph}
 use Rattle.mutex_configs.specs.declared.nodes.ConfiguredGraph.{ConfiguredGraph}
 use Rattle.mutex_configs.specs.declared.programs.Program.{Program}
-use Rattle.program_equations.specs.Programs.{ProgramBodies, priorities_of}
-use Rattle.body_systems.specs.Facts.{Facts, AreFactsOf, pointers_of}
+use Rattle.entry_states.specs.program_equations.Programs.{ProgramBodies, priorities_of}
+use Rattle.entry_states.specs.body_systems.Facts.{Facts, AreFactsOf, pointers_of}
 use Rattle.program_systems.specs.ReadPrograms.{ReadBody, ReadProgram, read_of, program_of}
 
 -- the priorities of all bodies, and what is computed once of each

@@ -3,18 +3,18 @@ use Rattle.std.specs.Prelude.{ℕ, suc, ℤ, List, [], ◌∷◌, None}
 use Rattle.tm_typed.specs.declared.types.TypeEntry.{TypeEntry}
 use Rattle.tm_typed.specs.declared.files.MutexEntry.{MutexEntry}
 use Rattle.tm_typed.specs.Scopes.{Structure}
-use Rattle.tm_laid.specs.declared.paths.CallPath.{CallPath}
-use Rattle.tm_laid.specs.declared.objects.LaidObject.{LaidObject}
-use Rattle.tm_laid.specs.declared.objects.Initial.{Initial}
-use Rattle.tm_laid.specs.declared.cells.LaidCell.{LaidCell}
-use Rattle.tm_laid.specs.declared.cells.AbstractCell.{AbstractCell}
-use Rattle.tm_laid.specs.Layouts.{LaidTree}
-use Rattle.flow_graph.specs.Graphs.{Edges}
-use Rattle.graph_facts.specs.declared.regions.Head.{Head}
+use Rattle.mutex_configs.specs.tm_laid.declared.paths.CallPath.{CallPath}
+use Rattle.mutex_configs.specs.tm_laid.declared.objects.LaidObject.{LaidObject}
+use Rattle.mutex_configs.specs.tm_laid.declared.objects.Initial.{Initial}
+use Rattle.mutex_configs.specs.tm_laid.declared.cells.LaidCell.{LaidCell}
+use Rattle.mutex_configs.specs.tm_laid.declared.cells.AbstractCell.{AbstractCell}
+use Rattle.mutex_configs.specs.tm_laid.Layouts.{LaidTree}
+use Rattle.mutex_configs.specs.flow_graph.Graphs.{Edges}
+use Rattle.mutex_configs.specs.graph_facts.declared.regions.Head.{Head}
 use Rattle.mutex_configs.specs.declared.nodes.ConfiguredNode.{ConfiguredNode}
 use Rattle.mutex_configs.specs.declared.nodes.EdgeCopy.{EdgeCopy}
-use Rattle.task_equations.specs.Bodies.{Body}
-use Rattle.program_equations.specs.Programs.{ProgramBodies}
+use Rattle.entry_states.specs.task_equations.Bodies.{Body}
+use Rattle.entry_states.specs.program_equations.Programs.{ProgramBodies}
 
 -- ## Layouts
 

@@ -1,18 +1,17 @@
 //! Where the bodies begin.
 ghost use Rattle.std.specs.Prelude.{◌≡◌, ◌<◌, ℕ, Some, None, length, get_or, IfOk};
 ghost use Rattle.std.specs.Option.{option_copied};
-ghost use Rattle.tm_laid.specs.Layouts.{laid_tree};
-ghost use Rattle.program_equations.specs.Readings.{read_layout};
-ghost use Rattle.program_equations.specs.Programs.{body_at, HasSection};
-ghost use Rattle.program_equations.specs.Entries.{first_state, later_state};
-ghost use Rattle.program_equations.specs.Systems.{task_entry};
+ghost use Rattle.mutex_configs.specs.tm_laid.Layouts.{laid_tree};
+ghost use Rattle.entry_states.specs.program_equations.Readings.{read_layout};
+ghost use Rattle.entry_states.specs.program_equations.Programs.{body_at, HasSection};
+ghost use Rattle.entry_states.specs.program_equations.Entries.{first_state, later_state};
+ghost use Rattle.entry_states.specs.program_equations.Systems.{task_entry};
 ghost use Rattle.program_systems.specs.Analysable.{IsAnalysable};
 ghost use Rattle.program_systems.specs.ProgramFacts.{AreProgramFacts, program_with};
 
 use crate::facts::ProgramFacts;
-use body_systems::BodyState;
 use cell_env::State;
-use entry_states::{ended_state, first_state, initial_values, later_state};
+use entry_states::{BodyState, ended_state, first_state, initial_values, later_state};
 use mutex_configs::Program;
 use pointer_dom::AbsValue;
 use std::alloc::Global;

@@ -1,14 +1,14 @@
 //! What is computed once of a program.
 ghost use Rattle.std.specs.Prelude.{◌≡◌, ◌<◌, ℕ, length, get_or, IfOk};
-ghost use Rattle.tm_laid.specs.Layouts.{laid_tree};
-ghost use Rattle.flow_graph.specs.declared.graphs.Graph.{Graph as AGraph};
+ghost use Rattle.mutex_configs.specs.tm_laid.Layouts.{laid_tree};
+ghost use Rattle.mutex_configs.specs.flow_graph.declared.graphs.Graph.{Graph as AGraph};
 ghost use Rattle.mutex_configs.specs.declared.nodes.ConfiguredGraph.{ConfiguredGraph as AConfigured};
-ghost use Rattle.body_systems.specs.Facts.{Facts, AreFactsOf};
-ghost use Rattle.program_equations.specs.Programs.{priorities_of};
+ghost use Rattle.entry_states.specs.body_systems.Facts.{Facts, AreFactsOf};
+ghost use Rattle.entry_states.specs.program_equations.Programs.{priorities_of};
 ghost use Rattle.program_systems.specs.Analysable.{IsAnalysable};
 ghost use Rattle.program_systems.specs.ProgramFacts.{AreProgramFacts};
 
-use body_systems::BodyFacts;
+use entry_states::BodyFacts;
 use mutex_configs::Program;
 use std::alloc::Global;
 use std::marker::Model;

@@ -12,5 +12,6 @@ mod facts;
 mod systems;
 
 pub use beginnings::{section_entry, task_entries};
+pub use entry_states::{BodyFacts, BodyOverStore, BodyState, BodySystem};
 pub use facts::ProgramFacts;
 pub use systems::body_over_store;

@@ -1,15 +1,15 @@
 //! The bodies of a program over a store.
 ghost use Rattle.std.specs.Prelude.{◌≡◌, ◌<◌, length, IfSome, option_map};
-ghost use Rattle.task_equations.specs.Equations.{equations_of};
-ghost use Rattle.program_equations.specs.Programs.{body_at};
-ghost use Rattle.program_equations.specs.Systems.{FitsBody, FitsProgram};
-ghost use Rattle.body_systems.specs.Systems.{body_of};
+ghost use Rattle.entry_states.specs.task_equations.Equations.{equations_of};
+ghost use Rattle.entry_states.specs.program_equations.Programs.{body_at};
+ghost use Rattle.entry_states.specs.program_equations.Systems.{FitsBody, FitsProgram};
+ghost use Rattle.entry_states.specs.body_systems.Systems.{body_of};
 ghost use Rattle.program_systems.specs.Analysable.{IsAnalysable};
 ghost use Rattle.program_systems.specs.ProgramFacts.{AreProgramFacts, program_with};
 
 use crate::facts::ProgramFacts;
-use body_systems::BodyOverStore;
 use cell_env::State;
+use entry_states::BodyOverStore;
 use interfere_set::Store;
 use mutex_configs::Program;
 use pointer_dom::AbsValue;

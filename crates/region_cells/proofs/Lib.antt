@@ -3,3 +3,4 @@ pub mod Marking
 pub mod Nodes
 pub mod Covered
 pub mod Wholes
+pub mod low

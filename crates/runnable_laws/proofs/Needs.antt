@@ -1,6 +1,6 @@
 -- The laws of typed files and of layouts give what the interpreter needs.
-use Rattle.tm_typed.specs.TypedFiles.{typed_file_tree}
-use Rattle.tm_laid.specs.Layouts.{laid_tree}
+use Rattle.layout_laws.specs.tm_typed.TypedFiles.{typed_file_tree}
+use Rattle.layout_laws.specs.tm_laid.Layouts.{laid_tree}
 use Rattle.typed_file_laws.proofs.Layable.{are_layable}
 use Rattle.layout_laws.proofs.Kept.{limits_kept}
 use Rattle.runnable_laws.specs.Runnable.{AreRunnable}

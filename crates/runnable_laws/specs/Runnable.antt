@@ -1,12 +1,12 @@
 -- Layouts of typed files are runnable.
 use Rattle.std.specs.Prelude.{◌≡◌, ℕ, ◌<◌, All, Contains, length, List, Option, Ok}
-use Rattle.tm_terms.specs.declared.tokens.Name.{Name}
-use Rattle.tm_trees.specs.FileTrees.{ItemTree}
-use Rattle.tm_typed.specs.CallGraph.{AreCalleesFirst, calls_in}
-use Rattle.tm_typed.specs.Files.{IsTyped}
-use Rattle.tm_typed.specs.TypedFiles.{typed_file_tree}
-use Rattle.tm_laid.specs.declared.layouts.Laid.{Laid}
-use Rattle.tm_laid.specs.Layouts.{laid_tree, laid_out}
+use Rattle.layout_laws.specs.tm_terms.declared.tokens.Name.{Name}
+use Rattle.layout_laws.specs.tm_trees.FileTrees.{ItemTree}
+use Rattle.layout_laws.specs.tm_typed.CallGraph.{AreCalleesFirst, calls_in}
+use Rattle.layout_laws.specs.tm_typed.Files.{IsTyped}
+use Rattle.layout_laws.specs.tm_typed.TypedFiles.{typed_file_tree}
+use Rattle.layout_laws.specs.tm_laid.declared.layouts.Laid.{Laid}
+use Rattle.layout_laws.specs.tm_laid.Layouts.{laid_tree, laid_out}
 use Rattle.task_interpreter.specs.Runnable.{IsRunnable}
 
 -- the layout of a typed file, whose order has each function behind those that it calls

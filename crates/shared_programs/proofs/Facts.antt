@@ -5,16 +5,16 @@ use denote.Param.Send.{IsSend, IsSync, view_send, view_sync, sendable}
 use denote.Param.SendFields.{as_row_send, as_row_sync}
 use Rattle.std.specs.contracts.option.Option as Option
 use Rattle.std.proofs.Crossing.{Vec-send, Vec-sync}
-use Rattle.strided_dom.specs.contracts.rounding.Marks as Marks
-use Rattle.pointer_dom.specs.contracts.abs_value.AbsValue as AbsValue
-use Rattle.pointer_dom.specs.contracts.abs_value.AbsValueLattice.TheImpl as OfValues
-use Rattle.cell_env.specs.contracts.states.State as State
-use Rattle.graph_facts.specs.contracts.regions.Head as Head
-use Rattle.least_tables.specs.contracts.links.Link as Link
-use Rattle.body_systems.specs.contracts.facts.BodyFacts as BodyFacts
-use Rattle.body_systems.specs.contracts.facts.BodyFacts.TheInside as FactsInside
-use Rattle.body_systems.specs.contracts.states.BodyState as BodyState
-use Rattle.body_systems.specs.contracts.states.BodyState.TheInside as StateInside
+use Rattle.program_systems.specs.strided_dom.contracts.rounding.Marks as Marks
+use Rattle.program_systems.specs.pointer_dom.contracts.abs_value.AbsValue as AbsValue
+use Rattle.program_systems.specs.pointer_dom.contracts.abs_value.AbsValueLattice.TheImpl as OfValues
+use Rattle.program_systems.specs.cell_env.contracts.states.State as State
+use Rattle.program_systems.specs.graph_facts.contracts.regions.Head as Head
+use Rattle.program_systems.specs.least_tables.contracts.links.Link as Link
+use Rattle.program_systems.specs.body_systems.contracts.facts.BodyFacts as BodyFacts
+use Rattle.program_systems.specs.body_systems.contracts.facts.BodyFacts.TheInside as FactsInside
+use Rattle.program_systems.specs.body_systems.contracts.states.BodyState as BodyState
+use Rattle.program_systems.specs.body_systems.contracts.states.BodyState.TheInside as StateInside
 use Rattle.program_systems.specs.contracts.facts.ProgramFacts as ProgramFacts
 use Rattle.program_systems.specs.contracts.facts.ProgramFacts.TheInside as ProgramInside
 use Rattle.shared_programs.proofs.States.{value_state_send, value_state_sync}

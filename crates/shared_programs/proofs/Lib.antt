@@ -4,3 +4,4 @@ pub mod Programs
 pub mod Tables
 pub mod States
 pub mod Facts
+pub mod low

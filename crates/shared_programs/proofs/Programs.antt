@@ -3,21 +3,21 @@ use denote.Struct.Declared.{shape}
 use denote.Param.Send.{IsSend, IsSync, struct_send, struct_sync, sendable}
 use denote.Param.SendFields.{as_row_send, as_row_sync}
 use Rattle.std.proofs.Crossing.{Vec-send, Vec-sync}
-use Rattle.tm_laid.specs.contracts.paths.CallPath as CallPath
-use Rattle.tm_laid.specs.contracts.objects.LaidObject as LaidObject
-use Rattle.tm_laid.specs.contracts.objects.Initial as Initial
-use Rattle.tm_laid.specs.contracts.cells.LaidCell as LaidCell
-use Rattle.tm_laid.specs.contracts.cells.AbstractCell as AbstractCell
-use Rattle.tm_laid.specs.contracts.layouts.Laid as Laid
-use Rattle.flow_graph.specs.contracts.operations.Operation as Operation
-use Rattle.flow_graph.specs.contracts.graphs.Edge as Edge
-use Rattle.flow_graph.specs.contracts.graphs.Graph as Graph
-use Rattle.flow_graph.specs.contracts.graphs.Graphs as Graphs
-use Rattle.strided_dom.specs.contracts.rounding.Marks as Marks
-use Rattle.mutex_configs.specs.contracts.nodes.ConfiguredNode as ConfiguredNode
-use Rattle.mutex_configs.specs.contracts.nodes.EdgeCopy as EdgeCopy
-use Rattle.mutex_configs.specs.contracts.nodes.ConfiguredGraph as ConfiguredGraph
-use Rattle.mutex_configs.specs.contracts.programs.Program as Program
+use Rattle.program_systems.specs.tm_laid.contracts.paths.CallPath as CallPath
+use Rattle.program_systems.specs.tm_laid.contracts.objects.LaidObject as LaidObject
+use Rattle.program_systems.specs.tm_laid.contracts.objects.Initial as Initial
+use Rattle.program_systems.specs.tm_laid.contracts.cells.LaidCell as LaidCell
+use Rattle.program_systems.specs.tm_laid.contracts.cells.AbstractCell as AbstractCell
+use Rattle.program_systems.specs.tm_laid.contracts.layouts.Laid as Laid
+use Rattle.program_systems.specs.flow_graph.contracts.operations.Operation as Operation
+use Rattle.program_systems.specs.flow_graph.contracts.graphs.Edge as Edge
+use Rattle.program_systems.specs.flow_graph.contracts.graphs.Graph as Graph
+use Rattle.program_systems.specs.flow_graph.contracts.graphs.Graphs as Graphs
+use Rattle.program_systems.specs.strided_dom.contracts.rounding.Marks as Marks
+use Rattle.program_systems.specs.mutex_configs.contracts.nodes.ConfiguredNode as ConfiguredNode
+use Rattle.program_systems.specs.mutex_configs.contracts.nodes.EdgeCopy as EdgeCopy
+use Rattle.program_systems.specs.mutex_configs.contracts.nodes.ConfiguredGraph as ConfiguredGraph
+use Rattle.program_systems.specs.mutex_configs.contracts.programs.Program as Program
 use Rattle.shared_programs.proofs.IndexedSets.{set_send, set_sync}
 use Rattle.shared_programs.proofs.TypedTrees.{typed_file_field_send, typed_file_field_sync}
 

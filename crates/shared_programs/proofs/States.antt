@@ -3,25 +3,25 @@ use denote.RattleType.{RattleType}
 use denote.Param.Send.{IsSend, IsSync, struct_send, struct_sync, view_send, view_sync, fixed_send, fixed_sync, sendable}
 use denote.Param.SendFields.{as_row_send, as_row_sync}
 use denote.Struct.Declared.{shape}
-use Rattle.strided_dom.specs.declared.sets.Strided.TheView as OfStrided
-use Rattle.pointer_dom.specs.declared.offsets.Offsets.TheView as OfOffsetSets
-use Rattle.strided_dom.specs.contracts.rounding.Marks as Marks
-use Rattle.strided_dom.specs.contracts.sets.Strided as Strided
-use Rattle.strided_dom.specs.contracts.sets.Strided.TheInside as StridedInside
-use Rattle.pointer_dom.specs.contracts.offsets.Offsets as Offsets
-use Rattle.pointer_dom.specs.contracts.offsets.Offsets.TheInside as OffsetsInside
-use Rattle.pointer_dom.specs.contracts.offsets.OffsetsLattice.TheImpl as OfOffsets
-use Rattle.pointer_dom.specs.contracts.pointer_set.PointerSet as PointerSet
-use Rattle.pointer_dom.specs.contracts.pointer_set.PointerSet.TheInside as PointersInside
-use Rattle.pointer_dom.specs.contracts.abs_value.AbsValue as AbsValue
-use Rattle.pointer_dom.specs.contracts.abs_value.AbsValue.TheInside as ValueInside
-use Rattle.pointer_dom.specs.contracts.abs_value.AbsValueLattice.TheImpl as OfValues
-use Rattle.tm_lattice.specs.declared.lattices.Lattice as lattice
-use Rattle.tm_lattice.specs.contracts.tables.Keyed as Keyed
-use Rattle.tm_lattice.specs.contracts.tables.KeyedLattice.TheImpl as OfTables
-use Rattle.cell_env.specs.contracts.states.State as State
-use Rattle.interfere_set.specs.contracts.stores.Store as Store
-use Rattle.interfere_set.specs.contracts.stores.Store.TheInside as StoreInside
+use Rattle.program_systems.specs.strided_dom.declared.sets.Strided.TheView as OfStrided
+use Rattle.program_systems.specs.pointer_dom.declared.offsets.Offsets.TheView as OfOffsetSets
+use Rattle.program_systems.specs.strided_dom.contracts.rounding.Marks as Marks
+use Rattle.program_systems.specs.strided_dom.contracts.sets.Strided as Strided
+use Rattle.program_systems.specs.strided_dom.contracts.sets.Strided.TheInside as StridedInside
+use Rattle.program_systems.specs.pointer_dom.contracts.offsets.Offsets as Offsets
+use Rattle.program_systems.specs.pointer_dom.contracts.offsets.Offsets.TheInside as OffsetsInside
+use Rattle.program_systems.specs.pointer_dom.contracts.offsets.OffsetsLattice.TheImpl as OfOffsets
+use Rattle.program_systems.specs.pointer_dom.contracts.pointer_set.PointerSet as PointerSet
+use Rattle.program_systems.specs.pointer_dom.contracts.pointer_set.PointerSet.TheInside as PointersInside
+use Rattle.program_systems.specs.pointer_dom.contracts.abs_value.AbsValue as AbsValue
+use Rattle.program_systems.specs.pointer_dom.contracts.abs_value.AbsValue.TheInside as ValueInside
+use Rattle.program_systems.specs.pointer_dom.contracts.abs_value.AbsValueLattice.TheImpl as OfValues
+use Rattle.program_systems.specs.tm_lattice.declared.lattices.Lattice as lattice
+use Rattle.program_systems.specs.tm_lattice.contracts.tables.Keyed as Keyed
+use Rattle.program_systems.specs.tm_lattice.contracts.tables.KeyedLattice.TheImpl as OfTables
+use Rattle.program_systems.specs.cell_env.contracts.states.State as State
+use Rattle.program_systems.specs.interfere_set.contracts.stores.Store as Store
+use Rattle.program_systems.specs.interfere_set.contracts.stores.Store.TheInside as StoreInside
 use Rattle.shared_programs.proofs.Tables.{keyed_send, keyed_sync, state_send, state_sync}
 
 strided_send : IsSend Strided.the_row

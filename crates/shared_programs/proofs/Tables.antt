@@ -7,20 +7,20 @@ use denote.Struct.Declared.{shape}
 use denote.Struct.Tuple.{Tuple, tuple_type, tuple_field}
 use Rattle.std.specs.Prelude.{List, [], ◌∷◌}
 use Rattle.std.proofs.Crossing.{Vec-send, Vec-sync, Arc-send, Arc-sync}
-use Rattle.tm_lattice.specs.declared.lattices.Lattice as lattice
-use Rattle.tm_lattice.specs.contracts.tables.Keyed as Keyed
-use Rattle.tm_lattice.specs.contracts.tables.Keyed.TheInside as KeyedInside
-use Rattle.state_tree.specs.contracts.tables.SharedTable as SharedTable
-use Rattle.state_tree.specs.contracts.tables.SharedTable.TheInside as SharedInside
-use Rattle.state_tree.specs.contracts.tables.SharedTableLattice.TheImpl as OfTables
-use Rattle.state_tree.specs.contracts.trees.Tree as Tree
-use Rattle.state_tree.specs.contracts.trees.Tree.TheInside as TreeInside
-use Rattle.cell_env.specs.contracts.cells.CellState as CellState
-use Rattle.cell_env.specs.contracts.cells.CellStateLattice.TheImpl as OfCells
-use Rattle.cell_env.specs.contracts.states.State as State
-use Rattle.cell_env.specs.contracts.states.State.TheInside as StateInside
-use Rattle.cell_env.specs.contracts.temps.TempState as TempState
-use Rattle.cell_env.specs.contracts.temps.TempStateLattice.TheImpl as OfTemps
+use Rattle.program_systems.specs.tm_lattice.declared.lattices.Lattice as lattice
+use Rattle.program_systems.specs.tm_lattice.contracts.tables.Keyed as Keyed
+use Rattle.program_systems.specs.tm_lattice.contracts.tables.Keyed.TheInside as KeyedInside
+use Rattle.program_systems.specs.state_tree.contracts.tables.SharedTable as SharedTable
+use Rattle.program_systems.specs.state_tree.contracts.tables.SharedTable.TheInside as SharedInside
+use Rattle.program_systems.specs.state_tree.contracts.tables.SharedTableLattice.TheImpl as OfTables
+use Rattle.program_systems.specs.state_tree.contracts.trees.Tree as Tree
+use Rattle.program_systems.specs.state_tree.contracts.trees.Tree.TheInside as TreeInside
+use Rattle.program_systems.specs.cell_env.contracts.cells.CellState as CellState
+use Rattle.program_systems.specs.cell_env.contracts.cells.CellStateLattice.TheImpl as OfCells
+use Rattle.program_systems.specs.cell_env.contracts.states.State as State
+use Rattle.program_systems.specs.cell_env.contracts.states.State.TheInside as StateInside
+use Rattle.program_systems.specs.cell_env.contracts.temps.TempState as TempState
+use Rattle.program_systems.specs.cell_env.contracts.temps.TempStateLattice.TheImpl as OfTemps
 
 module _ (V M : RattleType) (g : lattice.Ghosts V.Denot M.Denot) where
   -- a key and a value

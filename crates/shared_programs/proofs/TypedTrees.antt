@@ -8,24 +8,24 @@ use Rattle.std.specs.contracts.option.Option as Option
 use Rattle.std.specs.contracts.vec.Vec as Vec
 use Rattle.std.specs.contracts.impls.GlobalAllocator.TheImpl.{ghosts}
 use Rattle.std.proofs.Crossing.{Box-send, Box-sync, Vec-send, Vec-sync}
-use Rattle.tm_typed.specs.contracts.expressions.Rvalue as Rvalue
-use Rattle.tm_typed.specs.contracts.statements.GivenCell as GivenCell
-use Rattle.tm_typed.specs.contracts.statements.LocalInitialiser as LocalInitialiser
-use Rattle.tm_typed.specs.contracts.statements.LocalObject as LocalObject
-use Rattle.tm_typed.specs.contracts.statements.TypedStatement as TypedStatement
-use Rattle.tm_typed.specs.contracts.types.TypeEntry as TypeEntry
-use Rattle.tm_typed.specs.contracts.scopes.Member as Member
-use Rattle.tm_typed.specs.contracts.scopes.StructEntry as StructEntry
-use Rattle.tm_typed.specs.contracts.files.StaticCell as StaticCell
-use Rattle.tm_typed.specs.contracts.files.TypedStatic as TypedStatic
-use Rattle.tm_typed.specs.contracts.files.LocalEntry as LocalEntry
-use Rattle.tm_typed.specs.contracts.files.TypedBody as TypedBody
-use Rattle.tm_typed.specs.contracts.files.TypedFunction as TypedFunction
-use Rattle.tm_typed.specs.contracts.files.TypedTask as TypedTask
-use Rattle.tm_typed.specs.contracts.files.MutexEntry as MutexEntry
-use Rattle.tm_typed.specs.contracts.files.TypedFile as TypedFile
-use Rattle.tm_typed.proofs.expressions.Lvalue.TheLaws.TheKnot as Values
-use Rattle.tm_typed.proofs.statements.TypedStatement.TheLaws.TheKnot as Statements
+use Rattle.program_systems.specs.tm_typed.contracts.expressions.Rvalue as Rvalue
+use Rattle.program_systems.specs.tm_typed.contracts.statements.GivenCell as GivenCell
+use Rattle.program_systems.specs.tm_typed.contracts.statements.LocalInitialiser as LocalInitialiser
+use Rattle.program_systems.specs.tm_typed.contracts.statements.LocalObject as LocalObject
+use Rattle.program_systems.specs.tm_typed.contracts.statements.TypedStatement as TypedStatement
+use Rattle.program_systems.specs.tm_typed.contracts.types.TypeEntry as TypeEntry
+use Rattle.program_systems.specs.tm_typed.contracts.scopes.Member as Member
+use Rattle.program_systems.specs.tm_typed.contracts.scopes.StructEntry as StructEntry
+use Rattle.program_systems.specs.tm_typed.contracts.files.StaticCell as StaticCell
+use Rattle.program_systems.specs.tm_typed.contracts.files.TypedStatic as TypedStatic
+use Rattle.program_systems.specs.tm_typed.contracts.files.LocalEntry as LocalEntry
+use Rattle.program_systems.specs.tm_typed.contracts.files.TypedBody as TypedBody
+use Rattle.program_systems.specs.tm_typed.contracts.files.TypedFunction as TypedFunction
+use Rattle.program_systems.specs.tm_typed.contracts.files.TypedTask as TypedTask
+use Rattle.program_systems.specs.tm_typed.contracts.files.MutexEntry as MutexEntry
+use Rattle.program_systems.specs.tm_typed.contracts.files.TypedFile as TypedFile
+use Rattle.program_systems.proofs.low.tm_typed.expressions.Lvalue.TheLaws.TheKnot as Values
+use Rattle.program_systems.proofs.low.tm_typed.statements.TypedStatement.TheLaws.TheKnot as Statements
 
 -- ---- what stands in a box or a list, and a box that may be missing
 module _ (R : RattleType) where

@@ -1,8 +1,8 @@
 //! What crosses threads.
 ghost use denote.Param.Send.{IsSend, IsSync};
-ghost use Rattle.tm_typed.specs.contracts.files.TypedFile as AFile;
-ghost use Rattle.mutex_configs.specs.contracts.programs.Program as AProgram;
-ghost use Rattle.interfere_set.specs.contracts.stores.Store as AStore;
+ghost use Rattle.program_systems.specs.tm_typed.contracts.files.TypedFile as AFile;
+ghost use Rattle.program_systems.specs.mutex_configs.contracts.programs.Program as AProgram;
+ghost use Rattle.program_systems.specs.interfere_set.contracts.stores.Store as AStore;
 ghost use Rattle.program_systems.specs.contracts.facts.ProgramFacts as AllFacts;
 
 /// Typed files may be sent to other threads, and be shared by them.

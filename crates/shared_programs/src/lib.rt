@@ -12,3 +12,7 @@ mod laws;
 pub use laws::{
     facts_cross_threads, files_cross_threads, programs_cross_threads, stores_cross_threads,
 };
+pub use program_systems::{
+    BodyOverStore, BodyState, BodySystem, ProgramFacts, body_over_store, section_entry,
+    task_entries,
+};

@@ -7,38 +7,40 @@ use Rattle.std.proofs.lemmas.Bool.{cases_lt}
 use Rattle.std.proofs.lemmas.Option.{none-some}
 use Rattle.std.proofs.lemmas.List.{get_or_past}
 use Rattle.std.proofs.lemmas.List.Elements.{All-get_or}
-use Rattle.tm_cint.specs.IntTypes.{lo_of, hi_of}
-use Rattle.tm_terms.specs.declared.places.Place.{Place}
-use Rattle.tm_terms.specs.declared.refusals.Limit.TheVariants as Limits
-use Rattle.tm_typed.specs.declared.types.CType.{CType}
-use Rattle.tm_typed.specs.declared.types.CType.TheVariants as Types
-use Rattle.tm_typed.specs.declared.scopes.ObjectNumber.TheVariants as Objects
-use Rattle.tm_typed.specs.CallGraph.{calls_in}
-use Rattle.tm_typed.specs.Functions.{TypedBodyTree}
-use Rattle.tm_typed.specs.Files.{TypedFunctionTree, no_typed_function, TypedFileTree}
-use Rattle.tm_laid.specs.Paths.{bodies_of}
-use Rattle.tm_laid.specs.Layable.{IsLayable}
-use Rattle.tm_laid.specs.Layouts.{LaidTree, layout_of, first_path, callee, object_of, is_exceeded, laid_out}
-use Rattle.cell_layout.specs.Laws.{GoesOnBy}
-use Rattle.cell_layout.proofs.PathCalls.{calls_lead}
-use Rattle.concrete_values.specs.Values.{nothing}
-use Rattle.concrete_steps.specs.Places.{result_type}
-use Rattle.concrete_steps.specs.NextAction.{scalar_at, function_at}
-use Rattle.typed_file_laws.specs.Mentions.{StatementsMention}
-use Rattle.typed_file_laws.specs.TypedBodies.{IsBodyOf}
-use Rattle.typed_file_laws.specs.Sites.{is_defined_object, function_of_file, is_defined_function}
-use Rattle.flow_graph.specs.declared.graphs.Edge.{Edge}
-use Rattle.flow_graph.specs.declared.operations.Into.TheVariants as Intos
-use Rattle.flow_graph.specs.declared.operations.Operation.{Operation}
-use Rattle.flow_graph.specs.declared.operations.Operation.TheVariants as Op
-use Rattle.flow_graph.specs.Graphs.{Edges, Among}
-use Rattle.lowering.specs.Table.{plans}
-use Rattle.lowering.specs.Built.{Building, place, place_new, Passed, Later, Sites, is_return}
-use Rattle.lowering.specs.Built.{nodes_by, plan_piece}
-use Rattle.lowering.specs.Built.{stores_piece, fallen_piece, function_end, task_end, nothing_piece, function_piece}
-use Rattle.lowering.specs.Built.{sites_of, path_piece, entry, graph_of}
-use Rattle.next_action_laws.specs.Actions.{IsBodyPath}
-use Rattle.next_action_laws.proofs.PathPlaces.{first_of}
+use Rattle.operation_laws.specs.tm_cint.IntTypes.{lo_of, hi_of}
+use Rattle.operation_laws.specs.tm_terms.declared.places.Place.{Place}
+use Rattle.operation_laws.specs.tm_terms.declared.refusals.Limit.TheVariants as Limits
+use Rattle.operation_laws.specs.tm_typed.declared.types.CType.{CType}
+use Rattle.operation_laws.specs.tm_typed.declared.types.CType.TheVariants as Types
+use Rattle.operation_laws.specs.tm_typed.declared.scopes.ObjectNumber.TheVariants as Objects
+use Rattle.operation_laws.specs.tm_typed.CallGraph.{calls_in}
+use Rattle.operation_laws.specs.tm_typed.Functions.{TypedBodyTree}
+use Rattle.operation_laws.specs.tm_typed.Files.{TypedFunctionTree, no_typed_function, TypedFileTree}
+use Rattle.operation_laws.specs.tm_laid.Paths.{bodies_of}
+use Rattle.operation_laws.specs.tm_laid.Layable.{IsLayable}
+use Rattle.operation_laws.specs.tm_laid.Layouts.{LaidTree, layout_of, first_path, callee, object_of, is_exceeded}
+use Rattle.operation_laws.specs.tm_laid.Layouts.{laid_out}
+use Rattle.operation_laws.specs.cell_layout.Laws.{GoesOnBy}
+use Rattle.operation_laws.proofs.low.cell_layout.PathCalls.{calls_lead}
+use Rattle.operation_laws.specs.concrete_values.Values.{nothing}
+use Rattle.operation_laws.specs.concrete_steps.Places.{result_type}
+use Rattle.operation_laws.specs.concrete_steps.NextAction.{scalar_at, function_at}
+use Rattle.operation_laws.specs.typed_file_laws.Mentions.{StatementsMention}
+use Rattle.operation_laws.specs.typed_file_laws.TypedBodies.{IsBodyOf}
+use Rattle.operation_laws.specs.typed_file_laws.Sites.{is_defined_object, function_of_file, is_defined_function}
+use Rattle.operation_laws.specs.flow_graph.declared.graphs.Edge.{Edge}
+use Rattle.operation_laws.specs.flow_graph.declared.operations.Into.TheVariants as Intos
+use Rattle.operation_laws.specs.flow_graph.declared.operations.Operation.{Operation}
+use Rattle.operation_laws.specs.flow_graph.declared.operations.Operation.TheVariants as Op
+use Rattle.operation_laws.specs.flow_graph.Graphs.{Edges, Among}
+use Rattle.operation_laws.specs.lowering.Table.{plans}
+use Rattle.operation_laws.specs.lowering.Built.{Building, place, place_new, Passed, Later, Sites, is_return}
+use Rattle.operation_laws.specs.lowering.Built.{nodes_by, plan_piece}
+use Rattle.operation_laws.specs.lowering.Built.{stores_piece, fallen_piece, function_end, task_end, nothing_piece}
+use Rattle.operation_laws.specs.lowering.Built.{function_piece}
+use Rattle.operation_laws.specs.lowering.Built.{sites_of, path_piece, entry, graph_of}
+use Rattle.operation_laws.specs.next_action_laws.Actions.{IsBodyPath}
+use Rattle.operation_laws.proofs.low.next_action_laws.PathPlaces.{first_of}
 use Rattle.sound_runs.specs.Addresses.{Kind, anything, HasKinds, KeepsKinds}
 use Rattle.sound_addresses.proofs.BuiltKinds.{grows_on, grows_same, grows_end, KindsAre, AllFit, Fits, place_fits}
 use Rattle.sound_addresses.proofs.BuiltKinds.{place_dull, dull_none, meet_fits, Grown}

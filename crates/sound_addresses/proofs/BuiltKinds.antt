@@ -3,23 +3,27 @@
 use Rattle.std.proofs.Common.{◌≡◌, refl, sym, ap, subst, ◌∙◌, ℕ, zero, suc, true, false, List, [], ◌∷◌, ◌++◌}
 use Rattle.std.proofs.Common.{length, Option, Some, None, slice_get}
 use Rattle.std.proofs.lemmas.Option.{none-some, same_Some}
-use Rattle.tm_terms.specs.declared.places.Place.{Place}
-use Rattle.tm_laid.specs.Layouts.{LaidTree}
-use Rattle.concrete_values.specs.Values.{truth_value}
-use Rattle.flow_graph.specs.declared.operations.Test.{Test}
-use Rattle.flow_graph.specs.declared.operations.Operation.{Operation}
-use Rattle.flow_graph.specs.declared.operations.Operation.TheVariants as Op
-use Rattle.flow_graph.specs.Operations.{given}
-use Rattle.flow_graph.specs.Graphs.{Edges}
-use Rattle.lowering.specs.Steps.{Steps, no_more, first_then, Step, operate, value_of, only_do, truth_of, choose}
-use Rattle.lowering.specs.Steps.{choose_only, call_of, Inputs, no_inputs, and_input, Code, code, Fork, fork_by}
-use Rattle.lowering.specs.Steps.{converse, both_of, either_of}
-use Rattle.lowering.specs.Built.{edge, at, renamed, renamed_test, Building, place_with, place, branch, goto, skips}
-use Rattle.lowering.specs.Built.{meet, back_to}
-use Rattle.lowering.specs.Built.{close_loop, temp_of, with_value, only_at, operated, truth_met, copied, copied_to}
-use Rattle.lowering.specs.Built.{Sites}
-use Rattle.lowering.specs.Built.{AfterSteps, AfterPart, Forked}
-use Rattle.lowering.specs.Built.{steps_piece, step_piece, inputs_piece, code_piece, fork_piece}
+use Rattle.operation_laws.specs.tm_terms.declared.places.Place.{Place}
+use Rattle.operation_laws.specs.tm_laid.Layouts.{LaidTree}
+use Rattle.operation_laws.specs.concrete_values.Values.{truth_value}
+use Rattle.operation_laws.specs.flow_graph.declared.operations.Test.{Test}
+use Rattle.operation_laws.specs.flow_graph.declared.operations.Operation.{Operation}
+use Rattle.operation_laws.specs.flow_graph.declared.operations.Operation.TheVariants as Op
+use Rattle.operation_laws.specs.flow_graph.Operations.{given}
+use Rattle.operation_laws.specs.flow_graph.Graphs.{Edges}
+use Rattle.operation_laws.specs.lowering.Steps.{Steps, no_more, first_then, Step, operate, value_of, only_do, truth_of}
+use Rattle.operation_laws.specs.lowering.Steps.{choose}
+use Rattle.operation_laws.specs.lowering.Steps.{choose_only, call_of, Inputs, no_inputs, and_input, Code, code, Fork}
+use Rattle.operation_laws.specs.lowering.Steps.{fork_by}
+use Rattle.operation_laws.specs.lowering.Steps.{converse, both_of, either_of}
+use Rattle.operation_laws.specs.lowering.Built.{edge, at, renamed, renamed_test, Building, place_with, place, branch}
+use Rattle.operation_laws.specs.lowering.Built.{goto, skips}
+use Rattle.operation_laws.specs.lowering.Built.{meet, back_to}
+use Rattle.operation_laws.specs.lowering.Built.{close_loop, temp_of, with_value, only_at, operated, truth_met, copied}
+use Rattle.operation_laws.specs.lowering.Built.{copied_to}
+use Rattle.operation_laws.specs.lowering.Built.{Sites}
+use Rattle.operation_laws.specs.lowering.Built.{AfterSteps, AfterPart, Forked}
+use Rattle.operation_laws.specs.lowering.Built.{steps_piece, step_piece, inputs_piece, code_piece, fork_piece}
 use Rattle.operation_laws.proofs.Within.{given_renamed, renamed_to}
 use Rattle.sound_runs.specs.Addresses.{Kind, address_of, anything, KeepsKinds}
 use Rattle.sound_addresses.proofs.Kept.{IsDull, dull_keeps}

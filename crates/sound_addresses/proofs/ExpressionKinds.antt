@@ -3,44 +3,55 @@ use Rattle.std.proofs.Common.{◌≡◌, refl, sym, subst, ℕ, ◌+◌, ◌*◌
 use Rattle.std.proofs.Common.{◌∷◌, length, Some, slice_get}
 use Rattle.std.specs.Prelude.{pos, if◌then◌else◌}
 use Rattle.std.proofs.lemmas.Option.{slice_get_within}
-use Rattle.tm_cint.specs.declared.int_types.IntType.{IntType}
-use Rattle.tm_cint.specs.declared.int_types.IntType.TheVariants as Ints
-use Rattle.tm_cint.specs.declared.operators.BinOp.{BinOp}
-use Rattle.tm_terms.specs.declared.places.Place.{Place}
-use Rattle.tm_typed.specs.declared.types.CType.TheVariants as Types
-use Rattle.tm_typed.specs.declared.types.Scalar.{Scalar}
-use Rattle.tm_typed.specs.declared.types.Scalar.TheVariants as Scalars
-use Rattle.tm_typed.specs.declared.scopes.ObjectNumber.{ObjectNumber}
-use Rattle.tm_typed.specs.declared.scopes.ObjectNumber.TheVariants as Objects
-use Rattle.tm_typed.specs.declared.files.LocalEntry.{LocalEntry}
-use Rattle.tm_typed.specs.Scopes.{ctype_of, cells_of}
-use Rattle.tm_typed.specs.Rules.{is_comparison}
-use Rattle.tm_typed.specs.TypedTrees.{RvalueTree, a_constant, a_folded, a_null, a_load, an_address, a_structure}
-use Rattle.tm_typed.specs.TypedTrees.{the_same, a_unary, a_binary, a_comparison_of_pointers, a_move, a_not, an_and}
-use Rattle.tm_typed.specs.TypedTrees.{an_or, a_choice, an_assignment, a_compound, a_compound_move, a_unit_step}
-use Rattle.tm_typed.specs.TypedTrees.{a_pointer_step, a_function_call, an_input_value, a_probe, a_comma, a_conversion}
-use Rattle.tm_typed.specs.TypedTrees.{a_discard, LvalueTree, an_object, an_element, a_pointed_element, a_pointed}
-use Rattle.tm_typed.specs.TypedTrees.{an_arrow, a_part, RvalueTrees, no_rvalues, and_rvalue, lvalue_place}
-use Rattle.tm_typed.specs.WellTyped.{ValueKind, a_number, a_pointer, kind_of_scalar, Context}
-use Rattle.tm_typed.specs.WellTyped.{IsRvalue, IsLvalue, AreArguments, HasPart}
-use Rattle.tm_laid.specs.Layouts.{LaidTree, object_of}
-use Rattle.concrete_values.specs.declared.values.Value.TheVariants.{Number}
-use Rattle.concrete_values.specs.Pointers.{is_object_at}
-use Rattle.concrete_steps.specs.Places.{rvalue_place, is_pointer_scalar, gives_pointer}
-use Rattle.concrete_steps.specs.NextAction.{step_operator}
-use Rattle.flow_graph.specs.declared.operations.Into.{Into}
-use Rattle.flow_graph.specs.declared.operations.Operation.TheVariants as Op
-use Rattle.typed_file_laws.specs.Mentions.{Mentions, LvalueMentions, AllMention}
-use Rattle.typed_file_laws.specs.TypedBodies.{file_context}
-use Rattle.typed_file_laws.specs.Lawful.{object_type}
-use Rattle.lowering.specs.Steps.{Steps, no_more, first_then, Step, operate, value_of, Inputs, Code, code, Fork}
-use Rattle.lowering.specs.Steps.{converse, both_of, either_of}
-use Rattle.lowering.specs.Table.{Conversion, conversion, converted_at, more_after, Codes, valued, decided}
-use Rattle.lowering.specs.Table.{operands, binary_code, binary_codes, pointers_codes, move_code}
-use Rattle.lowering.specs.Table.{loading, load_code, choice_code, comma_code, assignment_code, stored_steps}
-use Rattle.lowering.specs.Table.{changed_steps, compound_with, unit_step_with, moved_code, converted_code, call_code}
-use Rattle.lowering.specs.Table.{codes, address_code, inputs, into, implied, has_value, call_has_value, is_same_place}
-use Rattle.next_action_laws.specs.Actions.{IsPlace}
+use Rattle.operation_laws.specs.tm_cint.declared.int_types.IntType.{IntType}
+use Rattle.operation_laws.specs.tm_cint.declared.int_types.IntType.TheVariants as Ints
+use Rattle.operation_laws.specs.tm_cint.declared.operators.BinOp.{BinOp}
+use Rattle.operation_laws.specs.tm_terms.declared.places.Place.{Place}
+use Rattle.operation_laws.specs.tm_typed.declared.types.CType.TheVariants as Types
+use Rattle.operation_laws.specs.tm_typed.declared.types.Scalar.{Scalar}
+use Rattle.operation_laws.specs.tm_typed.declared.types.Scalar.TheVariants as Scalars
+use Rattle.operation_laws.specs.tm_typed.declared.scopes.ObjectNumber.{ObjectNumber}
+use Rattle.operation_laws.specs.tm_typed.declared.scopes.ObjectNumber.TheVariants as Objects
+use Rattle.operation_laws.specs.tm_typed.declared.files.LocalEntry.{LocalEntry}
+use Rattle.operation_laws.specs.tm_typed.Scopes.{ctype_of, cells_of}
+use Rattle.operation_laws.specs.tm_typed.Rules.{is_comparison}
+use Rattle.operation_laws.specs.tm_typed.TypedTrees.{RvalueTree, a_constant, a_folded, a_null, a_load, an_address}
+use Rattle.operation_laws.specs.tm_typed.TypedTrees.{a_structure}
+use Rattle.operation_laws.specs.tm_typed.TypedTrees.{the_same, a_unary, a_binary, a_comparison_of_pointers, a_move}
+use Rattle.operation_laws.specs.tm_typed.TypedTrees.{a_not, an_and}
+use Rattle.operation_laws.specs.tm_typed.TypedTrees.{an_or, a_choice, an_assignment, a_compound, a_compound_move}
+use Rattle.operation_laws.specs.tm_typed.TypedTrees.{a_unit_step}
+use Rattle.operation_laws.specs.tm_typed.TypedTrees.{a_pointer_step, a_function_call, an_input_value, a_probe, a_comma}
+use Rattle.operation_laws.specs.tm_typed.TypedTrees.{a_conversion}
+use Rattle.operation_laws.specs.tm_typed.TypedTrees.{a_discard, LvalueTree, an_object, an_element, a_pointed_element}
+use Rattle.operation_laws.specs.tm_typed.TypedTrees.{a_pointed}
+use Rattle.operation_laws.specs.tm_typed.TypedTrees.{an_arrow, a_part, RvalueTrees, no_rvalues, and_rvalue}
+use Rattle.operation_laws.specs.tm_typed.TypedTrees.{lvalue_place}
+use Rattle.operation_laws.specs.tm_typed.WellTyped.{ValueKind, a_number, a_pointer, kind_of_scalar, Context}
+use Rattle.operation_laws.specs.tm_typed.WellTyped.{IsRvalue, IsLvalue, AreArguments, HasPart}
+use Rattle.operation_laws.specs.tm_laid.Layouts.{LaidTree, object_of}
+use Rattle.operation_laws.specs.concrete_values.declared.values.Value.TheVariants.{Number}
+use Rattle.operation_laws.specs.concrete_values.Pointers.{is_object_at}
+use Rattle.operation_laws.specs.concrete_steps.Places.{rvalue_place, is_pointer_scalar, gives_pointer}
+use Rattle.operation_laws.specs.concrete_steps.NextAction.{step_operator}
+use Rattle.operation_laws.specs.flow_graph.declared.operations.Into.{Into}
+use Rattle.operation_laws.specs.flow_graph.declared.operations.Operation.TheVariants as Op
+use Rattle.operation_laws.specs.typed_file_laws.Mentions.{Mentions, LvalueMentions, AllMention}
+use Rattle.operation_laws.specs.typed_file_laws.TypedBodies.{file_context}
+use Rattle.operation_laws.specs.typed_file_laws.Lawful.{object_type}
+use Rattle.operation_laws.specs.lowering.Steps.{Steps, no_more, first_then, Step, operate, value_of, Inputs, Code, code}
+use Rattle.operation_laws.specs.lowering.Steps.{Fork}
+use Rattle.operation_laws.specs.lowering.Steps.{converse, both_of, either_of}
+use Rattle.operation_laws.specs.lowering.Table.{Conversion, conversion, converted_at, more_after, Codes, valued}
+use Rattle.operation_laws.specs.lowering.Table.{decided}
+use Rattle.operation_laws.specs.lowering.Table.{operands, binary_code, binary_codes, pointers_codes, move_code}
+use Rattle.operation_laws.specs.lowering.Table.{loading, load_code, choice_code, comma_code, assignment_code}
+use Rattle.operation_laws.specs.lowering.Table.{stored_steps}
+use Rattle.operation_laws.specs.lowering.Table.{changed_steps, compound_with, unit_step_with, moved_code}
+use Rattle.operation_laws.specs.lowering.Table.{converted_code, call_code}
+use Rattle.operation_laws.specs.lowering.Table.{codes, address_code, inputs, into, implied, has_value, call_has_value}
+use Rattle.operation_laws.specs.lowering.Table.{is_same_place}
+use Rattle.operation_laws.specs.next_action_laws.Actions.{IsPlace}
 use Rattle.sound_runs.specs.Addresses.{Kind, address_of, anything, KeepsKinds}
 use Rattle.sound_addresses.proofs.Kept.{IsDull, base_keeps, deref_keeps, offset_keeps, index_keeps}
 use Rattle.sound_addresses.proofs.StepKinds.{Sees, InputsFit, CodeFits, ForkFits, DullStep, DullSteps}

@@ -1,29 +1,29 @@
 -- Parts and elements are taken within their objects in the graphs of a file that is typed and laid out.
 use Rattle.std.proofs.Common.{◌≡◌, refl, sym, subst, ◌∙◌, ℕ, ◌<◌, ◌≤◌, false, length}
 use Rattle.std.specs.Prelude.{ℤ, pos, ◌*ℤ◌, List, Option, Ok, IsSome}
-use Rattle.tm_terms.specs.declared.refusals.Limit.TheVariants as Limits
-use Rattle.tm_terms.specs.declared.tokens.Name.{Name}
-use Rattle.tm_trees.specs.FileTrees.{ItemTree}
-use Rattle.tm_typed.specs.Files.{TypedFileTree, IsTyped}
-use Rattle.tm_laid.specs.Layouts.{LaidTree, layout_of, is_exceeded, laid_out}
-use Rattle.concrete_values.specs.declared.values.Pointer.{Pointer}
-use Rattle.concrete_values.specs.declared.values.Pointer.TheVariants as Pointers
-use Rattle.concrete_values.specs.Values.{number_of, pointer_of}
-use Rattle.concrete_values.specs.Pointers.{size_of, pointer_in, shifted}
-use Rattle.flow_graph.specs.declared.operations.Operation.{Operation}
-use Rattle.flow_graph.specs.declared.operations.Operation.TheVariants as Op
-use Rattle.flow_graph.specs.Graphs.{Edges}
-use Rattle.flow_graph.specs.Operations.{Temps}
-use Rattle.typed_file_laws.proofs.TypedBodies.{bodies_are_well_formed}
-use Rattle.typed_file_laws.proofs.MentionFiles.{sites_stand}
-use Rattle.lowering.specs.Built.{graph_of}
-use Rattle.lowering_laws.specs.LaidFiles.{IsLaidFile}
-use Rattle.lowering_laws.proofs.Founded.{file_layable}
-use Rattle.lowering_laws.proofs.Lowered.{is_layout}
-use Rattle.lowering_laws.proofs.GraphLaws.{none_live}
+use Rattle.operation_laws.specs.tm_terms.declared.refusals.Limit.TheVariants as Limits
+use Rattle.operation_laws.specs.tm_terms.declared.tokens.Name.{Name}
+use Rattle.operation_laws.specs.tm_trees.FileTrees.{ItemTree}
+use Rattle.operation_laws.specs.tm_typed.Files.{TypedFileTree, IsTyped}
+use Rattle.operation_laws.specs.tm_laid.Layouts.{LaidTree, layout_of, is_exceeded, laid_out}
+use Rattle.operation_laws.specs.concrete_values.declared.values.Pointer.{Pointer}
+use Rattle.operation_laws.specs.concrete_values.declared.values.Pointer.TheVariants as Pointers
+use Rattle.operation_laws.specs.concrete_values.Values.{number_of, pointer_of}
+use Rattle.operation_laws.specs.concrete_values.Pointers.{size_of, pointer_in, shifted}
+use Rattle.operation_laws.specs.flow_graph.declared.operations.Operation.{Operation}
+use Rattle.operation_laws.specs.flow_graph.declared.operations.Operation.TheVariants as Op
+use Rattle.operation_laws.specs.flow_graph.Graphs.{Edges}
+use Rattle.operation_laws.specs.flow_graph.Operations.{Temps}
+use Rattle.operation_laws.proofs.low.typed_file_laws.TypedBodies.{bodies_are_well_formed}
+use Rattle.operation_laws.proofs.low.typed_file_laws.MentionFiles.{sites_stand}
+use Rattle.operation_laws.specs.lowering.Built.{graph_of}
+use Rattle.operation_laws.specs.lowering_laws.LaidFiles.{IsLaidFile}
+use Rattle.operation_laws.proofs.low.lowering_laws.Founded.{file_layable}
+use Rattle.operation_laws.proofs.low.lowering_laws.Lowered.{is_layout}
+use Rattle.operation_laws.proofs.low.lowering_laws.GraphLaws.{none_live}
 use Rattle.operation_laws.proofs.FileSorts.{few_cells}
-use Rattle.program_equations.specs.Readings.{read_layout}
-use Rattle.program_shape.specs.Shape.{IsAddressed}
+use Rattle.sound_runs.specs.program_equations.Readings.{read_layout}
+use Rattle.sound_runs.specs.program_shape.Shape.{IsAddressed}
 use Rattle.sound_runs.specs.Sources.{Comes, comes_first, comes_by_itself, comes_by_answer, KeepsAddresses}
 use Rattle.sound_runs.specs.Addresses.{HasKinds}
 use Rattle.sound_runs.proofs.KindSteps.{keeps_addresses}

@@ -4,22 +4,23 @@ use Rattle.std.proofs.Common.{Option, length, negsuc}
 use Rattle.std.specs.Prelude.{◌==◌, ℤ, pos, ◌+ℤ◌, ◌*ℤ◌, if◌then◌else◌, is_some, int_le, int_lt, Result, Ok, Err, IsSome}
 use Rattle.std.proofs.lemmas.Bool.{and_parts, ltb-true, eq-eqb}
 use Rattle.std.proofs.lemmas.Option.{same_Some}
-use Rattle.tm_cint.specs.declared.Class.{Class}
-use Rattle.tm_cint.specs.declared.Class.TheVariants as Classes
-use Rattle.tm_terms.specs.declared.places.Place.{Place}
-use Rattle.tm_laid.specs.Layouts.{LaidTree, object_at}
-use Rattle.concrete_values.specs.declared.values.Value.{Value}
-use Rattle.concrete_values.specs.declared.actions.Next.{Next}
-use Rattle.concrete_values.specs.Values.{number_of, pointer_of}
-use Rattle.concrete_values.specs.Pointers.{pointer_in, shifted, or_invalid, base, part, is_subscript, element}
-use Rattle.concrete_values.specs.Pointers.{is_object_at, dereferenced}
-use Rattle.flow_graph.specs.declared.operations.Operation.{Operation}
-use Rattle.flow_graph.specs.declared.operations.Operation.TheVariants as Op
-use Rattle.flow_graph.specs.Operations.{Temps, given, Silent, Asks, effect_by, gives, given_by, put_at}
-use Rattle.program_shape.specs.Shape.{IsAddressed}
-use Rattle.next_action_laws.specs.Actions.{IsPlace}
-use Rattle.next_action_laws.proofs.Addresses.{at, pointer_is, base_is, part_is}
-use Rattle.next_action_laws.proofs.GivenValues.{leads}
+use Rattle.operation_laws.specs.tm_cint.declared.Class.{Class}
+use Rattle.operation_laws.specs.tm_cint.declared.Class.TheVariants as Classes
+use Rattle.operation_laws.specs.tm_terms.declared.places.Place.{Place}
+use Rattle.operation_laws.specs.tm_laid.Layouts.{LaidTree, object_at}
+use Rattle.operation_laws.specs.concrete_values.declared.values.Value.{Value}
+use Rattle.operation_laws.specs.concrete_values.declared.actions.Next.{Next}
+use Rattle.operation_laws.specs.concrete_values.Values.{number_of, pointer_of}
+use Rattle.operation_laws.specs.concrete_values.Pointers.{pointer_in, shifted, or_invalid, base, part, is_subscript}
+use Rattle.operation_laws.specs.concrete_values.Pointers.{element}
+use Rattle.operation_laws.specs.concrete_values.Pointers.{is_object_at, dereferenced}
+use Rattle.operation_laws.specs.flow_graph.declared.operations.Operation.{Operation}
+use Rattle.operation_laws.specs.flow_graph.declared.operations.Operation.TheVariants as Op
+use Rattle.operation_laws.specs.flow_graph.Operations.{Temps, given, Silent, Asks, effect_by, gives, given_by, put_at}
+use Rattle.sound_runs.specs.program_shape.Shape.{IsAddressed}
+use Rattle.operation_laws.specs.next_action_laws.Actions.{IsPlace}
+use Rattle.operation_laws.proofs.low.next_action_laws.Addresses.{at, pointer_is, base_is, part_is}
+use Rattle.operation_laws.proofs.low.next_action_laws.GivenValues.{leads}
 use Rattle.sound_runs.specs.Addresses.{Kind, address_of, anything, StandsThere, IsOfKind, KeepsKinds}
 
 -- ## Operations that take no part and no element

@@ -11,3 +11,4 @@ mod StatementKinds
 mod PathStages
 mod BodyKinds
 pub mod FileKinds
+pub mod low

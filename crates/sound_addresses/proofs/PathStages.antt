@@ -4,32 +4,34 @@ use Rattle.std.proofs.Common.{List, [], ◌∷◌, length, map, take, drop, Opti
 use Rattle.std.specs.Prelude.{pos, ◌&&◌, if◌then◌else◌, nat_le, nat_lt, is_some, option_map, Ok}
 use Rattle.std.proofs.lemmas.Bool.{false≢true, and_parts, ltb-true, leb-true}
 use Rattle.std.proofs.lemmas.Option.{none-some, same_Some, slice_get_within, get_or_from_slice_get}
-use Rattle.tm_terms.specs.declared.refusals.Limit.TheVariants as Limits
-use Rattle.tm_typed.specs.declared.scopes.ObjectNumber.{ObjectNumber}
-use Rattle.tm_typed.specs.declared.scopes.ObjectNumber.TheVariants as Objects
-use Rattle.tm_typed.specs.declared.files.LocalEntry.{LocalEntry}
-use Rattle.tm_typed.specs.Functions.{TypedBodyTree}
-use Rattle.tm_typed.specs.Files.{TypedFileTree}
-use Rattle.tm_typed.specs.WellTyped.{HasPart}
-use Rattle.tm_laid.specs.declared.objects.DeclaredObject.{DeclaredObject}
-use Rattle.tm_laid.specs.declared.objects.LaidObject.{LaidObject}
-use Rattle.tm_laid.specs.declared.cells.LaidCell.{LaidCell}
-use Rattle.tm_laid.specs.Paths.{locals_in, locals_of, paths_of}
-use Rattle.tm_laid.specs.Layable.{IsLayable, tables_of}
-use Rattle.tm_laid.specs.Layouts.{LaidTree, declared_objects, layout_along, path_at, object_at, no_object, object_of}
-use Rattle.tm_laid.specs.Layouts.{is_alive_by, stands_at, scalars_of_type, scalars_from, is_exceeded, laid_out}
-use Rattle.cell_types.proofs.Types.{length_of}
-use Rattle.concrete_values.specs.declared.values.Pointer.TheVariants as Pointers
-use Rattle.concrete_values.specs.Pointers.{cells_of_object, size_of, placed, pointer_in, is_object_at}
-use Rattle.typed_file_laws.specs.Lawful.{object_type}
-use Rattle.typed_file_laws.specs.TypedBodies.{file_context}
-use Rattle.typed_file_laws.specs.Sites.{is_defined_object, function_of_file}
-use Rattle.next_action_laws.specs.Actions.{IsBodyPath, MayUse, IsPlace}
-use Rattle.next_action_laws.specs.Laws.{HasLayout}
-use Rattle.next_action_laws.proofs.Answered.{parts_stand, elements_stand}
-use Rattle.next_action_laws.proofs.ObjectPlaces.{laid_at, IsDeclared, local_declared}
-use Rattle.next_action_laws.proofs.PathPlaces.{same_body}
-use Rattle.next_action_laws.proofs.WholeBodies.{local_place, static_place}
+use Rattle.operation_laws.specs.tm_terms.declared.refusals.Limit.TheVariants as Limits
+use Rattle.operation_laws.specs.tm_typed.declared.scopes.ObjectNumber.{ObjectNumber}
+use Rattle.operation_laws.specs.tm_typed.declared.scopes.ObjectNumber.TheVariants as Objects
+use Rattle.operation_laws.specs.tm_typed.declared.files.LocalEntry.{LocalEntry}
+use Rattle.operation_laws.specs.tm_typed.Functions.{TypedBodyTree}
+use Rattle.operation_laws.specs.tm_typed.Files.{TypedFileTree}
+use Rattle.operation_laws.specs.tm_typed.WellTyped.{HasPart}
+use Rattle.operation_laws.specs.tm_laid.declared.objects.DeclaredObject.{DeclaredObject}
+use Rattle.operation_laws.specs.tm_laid.declared.objects.LaidObject.{LaidObject}
+use Rattle.operation_laws.specs.tm_laid.declared.cells.LaidCell.{LaidCell}
+use Rattle.operation_laws.specs.tm_laid.Paths.{locals_in, locals_of, paths_of}
+use Rattle.operation_laws.specs.tm_laid.Layable.{IsLayable, tables_of}
+use Rattle.operation_laws.specs.tm_laid.Layouts.{LaidTree, declared_objects, layout_along, path_at, object_at}
+use Rattle.operation_laws.specs.tm_laid.Layouts.{no_object, object_of}
+use Rattle.operation_laws.specs.tm_laid.Layouts.{is_alive_by, stands_at, scalars_of_type, scalars_from, is_exceeded}
+use Rattle.operation_laws.specs.tm_laid.Layouts.{laid_out}
+use Rattle.operation_laws.proofs.low.cell_types.Types.{length_of}
+use Rattle.operation_laws.specs.concrete_values.declared.values.Pointer.TheVariants as Pointers
+use Rattle.operation_laws.specs.concrete_values.Pointers.{cells_of_object, size_of, placed, pointer_in, is_object_at}
+use Rattle.operation_laws.specs.typed_file_laws.Lawful.{object_type}
+use Rattle.operation_laws.specs.typed_file_laws.TypedBodies.{file_context}
+use Rattle.operation_laws.specs.typed_file_laws.Sites.{is_defined_object, function_of_file}
+use Rattle.operation_laws.specs.next_action_laws.Actions.{IsBodyPath, MayUse, IsPlace}
+use Rattle.operation_laws.specs.next_action_laws.Laws.{HasLayout}
+use Rattle.operation_laws.proofs.low.next_action_laws.Answered.{parts_stand, elements_stand}
+use Rattle.operation_laws.proofs.low.next_action_laws.ObjectPlaces.{laid_at, IsDeclared, local_declared}
+use Rattle.operation_laws.proofs.low.next_action_laws.PathPlaces.{same_body}
+use Rattle.operation_laws.proofs.low.next_action_laws.WholeBodies.{local_place, static_place}
 use Rattle.sound_addresses.proofs.ExpressionKinds.{IsNamed, IsStage}
 
 -- ## Lengths

@@ -1,19 +1,21 @@
 -- What is built from the plans of statements keeps kinds.
 use Rattle.std.proofs.Common.{◌≡◌, refl, ℕ, suc, List, [], ◌∷◌, ◌++◌, Option, Some, None, slice_get, true}
-use Rattle.tm_laid.specs.Layouts.{LaidTree}
-use Rattle.flow_graph.specs.declared.operations.Test.TheVariants as Tested
-use Rattle.flow_graph.specs.declared.operations.Operation.{Operation}
-use Rattle.flow_graph.specs.declared.operations.Operation.TheVariants as Op
-use Rattle.flow_graph.specs.Operations.{given}
-use Rattle.lowering.specs.Steps.{Steps, Code, Fork, Plan, nothing_more, in_turn, all_steps, one_of}
-use Rattle.lowering.specs.Steps.{loop_while, loop_stepping, loop_until, select, break_off, go_on, give_back, Parts}
-use Rattle.lowering.specs.Steps.{no_parts, labelled, by_default, and_plan}
-use Rattle.lowering.specs.Built.{Building, place, branch, goto, meet, nowhere, temp_of, Sites, AfterPart}
-use Rattle.lowering.specs.Built.{Forked, Entered, Labels, Passed, steps_piece, code_piece, fork_piece}
-use Rattle.lowering.specs.Built.{is_break, is_continue, nodes_by, Onward, ToHead, Later, continued_at}
-use Rattle.lowering.specs.Built.{place_result, result_of, tests_piece, unless_default, first_of, behind_first, entered}
-use Rattle.lowering.specs.Built.{given_back, plan_piece, parts_piece}
-use Rattle.tm_terms.specs.declared.places.Place.{Place}
+use Rattle.operation_laws.specs.tm_laid.Layouts.{LaidTree}
+use Rattle.operation_laws.specs.flow_graph.declared.operations.Test.TheVariants as Tested
+use Rattle.operation_laws.specs.flow_graph.declared.operations.Operation.{Operation}
+use Rattle.operation_laws.specs.flow_graph.declared.operations.Operation.TheVariants as Op
+use Rattle.operation_laws.specs.flow_graph.Operations.{given}
+use Rattle.operation_laws.specs.lowering.Steps.{Steps, Code, Fork, Plan, nothing_more, in_turn, all_steps, one_of}
+use Rattle.operation_laws.specs.lowering.Steps.{loop_while, loop_stepping, loop_until, select, break_off, go_on}
+use Rattle.operation_laws.specs.lowering.Steps.{give_back, Parts}
+use Rattle.operation_laws.specs.lowering.Steps.{no_parts, labelled, by_default, and_plan}
+use Rattle.operation_laws.specs.lowering.Built.{Building, place, branch, goto, meet, nowhere, temp_of, Sites, AfterPart}
+use Rattle.operation_laws.specs.lowering.Built.{Forked, Entered, Labels, Passed, steps_piece, code_piece, fork_piece}
+use Rattle.operation_laws.specs.lowering.Built.{is_break, is_continue, nodes_by, Onward, ToHead, Later, continued_at}
+use Rattle.operation_laws.specs.lowering.Built.{place_result, result_of, tests_piece, unless_default, first_of}
+use Rattle.operation_laws.specs.lowering.Built.{behind_first, entered}
+use Rattle.operation_laws.specs.lowering.Built.{given_back, plan_piece, parts_piece}
+use Rattle.operation_laws.specs.tm_terms.declared.places.Place.{Place}
 use Rattle.sound_runs.specs.Addresses.{Kind, anything}
 use Rattle.sound_addresses.proofs.Kept.{IsDull}
 use Rattle.sound_addresses.proofs.StepKinds.{MaybeFork, AnySteps, MaybeCode, PlanFits, PartsFit}

@@ -3,30 +3,37 @@ use Rattle.std.proofs.Common.{◌≡◌, refl, ℕ, zero, suc, ◌+◌, ◌≤�
 use Rattle.std.proofs.Common.{Option, Some, None, arith}
 use Rattle.std.specs.Prelude.{All}
 use Rattle.std.proofs.lemmas.List.Elements.{All-head, All-tail}
-use Rattle.tm_terms.specs.declared.places.Place.{Place}
-use Rattle.tm_typed.specs.declared.types.Scalar.{Scalar}
-use Rattle.tm_typed.specs.declared.types.Scalar.TheVariants as Scalars
-use Rattle.tm_typed.specs.declared.scopes.ObjectNumber.TheVariants as Objects
-use Rattle.tm_typed.specs.declared.files.LocalEntry.{LocalEntry}
-use Rattle.tm_typed.specs.TypedTrees.{RvalueTree}
-use Rattle.tm_typed.specs.WellTyped.{a_number, kind_of_scalar, Context}
-use Rattle.tm_typed.specs.TypedStatements.{GivenTree, LocalInitialiserTree, LocalTree, TypedTree, evaluates, declares}
-use Rattle.tm_typed.specs.TypedStatements.{runs_block, branches, branches_else, loops_while, loops_do, loops_for}
-use Rattle.tm_typed.specs.TypedStatements.{selects, breaks, continues, returns, locks, unlocks, yields, TypedTrees}
-use Rattle.tm_typed.specs.TypedStatements.{no_statements, and_statement, a_label, a_default_label, a_labelled_step}
-use Rattle.tm_typed.specs.TypedStatements.{TypedCase, TypedCases, no_typed_cases, and_typed_case}
-use Rattle.tm_laid.specs.Layouts.{LaidTree, object_at, object_of, scalars_of_type, scalars_from}
-use Rattle.concrete_steps.specs.NextAction.{scalar_at, is_given, rest_of}
-use Rattle.typed_file_laws.specs.Bodies.{IsAnyRvalue, IsTest, IfGiven, IsGivenCell, AreGivenBy, IsLocal, IsReturned}
-use Rattle.typed_file_laws.specs.Bodies.{IsStatement, AreStatements, AreParts, IsPart}
-use Rattle.typed_file_laws.specs.Mentions.{Mentions, MayMention, GivenMention, StatementMentions, StatementsMention}
-use Rattle.typed_file_laws.specs.Mentions.{CasesMention, CaseMentions}
-use Rattle.lowering.specs.Steps.{Steps, Code, Parts}
-use Rattle.lowering.specs.Table.{nothing_stored, cell_value, cell_code, is_alone, cells_stored, initialised}
-use Rattle.lowering.specs.Table.{locals_steps, effect_steps, optional_fork, optional_code, plan, plans}
-use Rattle.lowering.specs.Table.{part_then, parts}
-use Rattle.next_action_laws.specs.Actions.{IsPlace}
-use Rattle.next_action_laws.proofs.TypePlaces.{begins_length}
+use Rattle.operation_laws.specs.tm_terms.declared.places.Place.{Place}
+use Rattle.operation_laws.specs.tm_typed.declared.types.Scalar.{Scalar}
+use Rattle.operation_laws.specs.tm_typed.declared.types.Scalar.TheVariants as Scalars
+use Rattle.operation_laws.specs.tm_typed.declared.scopes.ObjectNumber.TheVariants as Objects
+use Rattle.operation_laws.specs.tm_typed.declared.files.LocalEntry.{LocalEntry}
+use Rattle.operation_laws.specs.tm_typed.TypedTrees.{RvalueTree}
+use Rattle.operation_laws.specs.tm_typed.WellTyped.{a_number, kind_of_scalar, Context}
+use Rattle.operation_laws.specs.tm_typed.TypedStatements.{GivenTree, LocalInitialiserTree, LocalTree, TypedTree}
+use Rattle.operation_laws.specs.tm_typed.TypedStatements.{evaluates, declares}
+use Rattle.operation_laws.specs.tm_typed.TypedStatements.{runs_block, branches, branches_else, loops_while, loops_do}
+use Rattle.operation_laws.specs.tm_typed.TypedStatements.{loops_for}
+use Rattle.operation_laws.specs.tm_typed.TypedStatements.{selects, breaks, continues, returns, locks, unlocks, yields}
+use Rattle.operation_laws.specs.tm_typed.TypedStatements.{TypedTrees}
+use Rattle.operation_laws.specs.tm_typed.TypedStatements.{no_statements, and_statement, a_label, a_default_label}
+use Rattle.operation_laws.specs.tm_typed.TypedStatements.{a_labelled_step}
+use Rattle.operation_laws.specs.tm_typed.TypedStatements.{TypedCase, TypedCases, no_typed_cases, and_typed_case}
+use Rattle.operation_laws.specs.tm_laid.Layouts.{LaidTree, object_at, object_of, scalars_of_type, scalars_from}
+use Rattle.operation_laws.specs.concrete_steps.NextAction.{scalar_at, is_given, rest_of}
+use Rattle.operation_laws.specs.typed_file_laws.Bodies.{IsAnyRvalue, IsTest, IfGiven, IsGivenCell, AreGivenBy, IsLocal}
+use Rattle.operation_laws.specs.typed_file_laws.Bodies.{IsReturned}
+use Rattle.operation_laws.specs.typed_file_laws.Bodies.{IsStatement, AreStatements, AreParts, IsPart}
+use Rattle.operation_laws.specs.typed_file_laws.Mentions.{Mentions, MayMention, GivenMention, StatementMentions}
+use Rattle.operation_laws.specs.typed_file_laws.Mentions.{StatementsMention}
+use Rattle.operation_laws.specs.typed_file_laws.Mentions.{CasesMention, CaseMentions}
+use Rattle.operation_laws.specs.lowering.Steps.{Steps, Code, Parts}
+use Rattle.operation_laws.specs.lowering.Table.{nothing_stored, cell_value, cell_code, is_alone, cells_stored}
+use Rattle.operation_laws.specs.lowering.Table.{initialised}
+use Rattle.operation_laws.specs.lowering.Table.{locals_steps, effect_steps, optional_fork, optional_code, plan, plans}
+use Rattle.operation_laws.specs.lowering.Table.{part_then, parts}
+use Rattle.operation_laws.specs.next_action_laws.Actions.{IsPlace}
+use Rattle.operation_laws.proofs.low.next_action_laws.TypePlaces.{begins_length}
 use Rattle.sound_runs.specs.Addresses.{address_of, anything}
 use Rattle.sound_addresses.proofs.Kept.{base_keeps, offset_keeps}
 use Rattle.sound_addresses.proofs.StepKinds.{StepsFit, CodeFits, MaybeFork, AnySteps, MaybeCode, PlanFits, PartsFit}

@@ -2,17 +2,21 @@
 use Rattle.std.proofs.Common.{◌≡◌, refl, sym, ap, ◌∙◌, ℕ, List, [], ◌∷◌, ◌++◌, true, false, Option, Some, None}
 use Rattle.std.proofs.Common.{slice_get}
 use Rattle.std.proofs.lemmas.Option.{same_Some}
-use Rattle.tm_laid.specs.Layouts.{LaidTree}
-use Rattle.flow_graph.specs.declared.operations.Operation.{Operation}
-use Rattle.flow_graph.specs.declared.operations.Operation.TheVariants as Op
-use Rattle.flow_graph.specs.Operations.{given}
-use Rattle.lowering.specs.Steps.{Steps, no_more, first_then, Step, operate, value_of, only_do, truth_of, choose}
-use Rattle.lowering.specs.Steps.{choose_only, call_of, Inputs, no_inputs, and_input, Code, code, Fork, fork_by}
-use Rattle.lowering.specs.Steps.{converse, both_of, either_of, Plan, nothing_more, in_turn, all_steps, one_of}
-use Rattle.lowering.specs.Steps.{loop_while, loop_stepping, loop_until, select, break_off, go_on, give_back, Parts}
-use Rattle.lowering.specs.Steps.{no_parts, labelled, by_default, and_plan}
-use Rattle.lowering.specs.Table.{Conversion, convert_then}
-use Rattle.lowering.specs.Built.{renamed}
+use Rattle.operation_laws.specs.tm_laid.Layouts.{LaidTree}
+use Rattle.operation_laws.specs.flow_graph.declared.operations.Operation.{Operation}
+use Rattle.operation_laws.specs.flow_graph.declared.operations.Operation.TheVariants as Op
+use Rattle.operation_laws.specs.flow_graph.Operations.{given}
+use Rattle.operation_laws.specs.lowering.Steps.{Steps, no_more, first_then, Step, operate, value_of, only_do, truth_of}
+use Rattle.operation_laws.specs.lowering.Steps.{choose}
+use Rattle.operation_laws.specs.lowering.Steps.{choose_only, call_of, Inputs, no_inputs, and_input, Code, code, Fork}
+use Rattle.operation_laws.specs.lowering.Steps.{fork_by}
+use Rattle.operation_laws.specs.lowering.Steps.{converse, both_of, either_of, Plan, nothing_more, in_turn, all_steps}
+use Rattle.operation_laws.specs.lowering.Steps.{one_of}
+use Rattle.operation_laws.specs.lowering.Steps.{loop_while, loop_stepping, loop_until, select, break_off, go_on}
+use Rattle.operation_laws.specs.lowering.Steps.{give_back, Parts}
+use Rattle.operation_laws.specs.lowering.Steps.{no_parts, labelled, by_default, and_plan}
+use Rattle.operation_laws.specs.lowering.Table.{Conversion, convert_then}
+use Rattle.operation_laws.specs.lowering.Built.{renamed}
 use Rattle.operation_laws.proofs.Within.{renamed_to, given_renamed}
 use Rattle.sound_runs.specs.Addresses.{Kind, address_of, anything, KeepsKinds}
 use Rattle.sound_addresses.proofs.Kept.{IsDull, dull_keeps}

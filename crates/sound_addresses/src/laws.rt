@@ -1,9 +1,9 @@
 //! The law of addresses, the contract of a function that does nothing.
 ghost use Rattle.std.specs.Prelude.{ℕ, ◌<◌, ◌≤◌, ◌^◌, length};
-ghost use Rattle.tm_laid.specs.Layouts.{LaidTree};
-ghost use Rattle.lowering.specs.Built.{graph_of};
-ghost use Rattle.lowering_laws.specs.LaidFiles.{IsLaidFile};
-ghost use Rattle.program_equations.specs.Readings.{read_layout};
+ghost use Rattle.operation_laws.specs.tm_laid.Layouts.{LaidTree};
+ghost use Rattle.operation_laws.specs.lowering.Built.{graph_of};
+ghost use Rattle.operation_laws.specs.lowering_laws.LaidFiles.{IsLaidFile};
+ghost use Rattle.sound_runs.specs.program_equations.Readings.{read_layout};
 ghost use Rattle.sound_runs.specs.Sources.{KeepsAddresses};
 ghost use Rattle.sound_runs.specs.Addresses.{HasKinds};
 

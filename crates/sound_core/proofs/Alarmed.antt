@@ -1,24 +1,25 @@
 -- Every error of a run is an alarm of every solution.
 use Rattle.std.proofs.Common.{◌≡◌, refl, sym, ap, subst, ℕ, ◌≤◌, ◌^◌, List, length, Option, Some, None}
 use Rattle.std.proofs.Common.{arith}
-use Rattle.tm_cint.specs.declared.Class.{Class}
-use Rattle.tm_cint.specs.declared.Class.TheVariants.{Race}
-use Rattle.tm_terms.specs.declared.places.Place.{Place}
-use Rattle.tm_laid.specs.Layouts.{LaidTree}
-use Rattle.tm_laid.specs.Paths.{listed}
-use Rattle.concrete_steps.specs.Occurring.{Occurs}
-use Rattle.interfere_set.specs.Stores.{Interferences}
-use Rattle.transfer_rows.specs.StateForms.{State}
-use Rattle.tm_soundness.specs.Section.{IsHandover}
-use Rattle.tm_soundness.specs.Covers.{IsSolution}
-use Rattle.tm_soundness.specs.Tables.{Tables}
-use Rattle.program_equations.specs.Programs.{ProgramBodies, body_at, HasSection, IsProgram}
-use Rattle.program_equations.specs.Solutions.{tables_of as lists_of, IsPair}
-use Rattle.program_reports.specs.Reports.{IsAlarm}
-use Rattle.sound_runs.specs.Images.{IsListedAt, in_section, in_tasks, in_race, IsListedBy, by_task, by_race}
-use Rattle.sound_runs.specs.Programs.{HasGraphs, first_temps, first_memory, shape_in, section_in}
-use Rattle.sound_runs.proofs.Starts.{bodies_counted}
-use Rattle.sound_runs.proofs.Programs.{listed_in, plainly_listed_in}
+use Rattle.sound_tables.specs.tm_cint.declared.Class.{Class}
+use Rattle.sound_tables.specs.tm_cint.declared.Class.TheVariants.{Race}
+use Rattle.sound_tables.specs.tm_terms.declared.places.Place.{Place}
+use Rattle.sound_tables.specs.tm_laid.Layouts.{LaidTree}
+use Rattle.sound_tables.specs.tm_laid.Paths.{listed}
+use Rattle.sound_tables.specs.concrete_steps.Occurring.{Occurs}
+use Rattle.sound_tables.specs.interfere_set.Stores.{Interferences}
+use Rattle.sound_tables.specs.transfer_rows.StateForms.{State}
+use Rattle.sound_tables.specs.tm_soundness.Section.{IsHandover}
+use Rattle.sound_tables.specs.tm_soundness.Covers.{IsSolution}
+use Rattle.sound_tables.specs.tm_soundness.Tables.{Tables}
+use Rattle.sound_tables.specs.program_equations.Programs.{ProgramBodies, body_at, HasSection, IsProgram}
+use Rattle.sound_tables.specs.program_equations.Solutions.{tables_of as lists_of, IsPair}
+use Rattle.sound_tables.specs.program_reports.Reports.{IsAlarm}
+use Rattle.sound_addresses.specs.sound_runs.Images.{IsListedAt, in_section, in_tasks, in_race, IsListedBy, by_task}
+use Rattle.sound_addresses.specs.sound_runs.Images.{by_race}
+use Rattle.sound_addresses.specs.sound_runs.Programs.{HasGraphs, first_temps, first_memory, shape_in, section_in}
+use Rattle.sound_addresses.proofs.low.sound_runs.Starts.{bodies_counted}
+use Rattle.sound_addresses.proofs.low.sound_runs.Programs.{listed_in, plainly_listed_in}
 use Rattle.sound_tables.specs.Programs.{parts_of}
 use Rattle.sound_tables.specs.Premises.{LaysCells}
 use Rattle.sound_tables.specs.Starting.{IsStartMemory}

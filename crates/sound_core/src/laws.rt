@@ -1,15 +1,15 @@
 //! The law of the report.
 ghost use Rattle.std.specs.Prelude.{ℕ, ◌<◌, ◌≤◌, ◌^◌, List, length, Option};
-ghost use Rattle.tm_cint.specs.declared.Class.{Class};
-ghost use Rattle.tm_terms.specs.declared.places.Place.{Place};
-ghost use Rattle.tm_laid.specs.Layouts.{LaidTree};
-ghost use Rattle.concrete_steps.specs.Occurring.{Occurs};
-ghost use Rattle.interfere_set.specs.Stores.{Interferences};
-ghost use Rattle.transfer_rows.specs.StateForms.{State};
-ghost use Rattle.program_equations.specs.Programs.{ProgramBodies, IsProgram};
-ghost use Rattle.program_equations.specs.Solutions.{tables_of, IsPair};
-ghost use Rattle.program_reports.specs.Reports.{IsAlarm};
-ghost use Rattle.sound_runs.specs.Programs.{first_memory};
+ghost use Rattle.sound_tables.specs.tm_cint.declared.Class.{Class};
+ghost use Rattle.sound_tables.specs.tm_terms.declared.places.Place.{Place};
+ghost use Rattle.sound_tables.specs.tm_laid.Layouts.{LaidTree};
+ghost use Rattle.sound_tables.specs.concrete_steps.Occurring.{Occurs};
+ghost use Rattle.sound_tables.specs.interfere_set.Stores.{Interferences};
+ghost use Rattle.sound_tables.specs.transfer_rows.StateForms.{State};
+ghost use Rattle.sound_tables.specs.program_equations.Programs.{ProgramBodies, IsProgram};
+ghost use Rattle.sound_tables.specs.program_equations.Solutions.{tables_of, IsPair};
+ghost use Rattle.sound_tables.specs.program_reports.Reports.{IsAlarm};
+ghost use Rattle.sound_addresses.specs.sound_runs.Programs.{first_memory};
 ghost use Rattle.sound_tables.specs.Premises.{LaysCells, IsGraphOf};
 ghost use Rattle.sound_tables.specs.Starting.{IsStartMemory};
 ghost use Rattle.sound_core.specs.Sound.{IsProgramFrom};

@@ -6,44 +6,54 @@ use Rattle.std.proofs.lemmas.Bool.{cases_lt}
 use Rattle.std.proofs.lemmas.Option.{none-some, slice_get_within}
 use Rattle.std.proofs.lemmas.List.{get_or_past}
 use Rattle.std.proofs.lemmas.List.Elements.{All-get_or}
-use Rattle.tm_terms.specs.declared.places.Place.{Place}
-use Rattle.tm_typed.specs.declared.types.CType.{CType}
-use Rattle.tm_typed.specs.declared.types.CType.TheVariants as Types
-use Rattle.tm_typed.specs.declared.scopes.ObjectNumber.TheVariants.{Local}
-use Rattle.tm_typed.specs.declared.files.LocalEntry.{LocalEntry}
-use Rattle.tm_typed.specs.CallGraph.{calls_in}
-use Rattle.tm_typed.specs.Functions.{TypedBodyTree}
-use Rattle.tm_typed.specs.Files.{TypedFunctionTree, no_typed_function}
-use Rattle.tm_laid.specs.Paths.{locals_in, locals_of}
-use Rattle.tm_laid.specs.Layouts.{LaidTree, first_path, callee, object_of, path_at}
-use Rattle.concrete_values.specs.Values.{truth_value}
-use Rattle.concrete_steps.specs.Places.{result_type}
-use Rattle.concrete_steps.specs.NextAction.{function_at}
-use Rattle.flow_graph.specs.declared.graphs.Edge.{Edge}
-use Rattle.flow_graph.specs.declared.operations.Operation.{Operation}
-use Rattle.flow_graph.specs.declared.operations.Operation.TheVariants as Op
-use Rattle.flow_graph.specs.declared.operations.Test.TheVariants as Tests
-use Rattle.flow_graph.specs.Operations.{given}
-use Rattle.flow_graph.specs.Graphs.{Edges, Among}
-use Rattle.lowering.specs.Steps.{Steps, no_more, first_then, Step, operate, value_of, only_do, truth_of, choose}
-use Rattle.lowering.specs.Steps.{choose_only, call_of, Inputs, no_inputs, and_input, Code, code, Fork, fork_by}
-use Rattle.lowering.specs.Steps.{converse}
-use Rattle.lowering.specs.Steps.{both_of, either_of, Plan, nothing_more, in_turn, all_steps, one_of, loop_while}
-use Rattle.lowering.specs.Steps.{loop_stepping, loop_until, select, break_off, go_on, give_back, Parts, no_parts}
-use Rattle.lowering.specs.Steps.{labelled, by_default, and_plan}
-use Rattle.lowering.specs.Table.{plans}
-use Rattle.lowering.specs.Built.{edge, at, renamed, Building, place_with, place, place_new, branch, goto, skips, meet}
-use Rattle.lowering.specs.Built.{nowhere, close_loop, temp_of, operated, copied, copied_to, Sites, call_given}
-use Rattle.lowering.specs.Built.{steps_piece, step_piece, inputs_piece, code_piece, fork_piece, is_break, is_continue}
-use Rattle.lowering.specs.Built.{is_return, nodes_by, Onward, ToHead, Later, continued_at, place_result, tests_piece}
-use Rattle.lowering.specs.Built.{unless_default, first_of, behind_first, entered, given_back, plan_piece, parts_piece}
-use Rattle.lowering.specs.Built.{stores_piece, fallen_piece, function_end, task_end, function_piece, sites_of}
-use Rattle.lowering.specs.Built.{path_piece}
-use Rattle.lowering.specs.Built.{entry, AfterPart, graph_of}
-use Rattle.typed_file_laws.specs.TypedBodies.{file_context, IsBodyOf}
-use Rattle.typed_file_laws.specs.Mentions.{StatementsMention}
-use Rattle.typed_file_laws.specs.Sites.{is_defined_object, function_of_file}
-use Rattle.next_action_laws.specs.Actions.{IsBodyPath, IsOwn}
+use Rattle.operation_laws.specs.tm_terms.declared.places.Place.{Place}
+use Rattle.operation_laws.specs.tm_typed.declared.types.CType.{CType}
+use Rattle.operation_laws.specs.tm_typed.declared.types.CType.TheVariants as Types
+use Rattle.operation_laws.specs.tm_typed.declared.scopes.ObjectNumber.TheVariants.{Local}
+use Rattle.operation_laws.specs.tm_typed.declared.files.LocalEntry.{LocalEntry}
+use Rattle.operation_laws.specs.tm_typed.CallGraph.{calls_in}
+use Rattle.operation_laws.specs.tm_typed.Functions.{TypedBodyTree}
+use Rattle.operation_laws.specs.tm_typed.Files.{TypedFunctionTree, no_typed_function}
+use Rattle.operation_laws.specs.tm_laid.Paths.{locals_in, locals_of}
+use Rattle.operation_laws.specs.tm_laid.Layouts.{LaidTree, first_path, callee, object_of, path_at}
+use Rattle.operation_laws.specs.concrete_values.Values.{truth_value}
+use Rattle.operation_laws.specs.concrete_steps.Places.{result_type}
+use Rattle.operation_laws.specs.concrete_steps.NextAction.{function_at}
+use Rattle.operation_laws.specs.flow_graph.declared.graphs.Edge.{Edge}
+use Rattle.operation_laws.specs.flow_graph.declared.operations.Operation.{Operation}
+use Rattle.operation_laws.specs.flow_graph.declared.operations.Operation.TheVariants as Op
+use Rattle.operation_laws.specs.flow_graph.declared.operations.Test.TheVariants as Tests
+use Rattle.operation_laws.specs.flow_graph.Operations.{given}
+use Rattle.operation_laws.specs.flow_graph.Graphs.{Edges, Among}
+use Rattle.operation_laws.specs.lowering.Steps.{Steps, no_more, first_then, Step, operate, value_of, only_do, truth_of}
+use Rattle.operation_laws.specs.lowering.Steps.{choose}
+use Rattle.operation_laws.specs.lowering.Steps.{choose_only, call_of, Inputs, no_inputs, and_input, Code, code, Fork}
+use Rattle.operation_laws.specs.lowering.Steps.{fork_by}
+use Rattle.operation_laws.specs.lowering.Steps.{converse}
+use Rattle.operation_laws.specs.lowering.Steps.{both_of, either_of, Plan, nothing_more, in_turn, all_steps, one_of}
+use Rattle.operation_laws.specs.lowering.Steps.{loop_while}
+use Rattle.operation_laws.specs.lowering.Steps.{loop_stepping, loop_until, select, break_off, go_on, give_back, Parts}
+use Rattle.operation_laws.specs.lowering.Steps.{no_parts}
+use Rattle.operation_laws.specs.lowering.Steps.{labelled, by_default, and_plan}
+use Rattle.operation_laws.specs.lowering.Table.{plans}
+use Rattle.operation_laws.specs.lowering.Built.{edge, at, renamed, Building, place_with, place, place_new, branch, goto}
+use Rattle.operation_laws.specs.lowering.Built.{skips, meet}
+use Rattle.operation_laws.specs.lowering.Built.{nowhere, close_loop, temp_of, operated, copied, copied_to, Sites}
+use Rattle.operation_laws.specs.lowering.Built.{call_given}
+use Rattle.operation_laws.specs.lowering.Built.{steps_piece, step_piece, inputs_piece, code_piece, fork_piece, is_break}
+use Rattle.operation_laws.specs.lowering.Built.{is_continue}
+use Rattle.operation_laws.specs.lowering.Built.{is_return, nodes_by, Onward, ToHead, Later, continued_at, place_result}
+use Rattle.operation_laws.specs.lowering.Built.{tests_piece}
+use Rattle.operation_laws.specs.lowering.Built.{unless_default, first_of, behind_first, entered, given_back, plan_piece}
+use Rattle.operation_laws.specs.lowering.Built.{parts_piece}
+use Rattle.operation_laws.specs.lowering.Built.{stores_piece, fallen_piece, function_end, task_end, function_piece}
+use Rattle.operation_laws.specs.lowering.Built.{sites_of}
+use Rattle.operation_laws.specs.lowering.Built.{path_piece}
+use Rattle.operation_laws.specs.lowering.Built.{entry, AfterPart, graph_of}
+use Rattle.operation_laws.specs.typed_file_laws.TypedBodies.{file_context, IsBodyOf}
+use Rattle.operation_laws.specs.typed_file_laws.Mentions.{StatementsMention}
+use Rattle.operation_laws.specs.typed_file_laws.Sites.{is_defined_object, function_of_file}
+use Rattle.operation_laws.specs.next_action_laws.Actions.{IsBodyPath, IsOwn}
 use Rattle.sound_foundations.specs.Working.{StatementsWork}
 use Rattle.sound_foundations.proofs.FittingSteps.{OpFits, StepsFit, StepFits, InputsFit, CodeFits, ForkFits, MaybeFork}
 use Rattle.sound_foundations.proofs.FittingSteps.{MaybeCode, PlanFits, PartsFit, plans_fit}

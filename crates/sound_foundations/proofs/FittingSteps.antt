@@ -3,41 +3,55 @@
 use Rattle.std.proofs.Common.{◌≡◌, ℕ, zero, suc, Bool, true, false, List, [], ◌∷◌}
 use Rattle.std.specs.Prelude.{if◌then◌else◌, All, slice_get, Option, Some, None}
 use Rattle.std.proofs.lemmas.List.Elements.{All-nil, All-cons, All-head, All-tail}
-use Rattle.tm_cint.specs.declared.int_types.IntType.{IntType}
-use Rattle.tm_cint.specs.declared.operators.BinOp.{BinOp}
-use Rattle.tm_terms.specs.declared.places.Place.{Place}
-use Rattle.tm_typed.specs.declared.types.Scalar.{Scalar}
-use Rattle.tm_typed.specs.declared.types.Scalar.TheVariants as Scalars
-use Rattle.tm_typed.specs.declared.scopes.ObjectNumber.TheVariants.{Local}
-use Rattle.tm_typed.specs.TypedTrees.{RvalueTree, a_constant, a_folded, a_null, a_load, an_address, a_structure}
-use Rattle.tm_typed.specs.TypedTrees.{the_same, a_unary, a_binary, a_comparison_of_pointers, a_move, a_not, an_and}
-use Rattle.tm_typed.specs.TypedTrees.{an_or, a_choice, an_assignment, a_compound, a_compound_move, a_unit_step}
-use Rattle.tm_typed.specs.TypedTrees.{a_pointer_step, a_function_call, an_input_value, a_probe, a_comma, a_conversion}
-use Rattle.tm_typed.specs.TypedTrees.{a_discard, LvalueTree, an_object, an_element, a_pointed_element, a_pointed}
-use Rattle.tm_typed.specs.TypedTrees.{an_arrow, a_part, RvalueTrees, no_rvalues, and_rvalue, lvalue_place}
-use Rattle.tm_typed.specs.TypedStatements.{GivenTree, LocalInitialiserTree, LocalTree, TypedTree, evaluates, declares}
-use Rattle.tm_typed.specs.TypedStatements.{runs_block, branches, branches_else, loops_while, loops_do, loops_for}
-use Rattle.tm_typed.specs.TypedStatements.{selects, breaks, continues, returns, locks, unlocks, yields, TypedTrees}
-use Rattle.tm_typed.specs.TypedStatements.{no_statements, and_statement, a_label, a_default_label}
-use Rattle.tm_typed.specs.TypedStatements.{a_labelled_step, TypedCases, no_typed_cases, and_typed_case}
-use Rattle.tm_typed.specs.Rules.{is_comparison}
-use Rattle.tm_typed.specs.WellTyped.{Context}
-use Rattle.tm_laid.specs.Layouts.{LaidTree, object_of, object_at}
-use Rattle.concrete_steps.specs.Places.{rvalue_place, is_pointer_scalar, gives_pointer}
-use Rattle.concrete_steps.specs.NextAction.{scalar_at, is_given, rest_of}
-use Rattle.flow_graph.specs.declared.operations.Into.{Into}
-use Rattle.flow_graph.specs.declared.operations.Operation.{Operation}
-use Rattle.flow_graph.specs.declared.operations.Operation.TheVariants as Op
-use Rattle.lowering.specs.Steps.{Steps, no_more, first_then, Step, operate, value_of, only_do, truth_of, choose}
-use Rattle.lowering.specs.Steps.{choose_only, call_of, Inputs, no_inputs, and_input, Code, code, Fork, fork_by}
-use Rattle.lowering.specs.Steps.{converse}
-use Rattle.lowering.specs.Steps.{both_of, either_of, Plan, nothing_more, in_turn, all_steps, one_of, loop_while}
-use Rattle.lowering.specs.Steps.{loop_stepping, loop_until, select, break_off, go_on, give_back, Parts, no_parts}
-use Rattle.lowering.specs.Steps.{labelled, by_default, and_plan}
-use Rattle.lowering.specs.Table as Table
-use Rattle.typed_file_laws.specs.Bodies as Typed
-use Rattle.typed_file_laws.specs.Mentions.{Mentions, LvalueMentions, AllMention, MayMention, GivenMention}
-use Rattle.typed_file_laws.specs.Mentions.{StatementMentions, StatementsMention, CasesMention}
+use Rattle.operation_laws.specs.tm_cint.declared.int_types.IntType.{IntType}
+use Rattle.operation_laws.specs.tm_cint.declared.operators.BinOp.{BinOp}
+use Rattle.operation_laws.specs.tm_terms.declared.places.Place.{Place}
+use Rattle.operation_laws.specs.tm_typed.declared.types.Scalar.{Scalar}
+use Rattle.operation_laws.specs.tm_typed.declared.types.Scalar.TheVariants as Scalars
+use Rattle.operation_laws.specs.tm_typed.declared.scopes.ObjectNumber.TheVariants.{Local}
+use Rattle.operation_laws.specs.tm_typed.TypedTrees.{RvalueTree, a_constant, a_folded, a_null, a_load, an_address}
+use Rattle.operation_laws.specs.tm_typed.TypedTrees.{a_structure}
+use Rattle.operation_laws.specs.tm_typed.TypedTrees.{the_same, a_unary, a_binary, a_comparison_of_pointers, a_move}
+use Rattle.operation_laws.specs.tm_typed.TypedTrees.{a_not, an_and}
+use Rattle.operation_laws.specs.tm_typed.TypedTrees.{an_or, a_choice, an_assignment, a_compound, a_compound_move}
+use Rattle.operation_laws.specs.tm_typed.TypedTrees.{a_unit_step}
+use Rattle.operation_laws.specs.tm_typed.TypedTrees.{a_pointer_step, a_function_call, an_input_value, a_probe, a_comma}
+use Rattle.operation_laws.specs.tm_typed.TypedTrees.{a_conversion}
+use Rattle.operation_laws.specs.tm_typed.TypedTrees.{a_discard, LvalueTree, an_object, an_element, a_pointed_element}
+use Rattle.operation_laws.specs.tm_typed.TypedTrees.{a_pointed}
+use Rattle.operation_laws.specs.tm_typed.TypedTrees.{an_arrow, a_part, RvalueTrees, no_rvalues, and_rvalue}
+use Rattle.operation_laws.specs.tm_typed.TypedTrees.{lvalue_place}
+use Rattle.operation_laws.specs.tm_typed.TypedStatements.{GivenTree, LocalInitialiserTree, LocalTree, TypedTree}
+use Rattle.operation_laws.specs.tm_typed.TypedStatements.{evaluates, declares}
+use Rattle.operation_laws.specs.tm_typed.TypedStatements.{runs_block, branches, branches_else, loops_while, loops_do}
+use Rattle.operation_laws.specs.tm_typed.TypedStatements.{loops_for}
+use Rattle.operation_laws.specs.tm_typed.TypedStatements.{selects, breaks, continues, returns, locks, unlocks, yields}
+use Rattle.operation_laws.specs.tm_typed.TypedStatements.{TypedTrees}
+use Rattle.operation_laws.specs.tm_typed.TypedStatements.{no_statements, and_statement, a_label, a_default_label}
+use Rattle.operation_laws.specs.tm_typed.TypedStatements.{a_labelled_step, TypedCases, no_typed_cases, and_typed_case}
+use Rattle.operation_laws.specs.tm_typed.Rules.{is_comparison}
+use Rattle.operation_laws.specs.tm_typed.WellTyped.{Context}
+use Rattle.operation_laws.specs.tm_laid.Layouts.{LaidTree, object_of, object_at}
+use Rattle.operation_laws.specs.concrete_steps.Places.{rvalue_place, is_pointer_scalar, gives_pointer}
+use Rattle.operation_laws.specs.concrete_steps.NextAction.{scalar_at, is_given, rest_of}
+use Rattle.operation_laws.specs.flow_graph.declared.operations.Into.{Into}
+use Rattle.operation_laws.specs.flow_graph.declared.operations.Operation.{Operation}
+use Rattle.operation_laws.specs.flow_graph.declared.operations.Operation.TheVariants as Op
+use Rattle.operation_laws.specs.lowering.Steps.{Steps, no_more, first_then, Step, operate, value_of, only_do, truth_of}
+use Rattle.operation_laws.specs.lowering.Steps.{choose}
+use Rattle.operation_laws.specs.lowering.Steps.{choose_only, call_of, Inputs, no_inputs, and_input, Code, code, Fork}
+use Rattle.operation_laws.specs.lowering.Steps.{fork_by}
+use Rattle.operation_laws.specs.lowering.Steps.{converse}
+use Rattle.operation_laws.specs.lowering.Steps.{both_of, either_of, Plan, nothing_more, in_turn, all_steps, one_of}
+use Rattle.operation_laws.specs.lowering.Steps.{loop_while}
+use Rattle.operation_laws.specs.lowering.Steps.{loop_stepping, loop_until, select, break_off, go_on, give_back, Parts}
+use Rattle.operation_laws.specs.lowering.Steps.{no_parts}
+use Rattle.operation_laws.specs.lowering.Steps.{labelled, by_default, and_plan}
+use Rattle.operation_laws.specs.lowering.Table as Table
+use Rattle.operation_laws.specs.typed_file_laws.Bodies as Typed
+use Rattle.operation_laws.specs.typed_file_laws.Mentions.{Mentions, LvalueMentions, AllMention, MayMention}
+use Rattle.operation_laws.specs.typed_file_laws.Mentions.{GivenMention}
+use Rattle.operation_laws.specs.typed_file_laws.Mentions.{StatementMentions, StatementsMention, CasesMention}
 use Rattle.sound_foundations.specs.Working.{WorksIn, Works, LvalueWorks, AllWork, MayWork, GivenWork, StatementWorks}
 use Rattle.sound_foundations.specs.Working.{StatementsWork, CasesWork}
 

@@ -1,21 +1,21 @@
 -- The graphs of a file that is typed and laid out are as the soundness of the report asks.
 use Rattle.std.proofs.Common.{◌≡◌, ℕ, ◌<◌, false, List, length, subst, ◌∙◌}
 use Rattle.std.specs.Prelude.{Option, Ok}
-use Rattle.tm_terms.specs.declared.refusals.Limit.TheVariants as Limits
-use Rattle.tm_terms.specs.declared.tokens.Name.{Name}
-use Rattle.tm_trees.specs.FileTrees.{ItemTree}
-use Rattle.tm_typed.specs.Files.{TypedFileTree, IsTyped}
-use Rattle.tm_laid.specs.Layouts.{LaidTree, layout_of, is_exceeded}
-use Rattle.cell_layout.specs.Laws.{GoesOnBy}
-use Rattle.cell_layout.proofs.PathCalls.{calls_lead}
-use Rattle.typed_file_laws.proofs.TypedBodies.{bodies_are_well_formed}
-use Rattle.typed_file_laws.proofs.MentionFiles.{sites_stand}
-use Rattle.lowering_laws.specs.LaidFiles.{IsLaidFile}
-use Rattle.lowering_laws.proofs.Founded.{file_layable}
-use Rattle.lowering_laws.proofs.Lowered.{is_layout}
-use Rattle.next_action_laws.specs.Actions.{IsOwn}
-use Rattle.next_action_laws.proofs.PathPlaces.{first_of}
-use Rattle.next_action_laws.proofs.WholeBodies.{local_place}
+use Rattle.operation_laws.specs.tm_terms.declared.refusals.Limit.TheVariants as Limits
+use Rattle.operation_laws.specs.tm_terms.declared.tokens.Name.{Name}
+use Rattle.operation_laws.specs.tm_trees.FileTrees.{ItemTree}
+use Rattle.operation_laws.specs.tm_typed.Files.{TypedFileTree, IsTyped}
+use Rattle.operation_laws.specs.tm_laid.Layouts.{LaidTree, layout_of, is_exceeded}
+use Rattle.operation_laws.specs.cell_layout.Laws.{GoesOnBy}
+use Rattle.operation_laws.proofs.low.cell_layout.PathCalls.{calls_lead}
+use Rattle.operation_laws.proofs.low.typed_file_laws.TypedBodies.{bodies_are_well_formed}
+use Rattle.operation_laws.proofs.low.typed_file_laws.MentionFiles.{sites_stand}
+use Rattle.operation_laws.specs.lowering_laws.LaidFiles.{IsLaidFile}
+use Rattle.operation_laws.proofs.low.lowering_laws.Founded.{file_layable}
+use Rattle.operation_laws.proofs.low.lowering_laws.Lowered.{is_layout}
+use Rattle.operation_laws.specs.next_action_laws.Actions.{IsOwn}
+use Rattle.operation_laws.proofs.low.next_action_laws.PathPlaces.{first_of}
+use Rattle.operation_laws.proofs.low.next_action_laws.WholeBodies.{local_place}
 use Rattle.operation_laws.proofs.FileSorts.{few_cells}
 use Rattle.sound_foundations.specs.Foundations.{OwnsCleared, ComplementsWork}
 use Rattle.sound_foundations.proofs.WorkingFiles.{bodies_work}

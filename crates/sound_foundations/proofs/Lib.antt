@@ -9,3 +9,4 @@ pub mod FittingSteps
 pub mod FittingGraphs
 pub mod Founded
 pub mod Truths
+pub mod low

@@ -5,25 +5,27 @@ use Rattle.std.specs.Prelude.{◌||◌, take, All}
 use Rattle.std.proofs.lemmas.Bool.{ne_eqb, eq-eqb}
 use Rattle.std.proofs.lemmas.Option.{slice_get_within}
 use Rattle.std.proofs.lemmas.List.Elements.{All-nil, All-cons, All-head, All-tail}
-use Rattle.tm_cint.specs.declared.operators.BinOp.{BinOp}
-use Rattle.tm_cint.specs.declared.operators.BinOp.TheVariants as Bins
-use Rattle.tm_cint.specs.declared.int_types.IntType.{IntType}
-use Rattle.tm_laid.specs.Layouts.{LaidTree}
-use Rattle.flow_graph.specs.declared.operations.Test.{Test}
-use Rattle.flow_graph.specs.declared.operations.Test.TheVariants as Tests
-use Rattle.flow_graph.specs.declared.operations.Operation.{Operation}
-use Rattle.flow_graph.specs.declared.operations.Operation.TheVariants as Op
-use Rattle.flow_graph.specs.declared.graphs.Edge.{Edge}
-use Rattle.flow_graph.specs.Operations.{given}
-use Rattle.flow_graph.specs.Graphs.{Edges, Among}
-use Rattle.temporary_types.specs.Sorts.{Sort, numbers, pointers, Holds, HoldsAny, HoldsNumbers, HoldsRight}
-use Rattle.temporary_types.specs.Sorts.{WorksTest, Works, Gives, GivesTo, FitsSorts, AreSorts, sort_of_scalar}
-use Rattle.temporary_types.specs.PointerMarks.{pointer_marks, IsGivenIn, is_pointers}
-use Rattle.temporary_types.proofs.Telling.{told}
-use Rattle.transfer_rows.specs.Accesses.{is_among}
+use Rattle.operation_laws.specs.tm_cint.declared.operators.BinOp.{BinOp}
+use Rattle.operation_laws.specs.tm_cint.declared.operators.BinOp.TheVariants as Bins
+use Rattle.operation_laws.specs.tm_cint.declared.int_types.IntType.{IntType}
+use Rattle.operation_laws.specs.tm_laid.Layouts.{LaidTree}
+use Rattle.operation_laws.specs.flow_graph.declared.operations.Test.{Test}
+use Rattle.operation_laws.specs.flow_graph.declared.operations.Test.TheVariants as Tests
+use Rattle.operation_laws.specs.flow_graph.declared.operations.Operation.{Operation}
+use Rattle.operation_laws.specs.flow_graph.declared.operations.Operation.TheVariants as Op
+use Rattle.operation_laws.specs.flow_graph.declared.graphs.Edge.{Edge}
+use Rattle.operation_laws.specs.flow_graph.Operations.{given}
+use Rattle.operation_laws.specs.flow_graph.Graphs.{Edges, Among}
+use Rattle.operation_laws.specs.temporary_types.Sorts.{Sort, numbers, pointers, Holds, HoldsAny, HoldsNumbers}
+use Rattle.operation_laws.specs.temporary_types.Sorts.{HoldsRight}
+use Rattle.operation_laws.specs.temporary_types.Sorts.{WorksTest, Works, Gives, GivesTo, FitsSorts, AreSorts}
+use Rattle.operation_laws.specs.temporary_types.Sorts.{sort_of_scalar}
+use Rattle.operation_laws.specs.temporary_types.PointerMarks.{pointer_marks, IsGivenIn, is_pointers}
+use Rattle.operation_laws.proofs.low.temporary_types.Telling.{told}
+use Rattle.program_equations.specs.transfer_rows.Accesses.{is_among}
 use Rattle.program_equations.specs.Programs.{behind_given, temporaries_in, marked_from, pointers_in}
-use Rattle.lowering.specs.Built.{built, graph_of}
-use Rattle.lowering_laws.specs.LaidFiles.{IsLaidFile}
+use Rattle.operation_laws.specs.lowering.Built.{built, graph_of}
+use Rattle.operation_laws.specs.lowering_laws.LaidFiles.{IsLaidFile}
 use Rattle.operation_laws.specs.SortedGraphs.{HasSorts}
 use Rattle.operation_laws.proofs.Following.{Follows}
 use Rattle.operation_laws.proofs.FileSorts.{file_sorts}

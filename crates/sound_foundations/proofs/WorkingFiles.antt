@@ -6,39 +6,40 @@ use Rattle.std.proofs.lemmas.Bool.{cases_lt}
 use Rattle.std.proofs.lemmas.Option.{none-some}
 use Rattle.std.proofs.lemmas.List.{get_or_past}
 use Rattle.std.proofs.lemmas.List.Elements.{All-nil, All-cons, All-append, All-set, All-get_or}
-use Rattle.tm_terms.specs.declared.places.Place.{Place}
-use Rattle.tm_terms.specs.declared.tokens.Name.{Name}
-use Rattle.tm_terms.specs.declared.refusals.Kind.TheVariants as Kinds
-use Rattle.tm_terms.specs.declared.refusals.Refusal.{Refusal}
-use Rattle.tm_terms.specs.ExprTrees.{Tree}
-use Rattle.tm_trees.specs.FileTrees.{PartTrees}
-use Rattle.tm_trees.specs.FileTrees.{FunctionTree, ItemTree}
-use Rattle.tm_trees.specs.FileTrees.{a_declaration, a_function, an_empty_item, a_mutex, a_task}
-use Rattle.tm_typed.specs.declared.scopes.Binding.{Binding}
-use Rattle.tm_typed.specs.declared.scopes.Named.{Named}
-use Rattle.tm_typed.specs.declared.scopes.Named.TheVariants as Names
-use Rattle.tm_typed.specs.declared.specifiers.Shape.{Shape}
-use Rattle.tm_typed.specs.Types.{void_number}
-use Rattle.tm_typed.specs.Scopes.{named_here}
-use Rattle.tm_typed.specs.States.{State, in_scope}
-use Rattle.tm_typed.specs.Evaluation.{measured, folded_value}
-use Rattle.tm_typed.specs.Specifiers.{base}
-use Rattle.tm_typed.specs.Declarators.{declared_pointers}
-use Rattle.tm_typed.specs.Structures.{is_declared_here, specified}
-use Rattle.tm_typed.specs.Declarations.{linked, file_declaration}
-use Rattle.tm_typed.specs.StatementRules.{in_body}
-use Rattle.tm_typed.specs.StatementTyping.{enter, parts_in}
-use Rattle.tm_typed.specs.Functions.{parameters_in, left_names, entered_with, names_here}
-use Rattle.tm_typed.specs.Functions.{body_begins, Head, with_function, number_of, function_rules}
-use Rattle.tm_typed.specs.Functions.{TypedBodyTree, FoundBody, body_in}
-use Rattle.tm_typed.specs.Files.{IsTyped, TypedFunctionTree, FileState, TypedFileTree, first_file_state}
-use Rattle.tm_typed.specs.Files.{no_typed_function, typed_function, declared_function, head_of}
-use Rattle.tm_typed.specs.Files.{with_body, headed, with_state, function_in, priority_of, task_scope, named_task_in}
-use Rattle.tm_typed.specs.Files.{task_in, item_in, items_in, undefined_use, Closes, Ends}
-use Rattle.tm_typed.specs.WellTyped.{OnAnswer}
-use Rattle.typing_laws.proofs.Steps.{then_on, then_any}
-use Rattle.typed_file_laws.specs.Sites.{function_of_file}
-use Rattle.typed_file_laws.proofs.RuleSteps.{on_row, on_row_unless, some_any}
+use Rattle.operation_laws.specs.tm_terms.declared.places.Place.{Place}
+use Rattle.operation_laws.specs.tm_terms.declared.tokens.Name.{Name}
+use Rattle.operation_laws.specs.tm_terms.declared.refusals.Kind.TheVariants as Kinds
+use Rattle.operation_laws.specs.tm_terms.declared.refusals.Refusal.{Refusal}
+use Rattle.operation_laws.specs.tm_terms.ExprTrees.{Tree}
+use Rattle.operation_laws.specs.tm_trees.FileTrees.{PartTrees}
+use Rattle.operation_laws.specs.tm_trees.FileTrees.{FunctionTree, ItemTree}
+use Rattle.operation_laws.specs.tm_trees.FileTrees.{a_declaration, a_function, an_empty_item, a_mutex, a_task}
+use Rattle.operation_laws.specs.tm_typed.declared.scopes.Binding.{Binding}
+use Rattle.operation_laws.specs.tm_typed.declared.scopes.Named.{Named}
+use Rattle.operation_laws.specs.tm_typed.declared.scopes.Named.TheVariants as Names
+use Rattle.operation_laws.specs.tm_typed.declared.specifiers.Shape.{Shape}
+use Rattle.operation_laws.specs.tm_typed.Types.{void_number}
+use Rattle.operation_laws.specs.tm_typed.Scopes.{named_here}
+use Rattle.operation_laws.specs.tm_typed.States.{State, in_scope}
+use Rattle.operation_laws.specs.tm_typed.Evaluation.{measured, folded_value}
+use Rattle.operation_laws.specs.tm_typed.Specifiers.{base}
+use Rattle.operation_laws.specs.tm_typed.Declarators.{declared_pointers}
+use Rattle.operation_laws.specs.tm_typed.Structures.{is_declared_here, specified}
+use Rattle.operation_laws.specs.tm_typed.Declarations.{linked, file_declaration}
+use Rattle.operation_laws.specs.tm_typed.StatementRules.{in_body}
+use Rattle.operation_laws.specs.tm_typed.StatementTyping.{enter, parts_in}
+use Rattle.operation_laws.specs.tm_typed.Functions.{parameters_in, left_names, entered_with, names_here}
+use Rattle.operation_laws.specs.tm_typed.Functions.{body_begins, Head, with_function, number_of, function_rules}
+use Rattle.operation_laws.specs.tm_typed.Functions.{TypedBodyTree, FoundBody, body_in}
+use Rattle.operation_laws.specs.tm_typed.Files.{IsTyped, TypedFunctionTree, FileState, TypedFileTree, first_file_state}
+use Rattle.operation_laws.specs.tm_typed.Files.{no_typed_function, typed_function, declared_function, head_of}
+use Rattle.operation_laws.specs.tm_typed.Files.{with_body, headed, with_state, function_in, priority_of, task_scope}
+use Rattle.operation_laws.specs.tm_typed.Files.{named_task_in}
+use Rattle.operation_laws.specs.tm_typed.Files.{task_in, item_in, items_in, undefined_use, Closes, Ends}
+use Rattle.operation_laws.specs.tm_typed.WellTyped.{OnAnswer}
+use Rattle.operation_laws.proofs.low.typing_laws.Steps.{then_on, then_any}
+use Rattle.operation_laws.specs.typed_file_laws.Sites.{function_of_file}
+use Rattle.operation_laws.proofs.low.typed_file_laws.RuleSteps.{on_row, on_row_unless, some_any}
 use Rattle.sound_foundations.specs.Working.{StatementsWork, BodiesWork}
 use Rattle.sound_foundations.proofs.WorkingSteps.{AllTell, all_tell}
 

@@ -3,61 +3,75 @@ use Rattle.std.proofs.Common.{◌≡◌, ℕ, suc, List, [], ◌∷◌, ◌++◌
 use Rattle.std.specs.Prelude.{◌+◌, Bool, true, false, cond, not, ◌&&◌, ◌||◌, is_none, All, Option}
 use Rattle.std.specs.Prelude.{Some, None, Result, Ok}
 use Rattle.std.proofs.lemmas.List.Elements.{All-nil, All-cons, All-append}
-use Rattle.tm_cint.specs.declared.int_types.IntType.{IntType}
-use Rattle.tm_terms.specs.declared.places.Place.{Place}
-use Rattle.tm_terms.specs.declared.refusals.Kind.TheVariants as Kinds
-use Rattle.tm_terms.specs.declared.refusals.Refusal.{Refusal}
-use Rattle.tm_terms.specs.declared.types_named.Storage.{Storage}
-use Rattle.tm_terms.specs.declared.types_named.Storage.TheVariants as Storages
-use Rattle.tm_terms.specs.ExprTrees.{Tree, place_of}
-use Rattle.tm_trees.specs.declared.declarations.Tag.{Tag}
-use Rattle.tm_trees.specs.DeclarationTrees.{DeclarationTree, ValueTree, an_expression, a_list, ValueTrees, no_values}
-use Rattle.tm_trees.specs.DeclarationTrees.{and_value, InitialiserTree, InitDeclaratorTree}
-use Rattle.tm_trees.specs.FileTrees.{ForFirstTree, by_expression, by_declaration, StatementTree, a_block, a_value}
-use Rattle.tm_trees.specs.FileTrees.{an_if, an_if_else, a_while, a_do, a_for, a_switch, a_break, a_continue, a_return}
-use Rattle.tm_trees.specs.FileTrees.{a_lock, an_unlock, a_yield, PartTree, a_local, a_step, PartTrees, no_parts}
-use Rattle.tm_trees.specs.FileTrees.{and_part, CaseTree, a_case, a_default, a_case_step, CaseTrees, no_cases}
-use Rattle.tm_trees.specs.FileTrees.{and_case}
-use Rattle.tm_typed.specs.declared.types.Scalar.{Scalar}
-use Rattle.tm_typed.specs.declared.operands.Sort.{Sort}
-use Rattle.tm_typed.specs.declared.operands.Sort.TheVariants as Sorts
-use Rattle.tm_typed.specs.declared.scopes.Part.{Part}
-use Rattle.tm_typed.specs.declared.specifiers.Said.{Said}
-use Rattle.tm_typed.specs.Scopes.{ctype_of, named, tagged_here}
-use Rattle.tm_typed.specs.TypedTrees.{RvalueTree, Rated, OperandTree}
-use Rattle.tm_cint.specs.Conversions.{promoted_type}
-use Rattle.tm_typed.specs.Operands.{valued, given, scalar_of, is_structure, is_null, is_integer}
-use Rattle.tm_typed.specs.Operands.{is_condition}
-use Rattle.tm_typed.specs.Refusals.{then_with, row, row_unless}
-use Rattle.tm_typed.specs.States.{State, static}
-use Rattle.tm_typed.specs.Typing.{typing}
-use Rattle.tm_typed.specs.TypeNames.{is_void, type_of_name, prepared}
-use Rattle.tm_typed.specs.TypeRows.{clipped}
-use Rattle.tm_typed.specs.Evaluation.{evaluated, typed_in}
-use Rattle.tm_typed.specs.Structures.{is_no_object, is_declared_here, specified}
-use Rattle.tm_typed.specs.StaticValues.{static_value}
-use Rattle.tm_typed.specs.Initialisers.{part, is_aggregate, scalar_rules, lone_rules, given_behind, lone, list_rules}
-use Rattle.tm_typed.specs.Initialisers.{initial, initials, Given}
-use Rattle.tm_typed.specs.Declarations.{Declared, declared_by, typedef_rules}
-use Rattle.tm_typed.specs.Declarations.{extern_object, object_rules, static_object, LocalInitial}
-use Rattle.tm_typed.specs.Declarations.{initialised_local, new_local, Locals, local_object, no_locals, local_rules}
-use Rattle.tm_typed.specs.Declarations.{local_declared, lone_tag, tag_rules}
-use Rattle.tm_typed.specs.Declarations.{local_form, local_declaration}
-use Rattle.tm_typed.specs.TypedStatements.{GivenTree, LocalTree, TypedTree, evaluates, declares, runs_block, branches}
-use Rattle.tm_typed.specs.TypedStatements.{branches_else, loops_while, loops_do, loops_for, selects, breaks}
-use Rattle.tm_typed.specs.TypedStatements.{continues, returns, locks, unlocks, TypedTrees, and_statement, TypedCase}
-use Rattle.tm_typed.specs.TypedStatements.{a_label, a_default_label, a_labelled_step, TypedCases, and_typed_case}
-use Rattle.tm_typed.specs.StatementRules.{Around, looping, switching, condition_rules, Selector, selector_rules}
-use Rattle.tm_typed.specs.StatementRules.{Labels, no_labels, with_label, default_rules, return_rules}
-use Rattle.tm_typed.specs.StatementRules.{return_value_rules, mutex_rules}
-use Rattle.tm_typed.specs.StatementTyping.{value_in, condition_in, optional_value_in, optional_condition_in}
-use Rattle.tm_typed.specs.StatementTyping.{return_in, selector_in, label_in, first_in, enter, leave, statement_in}
-use Rattle.tm_typed.specs.StatementTyping.{part_in, parts_in, case_in, cases_in}
-use Rattle.tm_typed.specs.WellTyped.{OnAnswer}
-use Rattle.typing_laws.proofs.Steps.{then_on, then_any}
+use Rattle.operation_laws.specs.tm_cint.declared.int_types.IntType.{IntType}
+use Rattle.operation_laws.specs.tm_terms.declared.places.Place.{Place}
+use Rattle.operation_laws.specs.tm_terms.declared.refusals.Kind.TheVariants as Kinds
+use Rattle.operation_laws.specs.tm_terms.declared.refusals.Refusal.{Refusal}
+use Rattle.operation_laws.specs.tm_terms.declared.types_named.Storage.{Storage}
+use Rattle.operation_laws.specs.tm_terms.declared.types_named.Storage.TheVariants as Storages
+use Rattle.operation_laws.specs.tm_terms.ExprTrees.{Tree, place_of}
+use Rattle.operation_laws.specs.tm_trees.declared.declarations.Tag.{Tag}
+use Rattle.operation_laws.specs.tm_trees.DeclarationTrees.{DeclarationTree, ValueTree, an_expression, a_list}
+use Rattle.operation_laws.specs.tm_trees.DeclarationTrees.{ValueTrees, no_values}
+use Rattle.operation_laws.specs.tm_trees.DeclarationTrees.{and_value, InitialiserTree, InitDeclaratorTree}
+use Rattle.operation_laws.specs.tm_trees.FileTrees.{ForFirstTree, by_expression, by_declaration, StatementTree, a_block}
+use Rattle.operation_laws.specs.tm_trees.FileTrees.{a_value}
+use Rattle.operation_laws.specs.tm_trees.FileTrees.{an_if, an_if_else, a_while, a_do, a_for, a_switch, a_break}
+use Rattle.operation_laws.specs.tm_trees.FileTrees.{a_continue, a_return}
+use Rattle.operation_laws.specs.tm_trees.FileTrees.{a_lock, an_unlock, a_yield, PartTree, a_local, a_step, PartTrees}
+use Rattle.operation_laws.specs.tm_trees.FileTrees.{no_parts}
+use Rattle.operation_laws.specs.tm_trees.FileTrees.{and_part, CaseTree, a_case, a_default, a_case_step, CaseTrees}
+use Rattle.operation_laws.specs.tm_trees.FileTrees.{no_cases}
+use Rattle.operation_laws.specs.tm_trees.FileTrees.{and_case}
+use Rattle.operation_laws.specs.tm_typed.declared.types.Scalar.{Scalar}
+use Rattle.operation_laws.specs.tm_typed.declared.operands.Sort.{Sort}
+use Rattle.operation_laws.specs.tm_typed.declared.operands.Sort.TheVariants as Sorts
+use Rattle.operation_laws.specs.tm_typed.declared.scopes.Part.{Part}
+use Rattle.operation_laws.specs.tm_typed.declared.specifiers.Said.{Said}
+use Rattle.operation_laws.specs.tm_typed.Scopes.{ctype_of, named, tagged_here}
+use Rattle.operation_laws.specs.tm_typed.TypedTrees.{RvalueTree, Rated, OperandTree}
+use Rattle.operation_laws.specs.tm_cint.Conversions.{promoted_type}
+use Rattle.operation_laws.specs.tm_typed.Operands.{valued, given, scalar_of, is_structure, is_null, is_integer}
+use Rattle.operation_laws.specs.tm_typed.Operands.{is_condition}
+use Rattle.operation_laws.specs.tm_typed.Refusals.{then_with, row, row_unless}
+use Rattle.operation_laws.specs.tm_typed.States.{State, static}
+use Rattle.operation_laws.specs.tm_typed.Typing.{typing}
+use Rattle.operation_laws.specs.tm_typed.TypeNames.{is_void, type_of_name, prepared}
+use Rattle.operation_laws.specs.tm_typed.TypeRows.{clipped}
+use Rattle.operation_laws.specs.tm_typed.Evaluation.{evaluated, typed_in}
+use Rattle.operation_laws.specs.tm_typed.Structures.{is_no_object, is_declared_here, specified}
+use Rattle.operation_laws.specs.tm_typed.StaticValues.{static_value}
+use Rattle.operation_laws.specs.tm_typed.Initialisers.{part, is_aggregate, scalar_rules, lone_rules, given_behind, lone}
+use Rattle.operation_laws.specs.tm_typed.Initialisers.{list_rules}
+use Rattle.operation_laws.specs.tm_typed.Initialisers.{initial, initials, Given}
+use Rattle.operation_laws.specs.tm_typed.Declarations.{Declared, declared_by, typedef_rules}
+use Rattle.operation_laws.specs.tm_typed.Declarations.{extern_object, object_rules, static_object, LocalInitial}
+use Rattle.operation_laws.specs.tm_typed.Declarations.{initialised_local, new_local, Locals, local_object, no_locals}
+use Rattle.operation_laws.specs.tm_typed.Declarations.{local_rules}
+use Rattle.operation_laws.specs.tm_typed.Declarations.{local_declared, lone_tag, tag_rules}
+use Rattle.operation_laws.specs.tm_typed.Declarations.{local_form, local_declaration}
+use Rattle.operation_laws.specs.tm_typed.TypedStatements.{GivenTree, LocalTree, TypedTree, evaluates, declares}
+use Rattle.operation_laws.specs.tm_typed.TypedStatements.{runs_block, branches}
+use Rattle.operation_laws.specs.tm_typed.TypedStatements.{branches_else, loops_while, loops_do, loops_for, selects}
+use Rattle.operation_laws.specs.tm_typed.TypedStatements.{breaks}
+use Rattle.operation_laws.specs.tm_typed.TypedStatements.{continues, returns, locks, unlocks, TypedTrees, and_statement}
+use Rattle.operation_laws.specs.tm_typed.TypedStatements.{TypedCase}
+use Rattle.operation_laws.specs.tm_typed.TypedStatements.{a_label, a_default_label, a_labelled_step, TypedCases}
+use Rattle.operation_laws.specs.tm_typed.TypedStatements.{and_typed_case}
+use Rattle.operation_laws.specs.tm_typed.StatementRules.{Around, looping, switching, condition_rules, Selector}
+use Rattle.operation_laws.specs.tm_typed.StatementRules.{selector_rules}
+use Rattle.operation_laws.specs.tm_typed.StatementRules.{Labels, no_labels, with_label, default_rules, return_rules}
+use Rattle.operation_laws.specs.tm_typed.StatementRules.{return_value_rules, mutex_rules}
+use Rattle.operation_laws.specs.tm_typed.StatementTyping.{value_in, condition_in, optional_value_in}
+use Rattle.operation_laws.specs.tm_typed.StatementTyping.{optional_condition_in}
+use Rattle.operation_laws.specs.tm_typed.StatementTyping.{return_in, selector_in, label_in, first_in, enter, leave}
+use Rattle.operation_laws.specs.tm_typed.StatementTyping.{statement_in}
+use Rattle.operation_laws.specs.tm_typed.StatementTyping.{part_in, parts_in, case_in, cases_in}
+use Rattle.operation_laws.specs.tm_typed.WellTyped.{OnAnswer}
+use Rattle.operation_laws.proofs.low.typing_laws.Steps.{then_on, then_any}
 use Rattle.sound_foundations.specs.Working.{Works, OperandWorks, MayWork, GivenWork, StatementWorks, StatementsWork}
 use Rattle.sound_foundations.specs.Working.{CasesWork, CaseWorks}
-use Rattle.typed_file_laws.proofs.RuleSteps.{on_row, OnSome, on_row_unless, some_any}
+use Rattle.operation_laws.proofs.low.typed_file_laws.RuleSteps.{on_row, OnSome, on_row_unless, some_any}
 use Rattle.sound_foundations.proofs.WorkingRules.{valued_work, converted_work, given_work}
 use Rattle.sound_foundations.proofs.WorkingTyping.{typing_works}
 

@@ -1,38 +1,41 @@
 -- Typed expressions give `~` a promoted type.
 use Rattle.std.proofs.Common.{ℕ, suc, List, ◌∷◌}
 use Rattle.std.specs.Prelude.{◌+◌, true, false, Option, Some, None, Result, Ok}
-use Rattle.tm_cint.specs.declared.operators.BinOp.TheVariants as Ops
-use Rattle.tm_terms.specs.declared.places.Place.{Place}
-use Rattle.tm_terms.specs.declared.tokens.Name.{Name}
-use Rattle.tm_terms.specs.declared.refusals.Kind.TheVariants as Kinds
-use Rattle.tm_terms.specs.declared.refusals.Refusal.{Refusal}
-use Rattle.tm_terms.specs.declared.exprs.Binary.{Binary}
-use Rattle.tm_terms.specs.declared.exprs.Binary.TheVariants as Binaries
-use Rattle.tm_terms.specs.declared.exprs.Infix.{Infix}
-use Rattle.tm_terms.specs.declared.exprs.Infix.TheVariants as Infixes
-use Rattle.tm_terms.specs.declared.exprs.Prefix.{Prefix}
-use Rattle.tm_terms.specs.declared.exprs.Prefix.TheVariants as Prefixes
-use Rattle.tm_terms.specs.declared.exprs.Postfix.{Postfix}
-use Rattle.tm_terms.specs.declared.exprs.Postfix.TheVariants as Postfixes
-use Rattle.tm_terms.specs.declared.exprs.Access.{Access}
-use Rattle.tm_terms.specs.declared.exprs.Access.TheVariants as Accesses
-use Rattle.tm_terms.specs.ExprTrees.{Tree, a_name, an_integer, a_character, in_parentheses, an_input, an_islocked}
-use Rattle.tm_terms.specs.ExprTrees.{a_call, a_prefix, a_sizeof_type, a_cast, an_infix, a_conditional, a_subscript}
-use Rattle.tm_terms.specs.ExprTrees.{a_member, a_postfix, Arguments, no_arguments, and_argument}
-use Rattle.tm_typed.specs.declared.scopes.Named.{Named}
-use Rattle.tm_typed.specs.declared.scopes.Named.TheVariants as Names
-use Rattle.tm_typed.specs.Scopes.{Scope, named}
-use Rattle.tm_typed.specs.TypedTrees.{Rated, OperandTree}
-use Rattle.tm_typed.specs.Refusals.{then_with, row}
-use Rattle.tm_typed.specs.Operands.{valued}
-use Rattle.tm_typed.specs.Rules.{bound, input_rules, sizeof_type_rules}
-use Rattle.tm_typed.specs.Rules.{cast_rules, callee, call_rules}
-use Rattle.tm_typed.specs.Typing.{CastTypes, binary_sign, compound_sign, infix_rules, prefix_rules, postfix_rules}
-use Rattle.tm_typed.specs.Typing.{member_rules, calls, typing, typing_all}
-use Rattle.tm_typed.specs.WellTyped.{OnAnswer}
-use Rattle.typing_laws.proofs.Steps.{then_on, then_any}
+use Rattle.operation_laws.specs.tm_cint.declared.operators.BinOp.TheVariants as Ops
+use Rattle.operation_laws.specs.tm_terms.declared.places.Place.{Place}
+use Rattle.operation_laws.specs.tm_terms.declared.tokens.Name.{Name}
+use Rattle.operation_laws.specs.tm_terms.declared.refusals.Kind.TheVariants as Kinds
+use Rattle.operation_laws.specs.tm_terms.declared.refusals.Refusal.{Refusal}
+use Rattle.operation_laws.specs.tm_terms.declared.exprs.Binary.{Binary}
+use Rattle.operation_laws.specs.tm_terms.declared.exprs.Binary.TheVariants as Binaries
+use Rattle.operation_laws.specs.tm_terms.declared.exprs.Infix.{Infix}
+use Rattle.operation_laws.specs.tm_terms.declared.exprs.Infix.TheVariants as Infixes
+use Rattle.operation_laws.specs.tm_terms.declared.exprs.Prefix.{Prefix}
+use Rattle.operation_laws.specs.tm_terms.declared.exprs.Prefix.TheVariants as Prefixes
+use Rattle.operation_laws.specs.tm_terms.declared.exprs.Postfix.{Postfix}
+use Rattle.operation_laws.specs.tm_terms.declared.exprs.Postfix.TheVariants as Postfixes
+use Rattle.operation_laws.specs.tm_terms.declared.exprs.Access.{Access}
+use Rattle.operation_laws.specs.tm_terms.declared.exprs.Access.TheVariants as Accesses
+use Rattle.operation_laws.specs.tm_terms.ExprTrees.{Tree, a_name, an_integer, a_character, in_parentheses, an_input}
+use Rattle.operation_laws.specs.tm_terms.ExprTrees.{an_islocked}
+use Rattle.operation_laws.specs.tm_terms.ExprTrees.{a_call, a_prefix, a_sizeof_type, a_cast, an_infix, a_conditional}
+use Rattle.operation_laws.specs.tm_terms.ExprTrees.{a_subscript}
+use Rattle.operation_laws.specs.tm_terms.ExprTrees.{a_member, a_postfix, Arguments, no_arguments, and_argument}
+use Rattle.operation_laws.specs.tm_typed.declared.scopes.Named.{Named}
+use Rattle.operation_laws.specs.tm_typed.declared.scopes.Named.TheVariants as Names
+use Rattle.operation_laws.specs.tm_typed.Scopes.{Scope, named}
+use Rattle.operation_laws.specs.tm_typed.TypedTrees.{Rated, OperandTree}
+use Rattle.operation_laws.specs.tm_typed.Refusals.{then_with, row}
+use Rattle.operation_laws.specs.tm_typed.Operands.{valued}
+use Rattle.operation_laws.specs.tm_typed.Rules.{bound, input_rules, sizeof_type_rules}
+use Rattle.operation_laws.specs.tm_typed.Rules.{cast_rules, callee, call_rules}
+use Rattle.operation_laws.specs.tm_typed.Typing.{CastTypes, binary_sign, compound_sign, infix_rules, prefix_rules}
+use Rattle.operation_laws.specs.tm_typed.Typing.{postfix_rules}
+use Rattle.operation_laws.specs.tm_typed.Typing.{member_rules, calls, typing, typing_all}
+use Rattle.operation_laws.specs.tm_typed.WellTyped.{OnAnswer}
+use Rattle.operation_laws.proofs.low.typing_laws.Steps.{then_on, then_any}
 use Rattle.sound_foundations.specs.Working.{Works, OperandWorks}
-use Rattle.typed_file_laws.proofs.RuleSteps.{on_row}
+use Rattle.operation_laws.proofs.low.typed_file_laws.RuleSteps.{on_row}
 use Rattle.sound_foundations.proofs.WorkingRules.{valued_work, name_work, constant_work, input_work, islocked_work}
 use Rattle.sound_foundations.proofs.WorkingRules.{address_work, dereference_work, not_work, minus_work}
 use Rattle.sound_foundations.proofs.WorkingRules.{complement_work, plus_work, sizeof_type_work, sizeof_work}

@@ -1,20 +1,20 @@
 -- What the soundness of the report asks of files that are typed and laid out.
 use Rattle.std.specs.Prelude.{◌≡◌, ℕ, ◌<◌, Bool, List, length, slice_get, Some}
-use Rattle.tm_cint.specs.declared.int_types.IntType.{IntType}
-use Rattle.tm_cint.specs.declared.int_types.IntType.TheVariants as Ints
-use Rattle.tm_terms.specs.declared.places.Place.{Place}
-use Rattle.tm_typed.specs.declared.expressions.Unary.{Unary}
-use Rattle.tm_typed.specs.declared.expressions.Unary.TheVariants.{Complement}
-use Rattle.tm_laid.specs.Layouts.{LaidTree}
-use Rattle.flow_graph.specs.declared.graphs.Edge.{Edge}
-use Rattle.flow_graph.specs.declared.operations.Test.TheVariants as Tests
-use Rattle.flow_graph.specs.declared.operations.Operation.TheVariants as Op
-use Rattle.flow_graph.specs.Graphs.{Among}
-use Rattle.lowering.specs.Built.{graph_of}
-use Rattle.next_action_laws.specs.Actions.{IsOwn}
-use Rattle.temporary_types.specs.Sorts.{Sort, AreSorts}
-use Rattle.temporary_types.specs.PointerMarks.{is_pointers}
-use Rattle.transfer_rows.specs.Accesses.{is_among}
+use Rattle.operation_laws.specs.tm_cint.declared.int_types.IntType.{IntType}
+use Rattle.operation_laws.specs.tm_cint.declared.int_types.IntType.TheVariants as Ints
+use Rattle.operation_laws.specs.tm_terms.declared.places.Place.{Place}
+use Rattle.operation_laws.specs.tm_typed.declared.expressions.Unary.{Unary}
+use Rattle.operation_laws.specs.tm_typed.declared.expressions.Unary.TheVariants.{Complement}
+use Rattle.operation_laws.specs.tm_laid.Layouts.{LaidTree}
+use Rattle.operation_laws.specs.flow_graph.declared.graphs.Edge.{Edge}
+use Rattle.operation_laws.specs.flow_graph.declared.operations.Test.TheVariants as Tests
+use Rattle.operation_laws.specs.flow_graph.declared.operations.Operation.TheVariants as Op
+use Rattle.operation_laws.specs.flow_graph.Graphs.{Among}
+use Rattle.operation_laws.specs.lowering.Built.{graph_of}
+use Rattle.operation_laws.specs.next_action_laws.Actions.{IsOwn}
+use Rattle.operation_laws.specs.temporary_types.Sorts.{Sort, AreSorts}
+use Rattle.operation_laws.specs.temporary_types.PointerMarks.{is_pointers}
+use Rattle.program_equations.specs.transfer_rows.Accesses.{is_among}
 use Rattle.program_equations.specs.Programs.{pointers_in}
 
 -- each object that the graph of a body clears is on a call path of the body

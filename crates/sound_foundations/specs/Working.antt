@@ -1,26 +1,36 @@
 -- Typed trees in which each `~` works in another type than `_Bool` (C99 6.5.3.3: its operand is promoted).
 use Rattle.std.specs.Prelude.{◌≡◌, ℕ, List, All, Option, Some, None, Ok}
-use Rattle.tm_cint.specs.declared.int_types.IntType.{IntType}
-use Rattle.tm_cint.specs.declared.int_types.IntType.TheVariants as Ints
-use Rattle.tm_terms.specs.declared.tokens.Name.{Name}
-use Rattle.tm_trees.specs.FileTrees.{ItemTree}
-use Rattle.tm_typed.specs.declared.expressions.Unary.{Unary}
-use Rattle.tm_typed.specs.declared.expressions.Unary.TheVariants.{Complement}
-use Rattle.tm_typed.specs.TypedTrees.{RvalueTree, a_constant, a_folded, a_null, a_load, an_address, a_structure}
-use Rattle.tm_typed.specs.TypedTrees.{the_same, a_unary, a_binary, a_comparison_of_pointers, a_move, a_not, an_and}
-use Rattle.tm_typed.specs.TypedTrees.{an_or, a_choice, an_assignment, a_compound, a_compound_move, a_unit_step}
-use Rattle.tm_typed.specs.TypedTrees.{a_pointer_step, a_function_call, an_input_value, a_probe, a_comma, a_conversion}
-use Rattle.tm_typed.specs.TypedTrees.{a_discard, LvalueTree, an_object, an_element, a_pointed_element, a_pointed}
-use Rattle.tm_typed.specs.TypedTrees.{an_arrow, a_part, RvalueTrees, no_rvalues, and_rvalue, OperandTree, an_lvalue}
-use Rattle.tm_typed.specs.TypedTrees.{a_value}
-use Rattle.tm_typed.specs.TypedStatements.{LocalInitialiserTree, TypedTree, evaluates, declares, runs_block, branches}
-use Rattle.tm_typed.specs.TypedStatements.{branches_else, loops_while, loops_do, loops_for, selects, breaks}
-use Rattle.tm_typed.specs.TypedStatements.{continues, returns, locks, unlocks, yields, TypedTrees, no_statements}
-use Rattle.tm_typed.specs.TypedStatements.{and_statement, TypedCase, a_label, a_default_label, a_labelled_step}
-use Rattle.tm_typed.specs.TypedStatements.{TypedCases, no_typed_cases, and_typed_case}
-use Rattle.tm_typed.specs.Functions.{TypedBodyTree}
-use Rattle.tm_typed.specs.Files.{TypedFileTree, IsTyped}
-use Rattle.typed_file_laws.specs.Sites.{function_of_file}
+use Rattle.operation_laws.specs.tm_cint.declared.int_types.IntType.{IntType}
+use Rattle.operation_laws.specs.tm_cint.declared.int_types.IntType.TheVariants as Ints
+use Rattle.operation_laws.specs.tm_terms.declared.tokens.Name.{Name}
+use Rattle.operation_laws.specs.tm_trees.FileTrees.{ItemTree}
+use Rattle.operation_laws.specs.tm_typed.declared.expressions.Unary.{Unary}
+use Rattle.operation_laws.specs.tm_typed.declared.expressions.Unary.TheVariants.{Complement}
+use Rattle.operation_laws.specs.tm_typed.TypedTrees.{RvalueTree, a_constant, a_folded, a_null, a_load, an_address}
+use Rattle.operation_laws.specs.tm_typed.TypedTrees.{a_structure}
+use Rattle.operation_laws.specs.tm_typed.TypedTrees.{the_same, a_unary, a_binary, a_comparison_of_pointers, a_move}
+use Rattle.operation_laws.specs.tm_typed.TypedTrees.{a_not, an_and}
+use Rattle.operation_laws.specs.tm_typed.TypedTrees.{an_or, a_choice, an_assignment, a_compound, a_compound_move}
+use Rattle.operation_laws.specs.tm_typed.TypedTrees.{a_unit_step}
+use Rattle.operation_laws.specs.tm_typed.TypedTrees.{a_pointer_step, a_function_call, an_input_value, a_probe, a_comma}
+use Rattle.operation_laws.specs.tm_typed.TypedTrees.{a_conversion}
+use Rattle.operation_laws.specs.tm_typed.TypedTrees.{a_discard, LvalueTree, an_object, an_element, a_pointed_element}
+use Rattle.operation_laws.specs.tm_typed.TypedTrees.{a_pointed}
+use Rattle.operation_laws.specs.tm_typed.TypedTrees.{an_arrow, a_part, RvalueTrees, no_rvalues, and_rvalue, OperandTree}
+use Rattle.operation_laws.specs.tm_typed.TypedTrees.{an_lvalue}
+use Rattle.operation_laws.specs.tm_typed.TypedTrees.{a_value}
+use Rattle.operation_laws.specs.tm_typed.TypedStatements.{LocalInitialiserTree, TypedTree, evaluates, declares}
+use Rattle.operation_laws.specs.tm_typed.TypedStatements.{runs_block, branches}
+use Rattle.operation_laws.specs.tm_typed.TypedStatements.{branches_else, loops_while, loops_do, loops_for, selects}
+use Rattle.operation_laws.specs.tm_typed.TypedStatements.{breaks}
+use Rattle.operation_laws.specs.tm_typed.TypedStatements.{continues, returns, locks, unlocks, yields, TypedTrees}
+use Rattle.operation_laws.specs.tm_typed.TypedStatements.{no_statements}
+use Rattle.operation_laws.specs.tm_typed.TypedStatements.{and_statement, TypedCase, a_label, a_default_label}
+use Rattle.operation_laws.specs.tm_typed.TypedStatements.{a_labelled_step}
+use Rattle.operation_laws.specs.tm_typed.TypedStatements.{TypedCases, no_typed_cases, and_typed_case}
+use Rattle.operation_laws.specs.tm_typed.Functions.{TypedBodyTree}
+use Rattle.operation_laws.specs.tm_typed.Files.{TypedFileTree, IsTyped}
+use Rattle.operation_laws.specs.typed_file_laws.Sites.{function_of_file}
 
 -- ## Expressions
 

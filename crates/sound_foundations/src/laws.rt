@@ -1,6 +1,6 @@
 //! What the graphs of files that are typed and laid out keep.
-ghost use Rattle.tm_laid.specs.Layouts.{LaidTree};
-ghost use Rattle.lowering_laws.specs.LaidFiles.{IsLaidFile};
+ghost use Rattle.operation_laws.specs.tm_laid.Layouts.{LaidTree};
+ghost use Rattle.operation_laws.specs.lowering_laws.LaidFiles.{IsLaidFile};
 ghost use Rattle.sound_foundations.specs.Foundations.{OwnsCleared, ComplementsWork, TellsTruths};
 
 /// Each object that the graph of a body clears is a parameter or a local object of one of the body's call paths.

@@ -4,37 +4,40 @@ use Rattle.std.proofs.Common.{false, List, []}
 use Rattle.std.proofs.Common.{◌∷◌, ◌||◌, length, get_or, if◌then◌else◌, arith}
 use Rattle.std.specs.Prelude.{ℤ, nat_lt}
 use Rattle.std.proofs.lemmas.Bool.{lt-ltb}
-use Rattle.tm_terms.specs.declared.places.Place.{Place}
-use Rattle.tm_typed.specs.declared.types.Scalar.{Scalar}
-use Rattle.tm_laid.specs.Layouts.{LaidTree, cell_at, cell_of}
-use Rattle.concrete_values.specs.declared.values.Value.{Value}
-use Rattle.concrete_values.specs.declared.values.Value.TheVariants.{Number}
-use Rattle.concrete_values.specs.declared.values.Answer.{Answer}
-use Rattle.concrete_values.specs.declared.values.Answer.TheVariants as Answers
-use Rattle.concrete_values.specs.declared.actions.Next.{Next}
-use Rattle.concrete_values.specs.declared.actions.Next.TheVariants as Acts
-use Rattle.concrete_values.specs.Values.{truth_value}
-use Rattle.concrete_values.specs.Actions.{is_between}
-use Rattle.concrete_steps.specs.declared.worlds.Content.TheVariants.{Is}
-use Rattle.concrete_steps.specs.declared.worlds.Status.{Status}
-use Rattle.concrete_steps.specs.declared.worlds.Status.TheVariants.{Waiting, Ready, Blocked, Done}
-use Rattle.concrete_steps.specs.declared.worlds.Choice.{Choice}
-use Rattle.concrete_steps.specs.declared.worlds.Choice.TheVariants.{Wake, Run}
-use Rattle.concrete_steps.specs.NextAction.{next}
-use Rattle.concrete_steps.specs.Worlds.{Standing, World, standing, next_at, is_section, holds}
-use Rattle.concrete_steps.specs.Worlds.{cleared_content, is_part, woken, with_status, is_taken, is_blocked_on}
-use Rattle.concrete_steps.specs.Worlds.{tasks_may_run}
-use Rattle.concrete_steps.specs.Worlds.{no_standing}
-use Rattle.concrete_steps.specs.Moves.{status_of, content_of, SameAnswers, SameHeld, SameContents, OthersStand, Turn}
-use Rattle.concrete_steps.specs.Moves.{NowHolds, Reads, held_with, IsMove, wakes, loads, stores, chooses, clears, takes}
-use Rattle.concrete_steps.specs.Moves.{waits_for, gives_up, gives_way, probes, goes_round}
-use Rattle.flow_graph.specs.Graphs.{Edges}
-use Rattle.mutex_configs.specs.Sets.{has}
+use Rattle.layout_laws.specs.tm_terms.declared.places.Place.{Place}
+use Rattle.layout_laws.specs.tm_typed.declared.types.Scalar.{Scalar}
+use Rattle.layout_laws.specs.tm_laid.Layouts.{LaidTree, cell_at, cell_of}
+use Rattle.program_shape.specs.concrete_values.declared.values.Value.{Value}
+use Rattle.program_shape.specs.concrete_values.declared.values.Value.TheVariants.{Number}
+use Rattle.program_shape.specs.concrete_values.declared.values.Answer.{Answer}
+use Rattle.program_shape.specs.concrete_values.declared.values.Answer.TheVariants as Answers
+use Rattle.program_shape.specs.concrete_values.declared.actions.Next.{Next}
+use Rattle.program_shape.specs.concrete_values.declared.actions.Next.TheVariants as Acts
+use Rattle.program_shape.specs.concrete_values.Values.{truth_value}
+use Rattle.program_shape.specs.concrete_values.Actions.{is_between}
+use Rattle.program_shape.specs.concrete_steps.declared.worlds.Content.TheVariants.{Is}
+use Rattle.program_shape.specs.concrete_steps.declared.worlds.Status.{Status}
+use Rattle.program_shape.specs.concrete_steps.declared.worlds.Status.TheVariants.{Waiting, Ready, Blocked, Done}
+use Rattle.program_shape.specs.concrete_steps.declared.worlds.Choice.{Choice}
+use Rattle.program_shape.specs.concrete_steps.declared.worlds.Choice.TheVariants.{Wake, Run}
+use Rattle.program_shape.specs.concrete_steps.NextAction.{next}
+use Rattle.program_shape.specs.concrete_steps.Worlds.{Standing, World, standing, next_at, is_section, holds}
+use Rattle.program_shape.specs.concrete_steps.Worlds.{cleared_content, is_part, woken, with_status, is_taken}
+use Rattle.program_shape.specs.concrete_steps.Worlds.{is_blocked_on}
+use Rattle.program_shape.specs.concrete_steps.Worlds.{tasks_may_run}
+use Rattle.program_shape.specs.concrete_steps.Worlds.{no_standing}
+use Rattle.program_shape.specs.concrete_steps.Moves.{status_of, content_of, SameAnswers, SameHeld, SameContents}
+use Rattle.program_shape.specs.concrete_steps.Moves.{OthersStand, Turn}
+use Rattle.program_shape.specs.concrete_steps.Moves.{NowHolds, Reads, held_with, IsMove, wakes, loads, stores, chooses}
+use Rattle.program_shape.specs.concrete_steps.Moves.{clears, takes}
+use Rattle.program_shape.specs.concrete_steps.Moves.{waits_for, gives_up, gives_way, probes, goes_round}
+use Rattle.program_shape.specs.flow_graph.Graphs.{Edges}
+use Rattle.program_shape.specs.mutex_configs.Sets.{has}
 use Rattle.next_action_laws.specs.Actions.{IsProper}
 use Rattle.next_action_laws.specs.Worlds.{HoldsTypes}
-use Rattle.tm_soundness.specs.Shape.{Shape}
-use Rattle.tm_soundness.specs.Worlds.{Source, World as AWorld, Step}
-use Rattle.tm_soundness.specs.Numbered.{TaskOf}
+use Rattle.program_shape.specs.tm_soundness.Shape.{Shape}
+use Rattle.program_shape.specs.tm_soundness.Worlds.{Source, World as AWorld, Step}
+use Rattle.program_shape.specs.tm_soundness.Numbered.{TaskOf}
 use Rattle.program_shape.specs.Shape.{Parts, shape_of, Has}
 use Rattle.sound_runs.specs.Sources.{source_of, LaysCells}
 use Rattle.sound_runs.specs.Images.{parts_with, world_of}

@@ -2,33 +2,36 @@
 use Rattle.std.proofs.Common.{◌≡◌, refl, sym, ap, subst, ◌∙◌, ℕ, Bool, true, false}
 use Rattle.std.proofs.Common.{◌&&◌}
 use Rattle.std.proofs.Common.{if◌then◌else◌, slice_get, slice_set, Option, Some, None, ℤ}
-use Rattle.tm_cint.specs.declared.Class.{Class}
-use Rattle.tm_cint.specs.declared.Class.TheVariants as Classes
-use Rattle.tm_cint.specs.Conversions.{is_zero}
-use Rattle.tm_terms.specs.declared.places.Place.{Place}
-use Rattle.tm_typed.specs.declared.types.Scalar.{Scalar}
-use Rattle.tm_laid.specs.Layouts.{LaidTree, cell_of}
-use Rattle.concrete_values.specs.declared.values.Value.{Value}
-use Rattle.concrete_values.specs.declared.values.Value.TheVariants.{Number}
-use Rattle.concrete_values.specs.declared.values.Answer.TheVariants as Answers
-use Rattle.concrete_values.specs.declared.actions.Next.{Next}
-use Rattle.concrete_values.specs.declared.actions.Next.TheVariants as Acts
-use Rattle.concrete_values.specs.Values.{truth_value}
-use Rattle.concrete_values.specs.Actions.{is_of, is_between}
-use Rattle.concrete_steps.specs.declared.worlds.Content.{Content}
-use Rattle.concrete_steps.specs.declared.worlds.Content.TheVariants.{Open, Is}
-use Rattle.concrete_steps.specs.declared.worlds.Status.{Status}
-use Rattle.concrete_steps.specs.declared.worlds.Status.TheVariants.{Waiting, Ready, Blocked, Done}
-use Rattle.concrete_steps.specs.declared.worlds.Choice.{Choice}
-use Rattle.concrete_steps.specs.declared.worlds.Choice.TheVariants.{Wake, Run}
-use Rattle.concrete_steps.specs.declared.worlds.Stepped.TheVariants as Steps
-use Rattle.concrete_steps.specs.Worlds.{Standing, World, Outcome, next_at, holds, is_ready, is_waiting, with_status}
-use Rattle.concrete_steps.specs.Worlds.{with_mutex, refused, did, halted, stand, answered, cleared, freed, none_above}
-use Rattle.concrete_steps.specs.Worlds.{is_taken, load_step, store_step, lock_step, unlock_step, yielded, act_step}
-use Rattle.concrete_steps.specs.Worlds.{run_step}
-use Rattle.concrete_steps.specs.Worlds.{tasks_may_run, wake_step, chosen_step, step, standing}
-use Rattle.concrete_steps.specs.Moves.{status_of}
-use Rattle.concrete_steps.proofs.Reached.{get_some, and_left}
+use Rattle.layout_laws.specs.tm_cint.declared.Class.{Class}
+use Rattle.layout_laws.specs.tm_cint.declared.Class.TheVariants as Classes
+use Rattle.layout_laws.specs.tm_cint.Conversions.{is_zero}
+use Rattle.layout_laws.specs.tm_terms.declared.places.Place.{Place}
+use Rattle.layout_laws.specs.tm_typed.declared.types.Scalar.{Scalar}
+use Rattle.layout_laws.specs.tm_laid.Layouts.{LaidTree, cell_of}
+use Rattle.program_shape.specs.concrete_values.declared.values.Value.{Value}
+use Rattle.program_shape.specs.concrete_values.declared.values.Value.TheVariants.{Number}
+use Rattle.program_shape.specs.concrete_values.declared.values.Answer.TheVariants as Answers
+use Rattle.program_shape.specs.concrete_values.declared.actions.Next.{Next}
+use Rattle.program_shape.specs.concrete_values.declared.actions.Next.TheVariants as Acts
+use Rattle.program_shape.specs.concrete_values.Values.{truth_value}
+use Rattle.program_shape.specs.concrete_values.Actions.{is_of, is_between}
+use Rattle.program_shape.specs.concrete_steps.declared.worlds.Content.{Content}
+use Rattle.program_shape.specs.concrete_steps.declared.worlds.Content.TheVariants.{Open, Is}
+use Rattle.program_shape.specs.concrete_steps.declared.worlds.Status.{Status}
+use Rattle.program_shape.specs.concrete_steps.declared.worlds.Status.TheVariants.{Waiting, Ready, Blocked, Done}
+use Rattle.program_shape.specs.concrete_steps.declared.worlds.Choice.{Choice}
+use Rattle.program_shape.specs.concrete_steps.declared.worlds.Choice.TheVariants.{Wake, Run}
+use Rattle.program_shape.specs.concrete_steps.declared.worlds.Stepped.TheVariants as Steps
+use Rattle.program_shape.specs.concrete_steps.Worlds.{Standing, World, Outcome, next_at, holds, is_ready, is_waiting}
+use Rattle.program_shape.specs.concrete_steps.Worlds.{with_status}
+use Rattle.program_shape.specs.concrete_steps.Worlds.{with_mutex, refused, did, halted, stand, answered, cleared, freed}
+use Rattle.program_shape.specs.concrete_steps.Worlds.{none_above}
+use Rattle.program_shape.specs.concrete_steps.Worlds.{is_taken, load_step, store_step, lock_step, unlock_step, yielded}
+use Rattle.program_shape.specs.concrete_steps.Worlds.{act_step}
+use Rattle.program_shape.specs.concrete_steps.Worlds.{run_step}
+use Rattle.program_shape.specs.concrete_steps.Worlds.{tasks_may_run, wake_step, chosen_step, step, standing}
+use Rattle.program_shape.specs.concrete_steps.Moves.{status_of}
+use Rattle.program_shape.proofs.low.concrete_steps.Reached.{get_some, and_left}
 
 -- what the action of a task that stands so fails with: with its own error, at a mutex that it holds, or at one that it
 -- does not hold

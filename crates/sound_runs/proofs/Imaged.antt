@@ -4,41 +4,43 @@ use Rattle.std.proofs.Common.{Bool, true, false}
 use Rattle.std.proofs.Common.{[], ◌∷◌, ◌++◌, ◌&&◌, length, get_or, if◌then◌else◌, Some, arith}
 use Rattle.std.proofs.lemmas.Bool.{eq-eqb, ne_eqb}
 use native.Mathlib.Decide.{ℕ_discrete}
-use Rattle.tm_terms.specs.declared.places.Place.{Place}
-use Rattle.tm_laid.specs.Layouts.{LaidTree}
-use Rattle.tm_laid.specs.Paths.{listed}
-use Rattle.concrete_values.specs.declared.values.Value.{Value}
-use Rattle.concrete_values.specs.declared.values.Answer.TheVariants as Answers
-use Rattle.concrete_values.specs.declared.actions.Next.TheVariants as Acts
-use Rattle.concrete_steps.specs.declared.worlds.Status.{Status}
-use Rattle.concrete_steps.specs.declared.worlds.Status.TheVariants.{Waiting, Ready, Blocked, Done}
-use Rattle.concrete_steps.specs.declared.worlds.Choice.{Choice}
-use Rattle.concrete_steps.specs.declared.worlds.Choice.TheVariants.{Wake, Run}
-use Rattle.concrete_steps.specs.NextAction.{next}
-use Rattle.concrete_steps.specs.Worlds.{World, standing, answers_of, next_at, is_section, holds, is_ended, is_taken}
-use Rattle.concrete_steps.specs.Worlds.{start}
-use Rattle.concrete_steps.specs.Worlds.{step}
-use Rattle.concrete_steps.specs.Moves.{status_of, settled_status, Turn, NowHolds, OthersStand, SameContents}
-use Rattle.concrete_steps.specs.Occurring.{IsReached, at_start, by_step}
-use Rattle.concrete_steps.proofs.Moving.{steps_are_moves}
-use Rattle.flow_graph.specs.Graphs.{Edges}
-use Rattle.mutex_configs.specs.Sets.{has}
+use Rattle.layout_laws.specs.tm_terms.declared.places.Place.{Place}
+use Rattle.layout_laws.specs.tm_laid.Layouts.{LaidTree}
+use Rattle.layout_laws.specs.tm_laid.Paths.{listed}
+use Rattle.program_shape.specs.concrete_values.declared.values.Value.{Value}
+use Rattle.program_shape.specs.concrete_values.declared.values.Answer.TheVariants as Answers
+use Rattle.program_shape.specs.concrete_values.declared.actions.Next.TheVariants as Acts
+use Rattle.program_shape.specs.concrete_steps.declared.worlds.Status.{Status}
+use Rattle.program_shape.specs.concrete_steps.declared.worlds.Status.TheVariants.{Waiting, Ready, Blocked, Done}
+use Rattle.program_shape.specs.concrete_steps.declared.worlds.Choice.{Choice}
+use Rattle.program_shape.specs.concrete_steps.declared.worlds.Choice.TheVariants.{Wake, Run}
+use Rattle.program_shape.specs.concrete_steps.NextAction.{next}
+use Rattle.program_shape.specs.concrete_steps.Worlds.{World, standing, answers_of, next_at, is_section, holds, is_ended}
+use Rattle.program_shape.specs.concrete_steps.Worlds.{is_taken}
+use Rattle.program_shape.specs.concrete_steps.Worlds.{start}
+use Rattle.program_shape.specs.concrete_steps.Worlds.{step}
+use Rattle.program_shape.specs.concrete_steps.Moves.{status_of, settled_status, Turn, NowHolds, OthersStand}
+use Rattle.program_shape.specs.concrete_steps.Moves.{SameContents}
+use Rattle.program_shape.specs.concrete_steps.Occurring.{IsReached, at_start, by_step}
+use Rattle.program_shape.proofs.low.concrete_steps.Moving.{steps_are_moves}
+use Rattle.program_shape.specs.flow_graph.Graphs.{Edges}
+use Rattle.program_shape.specs.mutex_configs.Sets.{has}
 use Rattle.lowering_laws.specs.LaidFiles.{IsLaidFile}
 use Rattle.lowering_laws.proofs.TableGraphs.{few_mutexes}
 use Rattle.next_action_laws.specs.Actions.{IsProper}
 use Rattle.next_action_laws.specs.Worlds.{HoldsTypes, IsProperWorld}
 use Rattle.next_action_laws.proofs.ProperWorlds.{worlds_are_proper}
-use Rattle.tm_soundness.specs.Shape.{Shape, Content as AContent}
-use Rattle.tm_soundness.specs.GraphWorlds.{Status as AStatus, waiting, ready, blocked, done}
-use Rattle.tm_soundness.specs.Section.{Section, alone}
-use Rattle.tm_soundness.specs.Worlds.{Action, a_ended, Source, World as AWorld, settled, Step, step_wakes}
-use Rattle.tm_soundness.specs.Worlds.{step_blocks, step_yields}
-use Rattle.tm_soundness.specs.WholeWorlds.{WholeWorld, main_of, TasksStay, WholeStep, main_acts}
-use Rattle.tm_soundness.specs.WholeWorlds.{main_yields, task_acts}
-use Rattle.tm_soundness.specs.WholeWorlds.{whole_begins, whole_goes}
-use Rattle.tm_soundness.specs.WholeWorlds.{IsFirstPhase, IsSecondPhase}
-use Rattle.tm_soundness.specs.Numbered.{TaskOf}
-use Rattle.tm_soundness.proofs.TwoRuns.{two_phases}
+use Rattle.program_shape.specs.tm_soundness.Shape.{Shape, Content as AContent}
+use Rattle.program_shape.specs.tm_soundness.GraphWorlds.{Status as AStatus, waiting, ready, blocked, done}
+use Rattle.program_shape.specs.tm_soundness.Section.{Section, alone}
+use Rattle.program_shape.specs.tm_soundness.Worlds.{Action, a_ended, Source, World as AWorld, settled, Step, step_wakes}
+use Rattle.program_shape.specs.tm_soundness.Worlds.{step_blocks, step_yields}
+use Rattle.program_shape.specs.tm_soundness.WholeWorlds.{WholeWorld, main_of, TasksStay, WholeStep, main_acts}
+use Rattle.program_shape.specs.tm_soundness.WholeWorlds.{main_yields, task_acts}
+use Rattle.program_shape.specs.tm_soundness.WholeWorlds.{whole_begins, whole_goes}
+use Rattle.program_shape.specs.tm_soundness.WholeWorlds.{IsFirstPhase, IsSecondPhase}
+use Rattle.program_shape.specs.tm_soundness.Numbered.{TaskOf}
+use Rattle.program_shape.proofs.low.tm_soundness.TwoRuns.{two_phases}
 use Rattle.program_equations.specs.Programs.{priorities_of}
 use Rattle.program_shape.specs.Shape.{number_of, Has}
 use Rattle.program_shape.proofs.TaskNumbers.{number_below, one_number, IsNumbered, task_with}

@@ -3,14 +3,15 @@ use Rattle.std.proofs.Common.{◌≡◌, refl, sym, ap, subst, ◌∙◌, ℕ, O
 use Rattle.std.proofs.Common.{if◌then◌else◌}
 use Rattle.std.proofs.lemmas.Bool.{ne_eqb}
 use native.Mathlib.Decide.{ℕ_discrete}
-use Rattle.tm_laid.specs.Layouts.{LaidTree}
-use Rattle.concrete_values.specs.declared.values.Value.{Value}
-use Rattle.concrete_values.specs.declared.actions.Next.{Next}
-use Rattle.flow_graph.specs.declared.graphs.Edge.{Edge}
-use Rattle.flow_graph.specs.Graphs.{Edges, Among, Leaves, IsLive, by_use, by_flow}
-use Rattle.flow_graph.specs.Operations.{Temps, given, kept_with, used, Doing, gives, shut, asks, fails, doing}
-use Rattle.flow_graph.specs.Operations.{effect_by}
-use Rattle.flow_graph.specs.Operations.{Silent, Asks}
+use Rattle.layout_laws.specs.tm_laid.Layouts.{LaidTree}
+use Rattle.program_shape.specs.concrete_values.declared.values.Value.{Value}
+use Rattle.program_shape.specs.concrete_values.declared.actions.Next.{Next}
+use Rattle.program_shape.specs.flow_graph.declared.graphs.Edge.{Edge}
+use Rattle.program_shape.specs.flow_graph.Graphs.{Edges, Among, Leaves, IsLive, by_use, by_flow}
+use Rattle.program_shape.specs.flow_graph.Operations.{Temps, given, kept_with, used, Doing, gives, shut, asks, fails}
+use Rattle.program_shape.specs.flow_graph.Operations.{doing}
+use Rattle.program_shape.specs.flow_graph.Operations.{effect_by}
+use Rattle.program_shape.specs.flow_graph.Operations.{Silent, Asks}
 use Rattle.sound_runs.specs.Sources.{Comes, comes_first, comes_by_itself, comes_by_answer, KeepsAddresses}
 use Rattle.sound_runs.specs.Addresses.{IsOfKind, HasKinds}
 

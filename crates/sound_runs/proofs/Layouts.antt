@@ -3,27 +3,27 @@ use Rattle.std.proofs.Common.{refl, sym, subst, ℕ, zero, suc, ◌+◌, ◌<◌
 use Rattle.std.proofs.Common.{get_or, arith}
 use Rattle.std.proofs.Common.{inl, inr}
 use Rattle.std.specs.Prelude.{All}
-use Rattle.tm_typed.specs.Files.{TypedFileTree}
-use Rattle.tm_laid.specs.declared.objects.DeclaredObject.{DeclaredObject}
-use Rattle.tm_laid.specs.declared.objects.LaidObject.{LaidObject}
-use Rattle.tm_laid.specs.TypeCells.{cells_of_type, abstract_cells_of_type}
-use Rattle.tm_laid.specs.Objects.{objects_from}
-use Rattle.tm_laid.specs.Paths.{paths_of}
-use Rattle.tm_laid.specs.Layouts.{LaidTree, no_object, object_at, summed_types, declared_objects, layout_of}
-use Rattle.cell_layout.specs.Laws.{IsCellOf}
-use Rattle.cell_layout.proofs.CellPairs.{cells_of_objects}
+use Rattle.layout_laws.specs.tm_typed.Files.{TypedFileTree}
+use Rattle.layout_laws.specs.tm_laid.declared.objects.DeclaredObject.{DeclaredObject}
+use Rattle.layout_laws.specs.tm_laid.declared.objects.LaidObject.{LaidObject}
+use Rattle.layout_laws.specs.tm_laid.TypeCells.{cells_of_type, abstract_cells_of_type}
+use Rattle.layout_laws.specs.tm_laid.Objects.{objects_from}
+use Rattle.layout_laws.specs.tm_laid.Paths.{paths_of}
+use Rattle.layout_laws.specs.tm_laid.Layouts.{LaidTree, no_object, object_at, summed_types, declared_objects, layout_of}
+use Rattle.layout_laws.specs.cell_layout.Laws.{IsCellOf}
+use Rattle.layout_laws.proofs.low.cell_layout.CellPairs.{cells_of_objects}
 use Rattle.layout_laws.specs.Limited.{IsLimited}
 use Rattle.layout_laws.proofs.Counted.{cells_counted, abstracts_counted}
 use Rattle.layout_laws.proofs.Kept.{limits_kept}
-use Rattle.concrete_values.specs.declared.values.Answer.{Answer}
-use Rattle.concrete_steps.specs.NextAction.{next}
-use Rattle.flow_graph.specs.declared.operations.Operation.{Operation}
-use Rattle.flow_graph.specs.declared.operations.Operation.TheVariants as Op
-use Rattle.flow_graph.specs.declared.graphs.Edge.{Edge}
-use Rattle.flow_graph.specs.Graphs.{Edges, Among}
-use Rattle.flow_graph.proofs.Positions.{runs_along}
-use Rattle.lowering.specs.Built.{graph_of}
-use Rattle.mutex_configs.specs.Sets.{IsOfSixteen}
+use Rattle.program_shape.specs.concrete_values.declared.values.Answer.{Answer}
+use Rattle.program_shape.specs.concrete_steps.NextAction.{next}
+use Rattle.program_shape.specs.flow_graph.declared.operations.Operation.{Operation}
+use Rattle.program_shape.specs.flow_graph.declared.operations.Operation.TheVariants as Op
+use Rattle.program_shape.specs.flow_graph.declared.graphs.Edge.{Edge}
+use Rattle.program_shape.specs.flow_graph.Graphs.{Edges, Among}
+use Rattle.program_shape.proofs.low.flow_graph.Positions.{runs_along}
+use Rattle.lowering_laws.specs.lowering.Built.{graph_of}
+use Rattle.program_shape.specs.mutex_configs.Sets.{IsOfSixteen}
 use Rattle.lowering_laws.specs.LaidFiles.{IsLaidFile}
 use Rattle.lowering_laws.specs.Mutexes.{HasMutex}
 use Rattle.lowering_laws.proofs.Founded.{file_layable}

@@ -20,3 +20,4 @@ pub mod Imaged
 pub mod Listed
 pub mod WithoutSection
 pub mod Programs
+pub mod low

@@ -4,34 +4,35 @@ use Rattle.std.proofs.Common.{Bool, true, false}
 use Rattle.std.proofs.Common.{List, [], ◌∷◌, length, Some, arith}
 use Rattle.std.specs.Prelude.{IsTrue}
 use native.Mathlib.Decide.{ℕ_discrete}
-use Rattle.tm_cint.specs.declared.Class.{Class}
-use Rattle.tm_cint.specs.declared.Class.TheVariants as Classes
-use Rattle.tm_terms.specs.declared.places.Place.{Place}
-use Rattle.tm_typed.specs.declared.types.Scalar.{Scalar}
-use Rattle.tm_laid.specs.Layouts.{LaidTree, cell_of}
-use Rattle.concrete_values.specs.declared.actions.Next.{Next}
-use Rattle.concrete_values.specs.declared.actions.Next.TheVariants as Acts
-use Rattle.concrete_steps.specs.declared.worlds.Status.{Status}
-use Rattle.concrete_steps.specs.declared.worlds.Status.TheVariants.{Ready, Done}
-use Rattle.concrete_steps.specs.NextAction.{next}
-use Rattle.concrete_steps.specs.Worlds.{World, standing, answers_of, next_at, holds}
-use Rattle.concrete_steps.specs.Moves.{status_of}
-use Rattle.concrete_steps.specs.Occurring.{IsAccess, a_load_there, a_store_there, IsRace}
-use Rattle.concrete_steps.specs.Occurring.{Occurs}
-use Rattle.flow_graph.specs.Graphs.{Edges}
+use Rattle.layout_laws.specs.tm_cint.declared.Class.{Class}
+use Rattle.layout_laws.specs.tm_cint.declared.Class.TheVariants as Classes
+use Rattle.layout_laws.specs.tm_terms.declared.places.Place.{Place}
+use Rattle.layout_laws.specs.tm_typed.declared.types.Scalar.{Scalar}
+use Rattle.layout_laws.specs.tm_laid.Layouts.{LaidTree, cell_of}
+use Rattle.program_shape.specs.concrete_values.declared.actions.Next.{Next}
+use Rattle.program_shape.specs.concrete_values.declared.actions.Next.TheVariants as Acts
+use Rattle.program_shape.specs.concrete_steps.declared.worlds.Status.{Status}
+use Rattle.program_shape.specs.concrete_steps.declared.worlds.Status.TheVariants.{Ready, Done}
+use Rattle.program_shape.specs.concrete_steps.NextAction.{next}
+use Rattle.program_shape.specs.concrete_steps.Worlds.{World, standing, answers_of, next_at, holds}
+use Rattle.program_shape.specs.concrete_steps.Moves.{status_of}
+use Rattle.program_shape.specs.concrete_steps.Occurring.{IsAccess, a_load_there, a_store_there, IsRace}
+use Rattle.program_shape.specs.concrete_steps.Occurring.{Occurs}
+use Rattle.program_shape.specs.flow_graph.Graphs.{Edges}
 use Rattle.lowering_laws.specs.LaidFiles.{IsLaidFile}
 use Rattle.next_action_laws.specs.Actions.{IsProper}
-use Rattle.tm_soundness.specs.Shape.{Shape}
-use Rattle.tm_soundness.specs.Tables.{Tables}
-use Rattle.tm_soundness.specs.GraphWorlds.{done}
-use Rattle.tm_soundness.specs.Section.{Section, alone}
-use Rattle.tm_soundness.specs.Listing.{AreAnalysed, ListsAll}
-use Rattle.tm_soundness.specs.Worlds.{Source, IsFault, next_fails}
-use Rattle.tm_soundness.specs.Worlds.{next_relocks, next_unlocks_foreign, NextAccesses, next_loads, next_loads_any}
-use Rattle.tm_soundness.specs.Worlds.{next_stores, NextStores, IsIn}
-use Rattle.tm_soundness.specs.WholeWorlds.{main_of, tasks_of}
-use Rattle.tm_soundness.specs.Numbered.{TaskOf}
-use Rattle.tm_soundness.proofs.WithSection.{lists_all}
+use Rattle.program_shape.specs.tm_soundness.Shape.{Shape}
+use Rattle.program_shape.specs.tm_soundness.Tables.{Tables}
+use Rattle.program_shape.specs.tm_soundness.GraphWorlds.{done}
+use Rattle.program_shape.specs.tm_soundness.Section.{Section, alone}
+use Rattle.program_shape.specs.tm_soundness.Listing.{AreAnalysed, ListsAll}
+use Rattle.program_shape.specs.tm_soundness.Worlds.{Source, IsFault, next_fails}
+use Rattle.program_shape.specs.tm_soundness.Worlds.{next_relocks, next_unlocks_foreign, NextAccesses, next_loads}
+use Rattle.program_shape.specs.tm_soundness.Worlds.{next_loads_any}
+use Rattle.program_shape.specs.tm_soundness.Worlds.{next_stores, NextStores, IsIn}
+use Rattle.program_shape.specs.tm_soundness.WholeWorlds.{main_of, tasks_of}
+use Rattle.program_shape.specs.tm_soundness.Numbered.{TaskOf}
+use Rattle.program_shape.proofs.low.tm_soundness.WithSection.{lists_all}
 use Rattle.program_shape.specs.Shape.{Parts, shape_of, number_of}
 use Rattle.program_shape.proofs.TaskNumbers.{number_below, IsNumbered, task_with}
 use Rattle.sound_runs.specs.Sources.{action_of, place_of_next}

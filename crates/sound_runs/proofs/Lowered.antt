@@ -6,36 +6,39 @@ use Rattle.std.specs.Prelude.{cond, Contains, bit_and}
 use Rattle.std.specs.Int.{bit_at, w16}
 use Rattle.std.proofs.lemmas.Nat.{pow_below}
 use Rattle.std.proofs.lemmas.Nat.Bits.{bit_at_and, bit_at_not, bit_at-pow_same}
-use Rattle.tm_cint.specs.declared.Class.{Class}
-use Rattle.tm_terms.specs.declared.places.Place.{Place}
-use Rattle.tm_typed.specs.declared.types.Scalar.{Scalar}
-use Rattle.tm_laid.specs.Layouts.{cell_of}
-use Rattle.concrete_values.specs.declared.values.Pointer.TheVariants as Pointers
-use Rattle.concrete_values.specs.declared.values.Value.{Value}
-use Rattle.concrete_values.specs.declared.values.Value.TheVariants.{Pointer as APointer}
-use Rattle.concrete_values.specs.declared.values.Answer.{Answer}
-use Rattle.concrete_values.specs.declared.values.Answer.TheVariants.{Given, Done}
-use Rattle.concrete_values.specs.declared.actions.Next.{Next}
-use Rattle.concrete_values.specs.declared.actions.Next.TheVariants as Acts
-use Rattle.concrete_values.specs.Values.{truth_value, nothing}
-use Rattle.concrete_values.specs.Actions.{is_of, answer_of}
-use Rattle.concrete_steps.specs.NextAction.{After}
-use Rattle.flow_graph.specs.declared.operations.Operation.{Operation}
-use Rattle.flow_graph.specs.declared.operations.Operation.TheVariants as Op
-use Rattle.flow_graph.specs.declared.graphs.Edge.{Edge}
-use Rattle.flow_graph.specs.Graphs.{Edges, Leaves, Among}
-use Rattle.flow_graph.specs.Operations.{Temps, put_at}
-use Rattle.flow_graph.specs.Runs.{Memory, at_entry}
-use Rattle.flow_graph.specs.Positions.{Drifts, stays, drifts, Asking, GoesOn, Stops, StandsAt}
-use Rattle.mutex_configs.specs.Sets.{answers_of, is_probe, has, without_mutex, held_after, IsOfSixteen}
+use Rattle.layout_laws.specs.tm_cint.declared.Class.{Class}
+use Rattle.layout_laws.specs.tm_terms.declared.places.Place.{Place}
+use Rattle.layout_laws.specs.tm_typed.declared.types.Scalar.{Scalar}
+use Rattle.layout_laws.specs.tm_laid.Layouts.{cell_of}
+use Rattle.program_shape.specs.concrete_values.declared.values.Pointer.TheVariants as Pointers
+use Rattle.program_shape.specs.concrete_values.declared.values.Value.{Value}
+use Rattle.program_shape.specs.concrete_values.declared.values.Value.TheVariants.{Pointer as APointer}
+use Rattle.program_shape.specs.concrete_values.declared.values.Answer.{Answer}
+use Rattle.program_shape.specs.concrete_values.declared.values.Answer.TheVariants.{Given, Done}
+use Rattle.program_shape.specs.concrete_values.declared.actions.Next.{Next}
+use Rattle.program_shape.specs.concrete_values.declared.actions.Next.TheVariants as Acts
+use Rattle.program_shape.specs.concrete_values.Values.{truth_value, nothing}
+use Rattle.program_shape.specs.concrete_values.Actions.{is_of, answer_of}
+use Rattle.program_shape.specs.concrete_steps.NextAction.{After}
+use Rattle.program_shape.specs.flow_graph.declared.operations.Operation.{Operation}
+use Rattle.program_shape.specs.flow_graph.declared.operations.Operation.TheVariants as Op
+use Rattle.program_shape.specs.flow_graph.declared.graphs.Edge.{Edge}
+use Rattle.program_shape.specs.flow_graph.Graphs.{Edges, Leaves, Among}
+use Rattle.program_shape.specs.flow_graph.Operations.{Temps, put_at}
+use Rattle.program_shape.specs.flow_graph.Runs.{Memory, at_entry}
+use Rattle.program_shape.specs.flow_graph.Positions.{Drifts, stays, drifts, Asking, GoesOn, Stops, StandsAt}
+use Rattle.program_shape.specs.mutex_configs.Sets.{answers_of, is_probe, has, without_mutex, held_after, IsOfSixteen}
 use Rattle.next_action_laws.specs.Actions.{Fit, IsProper, IsCell}
-use Rattle.tm_soundness.specs.Shape.{Shape, Operation as Acting, calculation, load, load_any, store, clear, lock}
-use Rattle.tm_soundness.specs.Shape.{unlock}
-use Rattle.tm_soundness.specs.Shape.{yields, probe}
-use Rattle.tm_soundness.specs.GraphWorlds.{IsAccess}
-use Rattle.tm_soundness.specs.Worlds.{a_load, a_load_any, a_store, a_choose, a_clear, a_lock, a_unlock, a_yield}
-use Rattle.tm_soundness.specs.Worlds.{a_probe, a_fault, a_ended, a_spins, Source, Silent as Way, still, along, Arrives}
-use Rattle.tm_soundness.specs.Worlds.{Leaves as Goes, IsLowered}
+use Rattle.program_shape.specs.tm_soundness.Shape.{Shape, Operation as Acting, calculation, load, load_any, store}
+use Rattle.program_shape.specs.tm_soundness.Shape.{clear, lock}
+use Rattle.program_shape.specs.tm_soundness.Shape.{unlock}
+use Rattle.program_shape.specs.tm_soundness.Shape.{yields, probe}
+use Rattle.program_shape.specs.tm_soundness.GraphWorlds.{IsAccess}
+use Rattle.program_shape.specs.tm_soundness.Worlds.{a_load, a_load_any, a_store, a_choose, a_clear, a_lock, a_unlock}
+use Rattle.program_shape.specs.tm_soundness.Worlds.{a_yield}
+use Rattle.program_shape.specs.tm_soundness.Worlds.{a_probe, a_fault, a_ended, a_spins, Source, Silent as Way, still}
+use Rattle.program_shape.specs.tm_soundness.Worlds.{along, Arrives}
+use Rattle.program_shape.specs.tm_soundness.Worlds.{Leaves as Goes, IsLowered}
 use Rattle.program_shape.specs.Shape.{Parts, Task, Node, Copy, Has, IsPartOf, Clears, HasType, MayChoose, Does}
 use Rattle.program_shape.specs.Shape.{by_itself, by_choice, operation_of, place_at, shape_of}
 use Rattle.sound_runs.specs.Sources.{action_of, place_of_next, Sets, sets_with, sets_after, Comes}

@@ -5,40 +5,46 @@ use Rattle.std.proofs.Common.{◌++◌, length, if◌then◌else◌, arith}
 use Rattle.std.specs.Prelude.{ℤ, cond, nat_lt, ◌==◌}
 use Rattle.std.proofs.lemmas.Bool.{lt-ltb, ltb-true, eq-eqb, ne_eqb}
 use native.Mathlib.Decide.{ℕ_discrete}
-use Rattle.tm_terms.specs.declared.places.Place.{Place}
-use Rattle.tm_typed.specs.declared.types.Scalar.{Scalar}
-use Rattle.tm_typed.specs.declared.types.Scalar.TheVariants as Scalars
-use Rattle.tm_laid.specs.Layouts.{LaidTree, cell_at, cell_of, abstract_at}
-use Rattle.concrete_values.specs.declared.values.Value.{Value}
-use Rattle.concrete_values.specs.declared.values.Value.TheVariants.{Number}
-use Rattle.concrete_values.specs.declared.values.Answer.{Answer}
-use Rattle.concrete_values.specs.declared.values.Answer.TheVariants as Answers
-use Rattle.concrete_values.specs.declared.actions.Next.{Next}
-use Rattle.concrete_values.specs.declared.actions.Next.TheVariants as Acts
-use Rattle.concrete_values.specs.Values.{truth_value}
-use Rattle.concrete_values.specs.Actions.{is_of, is_between}
-use Rattle.concrete_steps.specs.declared.worlds.Content.{Content}
-use Rattle.concrete_steps.specs.declared.worlds.Content.TheVariants.{Is}
-use Rattle.concrete_steps.specs.declared.worlds.Status.{Status}
-use Rattle.concrete_steps.specs.declared.worlds.Status.TheVariants.{Waiting, Ready, Blocked, Done}
-use Rattle.concrete_steps.specs.NextAction.{next}
-use Rattle.concrete_steps.specs.Worlds.{Standing, World, standing, answers_of, next_at, holds, is_ended, is_blocked_on}
-use Rattle.concrete_steps.specs.Worlds.{with_status, woken, cleared_content, is_part}
-use Rattle.concrete_steps.specs.Moves.{status_of, content_of, SameContents, OthersStand, settled_status, Turn, Reads}
-use Rattle.concrete_steps.specs.Moves.{reads_value, reads_open, reads_any, held_with}
-use Rattle.flow_graph.specs.Graphs.{Edges}
-use Rattle.mutex_configs.specs.Sets.{has}
+use Rattle.layout_laws.specs.tm_terms.declared.places.Place.{Place}
+use Rattle.layout_laws.specs.tm_typed.declared.types.Scalar.{Scalar}
+use Rattle.layout_laws.specs.tm_typed.declared.types.Scalar.TheVariants as Scalars
+use Rattle.layout_laws.specs.tm_laid.Layouts.{LaidTree, cell_at, cell_of, abstract_at}
+use Rattle.program_shape.specs.concrete_values.declared.values.Value.{Value}
+use Rattle.program_shape.specs.concrete_values.declared.values.Value.TheVariants.{Number}
+use Rattle.program_shape.specs.concrete_values.declared.values.Answer.{Answer}
+use Rattle.program_shape.specs.concrete_values.declared.values.Answer.TheVariants as Answers
+use Rattle.program_shape.specs.concrete_values.declared.actions.Next.{Next}
+use Rattle.program_shape.specs.concrete_values.declared.actions.Next.TheVariants as Acts
+use Rattle.program_shape.specs.concrete_values.Values.{truth_value}
+use Rattle.program_shape.specs.concrete_values.Actions.{is_of, is_between}
+use Rattle.program_shape.specs.concrete_steps.declared.worlds.Content.{Content}
+use Rattle.program_shape.specs.concrete_steps.declared.worlds.Content.TheVariants.{Is}
+use Rattle.program_shape.specs.concrete_steps.declared.worlds.Status.{Status}
+use Rattle.program_shape.specs.concrete_steps.declared.worlds.Status.TheVariants.{Waiting, Ready, Blocked, Done}
+use Rattle.program_shape.specs.concrete_steps.NextAction.{next}
+use Rattle.program_shape.specs.concrete_steps.Worlds.{Standing, World, standing, answers_of, next_at, holds, is_ended}
+use Rattle.program_shape.specs.concrete_steps.Worlds.{is_blocked_on}
+use Rattle.program_shape.specs.concrete_steps.Worlds.{with_status, woken, cleared_content, is_part}
+use Rattle.program_shape.specs.concrete_steps.Moves.{status_of, content_of, SameContents, OthersStand, settled_status}
+use Rattle.program_shape.specs.concrete_steps.Moves.{Turn, Reads}
+use Rattle.program_shape.specs.concrete_steps.Moves.{reads_value, reads_open, reads_any, held_with}
+use Rattle.program_shape.specs.flow_graph.Graphs.{Edges}
+use Rattle.program_shape.specs.mutex_configs.Sets.{has}
 use Rattle.next_action_laws.specs.Actions.{IsCell}
 use Rattle.next_action_laws.specs.Worlds.{HoldsTypes}
-use Rattle.tm_soundness.specs.Shape.{Shape, Content as AContent, given, open_cell, Reads as MayRead, reads_given}
-use Rattle.tm_soundness.specs.Shape.{reads_open as may_read_open}
-use Rattle.tm_soundness.specs.GraphWorlds.{ready, blocked}
-use Rattle.tm_soundness.specs.Worlds.{Source, World as AWorld, settled, released, SameHeld as AlikeHeld, OthersStay}
-use Rattle.tm_soundness.specs.Worlds.{SameContent, Turn as ATurn, Step, step_loads, step_loads_any, step_stores}
-use Rattle.tm_soundness.specs.Worlds.{step_chooses, step_clears, step_locks, step_unlocks, step_yields, step_finds_held}
-use Rattle.tm_soundness.specs.Worlds.{step_finds_free, IsHeldFree}
-use Rattle.tm_soundness.specs.Numbered.{TaskOf}
-use Rattle.tm_soundness.proofs.FromRows.{pick_yes, pick_no}
+use Rattle.program_shape.specs.tm_soundness.Shape.{Shape, Content as AContent, given, open_cell, Reads as MayRead}
+use Rattle.program_shape.specs.tm_soundness.Shape.{reads_given}
+use Rattle.program_shape.specs.tm_soundness.Shape.{reads_open as may_read_open}
+use Rattle.program_shape.specs.tm_soundness.GraphWorlds.{ready, blocked}
+use Rattle.program_shape.specs.tm_soundness.Worlds.{Source, World as AWorld, settled, released, SameHeld as AlikeHeld}
+use Rattle.program_shape.specs.tm_soundness.Worlds.{OthersStay}
+use Rattle.program_shape.specs.tm_soundness.Worlds.{SameContent, Turn as ATurn, Step, step_loads, step_loads_any}
+use Rattle.program_shape.specs.tm_soundness.Worlds.{step_stores}
+use Rattle.program_shape.specs.tm_soundness.Worlds.{step_chooses, step_clears, step_locks, step_unlocks, step_yields}
+use Rattle.program_shape.specs.tm_soundness.Worlds.{step_finds_held}
+use Rattle.program_shape.specs.tm_soundness.Worlds.{step_finds_free, IsHeldFree}
+use Rattle.program_shape.specs.tm_soundness.Numbered.{TaskOf}
+use Rattle.program_shape.proofs.low.tm_soundness.FromRows.{pick_yes, pick_no}
 use Rattle.program_equations.specs.Readings.{read_layout}
 use Rattle.program_shape.specs.Shape.{Parts, shape_of, Has, MayChoose, IsPartOf, abstract_of_cell, cleared_as}
 use Rattle.sound_runs.specs.Sources.{source_of, action_of, LaysCell, LaysCells}

@@ -4,7 +4,7 @@ use Rattle.std.proofs.Common.{false, arith, eqb}
 use Rattle.std.specs.Prelude.{cond}
 use Rattle.std.specs.Int.{bit_at}
 use Rattle.std.proofs.lemmas.Nat.Bits.{bit_at_lowest, bit_at-suc}
-use Rattle.mutex_configs.specs.Sets.{has}
+use Rattle.program_shape.specs.mutex_configs.Sets.{has}
 use Rattle.sound_runs.specs.Images.{set_below, set_of}
 
 abbrev bit : Bool → ℕ

@@ -2,18 +2,18 @@
 -- analysis.
 use Rattle.std.proofs.Common.{◌≡◌, sym, ap, subst, ◌∙◌, ℕ, ◌<◌, length, Some}
 use Rattle.std.proofs.Common.{None, arith}
-use Rattle.tm_cint.specs.declared.Class.{Class}
-use Rattle.tm_cint.specs.declared.Class.TheVariants as Classes
-use Rattle.tm_terms.specs.declared.places.Place.{Place}
-use Rattle.tm_laid.specs.Layouts.{LaidTree, path_at}
-use Rattle.tm_laid.specs.Paths.{listed}
-use Rattle.concrete_steps.specs.NextAction.{next}
-use Rattle.concrete_steps.specs.Occurring.{Occurs}
-use Rattle.flow_graph.specs.Graphs.{Edges}
-use Rattle.tm_soundness.specs.Tables.{Tables}
-use Rattle.tm_soundness.specs.Section.{alone}
-use Rattle.tm_soundness.specs.Worlds.{IsLowered}
-use Rattle.tm_soundness.specs.Numbered.{TaskOf}
+use Rattle.layout_laws.specs.tm_cint.declared.Class.{Class}
+use Rattle.layout_laws.specs.tm_cint.declared.Class.TheVariants as Classes
+use Rattle.layout_laws.specs.tm_terms.declared.places.Place.{Place}
+use Rattle.layout_laws.specs.tm_laid.Layouts.{LaidTree, path_at}
+use Rattle.layout_laws.specs.tm_laid.Paths.{listed}
+use Rattle.program_shape.specs.concrete_steps.NextAction.{next}
+use Rattle.program_shape.specs.concrete_steps.Occurring.{Occurs}
+use Rattle.program_shape.specs.flow_graph.Graphs.{Edges}
+use Rattle.program_shape.specs.tm_soundness.Tables.{Tables}
+use Rattle.program_shape.specs.tm_soundness.Section.{alone}
+use Rattle.program_shape.specs.tm_soundness.Worlds.{IsLowered}
+use Rattle.program_shape.specs.tm_soundness.Numbered.{TaskOf}
 use Rattle.program_equations.specs.Readings.{read_layout}
 use Rattle.program_shape.specs.Shape.{Parts, number_of, IsOwned}
 use Rattle.program_shape.proofs.TaskNumbers.{number_below}

@@ -3,29 +3,31 @@ use Rattle.std.proofs.Common.{◌≡◌, refl, ap, subst, ◌∙◌, ℕ, Bool, 
 use Rattle.std.proofs.Common.{None}
 use Rattle.std.proofs.Common.{◌&&◌, is_some, if◌then◌else◌, length}
 use Rattle.std.specs.Prelude.{ℤ, pos, ◌*ℤ◌, Ok, Err}
-use Rattle.tm_cint.specs.declared.Class.TheVariants as Classes
-use Rattle.tm_typed.specs.declared.types.Scalar.{Scalar}
-use Rattle.tm_typed.specs.declared.types.Scalar.TheVariants as Scalars
-use Rattle.tm_laid.specs.Layouts.{LaidTree, object_at}
-use Rattle.concrete_values.specs.declared.values.Pointer.{Pointer}
-use Rattle.concrete_values.specs.declared.values.Pointer.TheVariants as Pointers
-use Rattle.concrete_values.specs.declared.values.Value.{Value}
-use Rattle.concrete_values.specs.declared.values.Value.TheVariants.{Number, Pointer as APointer}
-use Rattle.concrete_values.specs.declared.values.Answer.{Answer}
-use Rattle.concrete_values.specs.declared.values.Answer.TheVariants.{Given, Done}
-use Rattle.concrete_values.specs.declared.actions.Next.{Next}
-use Rattle.concrete_values.specs.declared.actions.Next.TheVariants as Acts
-use Rattle.concrete_values.specs.Values.{pointer_of, number_of}
-use Rattle.concrete_values.specs.Pointers.{size_of, pointer_in, shifted, base, part, element, moved, is_dereferenceable}
-use Rattle.concrete_values.specs.Pointers.{dereferenced, or_invalid, is_subscript, or_class, directed}
-use Rattle.concrete_values.specs.Actions.{clear_at, is_of, value_if, answer_of}
-use Rattle.concrete_steps.specs.NextAction.{After}
-use Rattle.flow_graph.specs.declared.operations.Operation.{Operation}
-use Rattle.flow_graph.specs.declared.operations.Operation.TheVariants as Op
-use Rattle.flow_graph.specs.Graphs.{Edges, leaving}
-use Rattle.flow_graph.specs.Operations.{Temps, given, given_by, effect_by, gives, asks, doing, effect}
-use Rattle.flow_graph.specs.Runs.{Memory, move_by, move_along, move, Runs, goes, spins, halts, awaits, answered}
-use Rattle.flow_graph.specs.Runs.{unfit}
+use Rattle.layout_laws.specs.tm_cint.declared.Class.TheVariants as Classes
+use Rattle.layout_laws.specs.tm_typed.declared.types.Scalar.{Scalar}
+use Rattle.layout_laws.specs.tm_typed.declared.types.Scalar.TheVariants as Scalars
+use Rattle.layout_laws.specs.tm_laid.Layouts.{LaidTree, object_at}
+use Rattle.program_shape.specs.concrete_values.declared.values.Pointer.{Pointer}
+use Rattle.program_shape.specs.concrete_values.declared.values.Pointer.TheVariants as Pointers
+use Rattle.program_shape.specs.concrete_values.declared.values.Value.{Value}
+use Rattle.program_shape.specs.concrete_values.declared.values.Value.TheVariants.{Number, Pointer as APointer}
+use Rattle.program_shape.specs.concrete_values.declared.values.Answer.{Answer}
+use Rattle.program_shape.specs.concrete_values.declared.values.Answer.TheVariants.{Given, Done}
+use Rattle.program_shape.specs.concrete_values.declared.actions.Next.{Next}
+use Rattle.program_shape.specs.concrete_values.declared.actions.Next.TheVariants as Acts
+use Rattle.program_shape.specs.concrete_values.Values.{pointer_of, number_of}
+use Rattle.program_shape.specs.concrete_values.Pointers.{size_of, pointer_in, shifted, base, part, element, moved}
+use Rattle.program_shape.specs.concrete_values.Pointers.{is_dereferenceable}
+use Rattle.program_shape.specs.concrete_values.Pointers.{dereferenced, or_invalid, is_subscript, or_class, directed}
+use Rattle.program_shape.specs.concrete_values.Actions.{clear_at, is_of, value_if, answer_of}
+use Rattle.program_shape.specs.concrete_steps.NextAction.{After}
+use Rattle.program_shape.specs.flow_graph.declared.operations.Operation.{Operation}
+use Rattle.program_shape.specs.flow_graph.declared.operations.Operation.TheVariants as Op
+use Rattle.program_shape.specs.flow_graph.Graphs.{Edges, leaving}
+use Rattle.program_shape.specs.flow_graph.Operations.{Temps, given, given_by, effect_by, gives, asks, doing, effect}
+use Rattle.program_shape.specs.flow_graph.Runs.{Memory, move_by, move_along, move, Runs, goes, spins, halts, awaits}
+use Rattle.program_shape.specs.flow_graph.Runs.{answered}
+use Rattle.program_shape.specs.flow_graph.Runs.{unfit}
 use Rattle.next_action_laws.specs.Actions.{Fit, IsBodyPath, MayUse, IsCell, IsOwn, IsProper}
 use Rattle.program_equations.specs.Readings.{read_layout}
 use Rattle.program_equations.specs.laws.ReadAlike.{stands_read, alive_read}

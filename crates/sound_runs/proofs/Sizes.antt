@@ -4,38 +4,42 @@ use Rattle.std.proofs.Common.{[], ◌∷◌, ◌++◌}
 use Rattle.std.proofs.Common.{◌&&◌, length, map, get_or, drop, if◌then◌else◌, slice_get, slice_set, Option, Some}
 use Rattle.std.proofs.Common.{None, arith, ℤ}
 use Rattle.std.proofs.lemmas.List.{length-drop, length-append, length-map}
-use Rattle.tm_cint.specs.declared.Class.TheVariants as Classes
-use Rattle.tm_cint.specs.Conversions.{is_zero}
-use Rattle.tm_terms.specs.declared.places.Place.{Place}
-use Rattle.tm_typed.specs.declared.types.Scalar.{Scalar}
-use Rattle.tm_typed.specs.declared.files.TypedTask.{TypedTask}
-use Rattle.tm_laid.specs.Layouts.{LaidTree, cell_of, cell_at}
-use Rattle.tm_laid.specs.declared.cells.LaidCell.{LaidCell}
-use Rattle.concrete_values.specs.declared.values.Value.{Value}
-use Rattle.concrete_values.specs.declared.values.Value.TheVariants.{Number}
-use Rattle.concrete_values.specs.declared.values.Answer.{Answer}
-use Rattle.concrete_values.specs.declared.values.Answer.TheVariants as Answers
-use Rattle.concrete_values.specs.declared.actions.Next.{Next}
-use Rattle.concrete_values.specs.declared.actions.Next.TheVariants as Acts
-use Rattle.concrete_values.specs.Values.{truth_value}
-use Rattle.concrete_values.specs.Actions.{is_of, is_between}
-use Rattle.concrete_steps.specs.declared.worlds.Content.{Content}
-use Rattle.concrete_steps.specs.declared.worlds.Content.TheVariants.{Open, Is}
-use Rattle.concrete_steps.specs.declared.worlds.Status.TheVariants.{Waiting, Ready, Blocked, Done}
-use Rattle.concrete_steps.specs.declared.worlds.Choice.{Choice}
-use Rattle.concrete_steps.specs.declared.worlds.Choice.TheVariants.{Wake, Run}
-use Rattle.concrete_steps.specs.NextAction.{next}
-use Rattle.concrete_steps.specs.Worlds.{Standing, World, Outcome, next_at, holds, is_ready, is_waiting, is_ended}
-use Rattle.concrete_steps.specs.Worlds.{no_mutex}
-use Rattle.concrete_steps.specs.Worlds.{is_section, with_status, with_mutex, settled, refused, did, halted, stand, told}
-use Rattle.concrete_steps.specs.Worlds.{answered, each_from, is_part, cleared_content, cleared, woken, freed}
-use Rattle.concrete_steps.specs.Worlds.{none_above}
-use Rattle.concrete_steps.specs.Worlds.{is_taken, load_step, store_step, lock_step, unlock_step}
-use Rattle.concrete_steps.specs.Worlds.{yielded}
-use Rattle.concrete_steps.specs.Worlds.{act_step, run_step, tasks_may_run, wake_step, chosen_step, step, start}
-use Rattle.concrete_steps.specs.Worlds.{start_tasks, start_section}
-use Rattle.concrete_steps.specs.Worlds.{is_blocked_on, no_standing, initial_content}
-use Rattle.concrete_steps.specs.Occurring.{IsReached, at_start, by_step}
+use Rattle.layout_laws.specs.tm_cint.declared.Class.TheVariants as Classes
+use Rattle.layout_laws.specs.tm_cint.Conversions.{is_zero}
+use Rattle.layout_laws.specs.tm_terms.declared.places.Place.{Place}
+use Rattle.layout_laws.specs.tm_typed.declared.types.Scalar.{Scalar}
+use Rattle.layout_laws.specs.tm_typed.declared.files.TypedTask.{TypedTask}
+use Rattle.layout_laws.specs.tm_laid.Layouts.{LaidTree, cell_of, cell_at}
+use Rattle.layout_laws.specs.tm_laid.declared.cells.LaidCell.{LaidCell}
+use Rattle.program_shape.specs.concrete_values.declared.values.Value.{Value}
+use Rattle.program_shape.specs.concrete_values.declared.values.Value.TheVariants.{Number}
+use Rattle.program_shape.specs.concrete_values.declared.values.Answer.{Answer}
+use Rattle.program_shape.specs.concrete_values.declared.values.Answer.TheVariants as Answers
+use Rattle.program_shape.specs.concrete_values.declared.actions.Next.{Next}
+use Rattle.program_shape.specs.concrete_values.declared.actions.Next.TheVariants as Acts
+use Rattle.program_shape.specs.concrete_values.Values.{truth_value}
+use Rattle.program_shape.specs.concrete_values.Actions.{is_of, is_between}
+use Rattle.program_shape.specs.concrete_steps.declared.worlds.Content.{Content}
+use Rattle.program_shape.specs.concrete_steps.declared.worlds.Content.TheVariants.{Open, Is}
+use Rattle.program_shape.specs.concrete_steps.declared.worlds.Status.TheVariants.{Waiting, Ready, Blocked, Done}
+use Rattle.program_shape.specs.concrete_steps.declared.worlds.Choice.{Choice}
+use Rattle.program_shape.specs.concrete_steps.declared.worlds.Choice.TheVariants.{Wake, Run}
+use Rattle.program_shape.specs.concrete_steps.NextAction.{next}
+use Rattle.program_shape.specs.concrete_steps.Worlds.{Standing, World, Outcome, next_at, holds, is_ready, is_waiting}
+use Rattle.program_shape.specs.concrete_steps.Worlds.{is_ended}
+use Rattle.program_shape.specs.concrete_steps.Worlds.{no_mutex}
+use Rattle.program_shape.specs.concrete_steps.Worlds.{is_section, with_status, with_mutex, settled, refused, did}
+use Rattle.program_shape.specs.concrete_steps.Worlds.{halted, stand, told}
+use Rattle.program_shape.specs.concrete_steps.Worlds.{answered, each_from, is_part, cleared_content, cleared, woken}
+use Rattle.program_shape.specs.concrete_steps.Worlds.{freed}
+use Rattle.program_shape.specs.concrete_steps.Worlds.{none_above}
+use Rattle.program_shape.specs.concrete_steps.Worlds.{is_taken, load_step, store_step, lock_step, unlock_step}
+use Rattle.program_shape.specs.concrete_steps.Worlds.{yielded}
+use Rattle.program_shape.specs.concrete_steps.Worlds.{act_step, run_step, tasks_may_run, wake_step, chosen_step, step}
+use Rattle.program_shape.specs.concrete_steps.Worlds.{start}
+use Rattle.program_shape.specs.concrete_steps.Worlds.{start_tasks, start_section}
+use Rattle.program_shape.specs.concrete_steps.Worlds.{is_blocked_on, no_standing, initial_content}
+use Rattle.program_shape.specs.concrete_steps.Occurring.{IsReached, at_start, by_step}
 
 -- each of the tasks has places for so many mutexes
 abbrev pub HavePlaces : ℕ → List Standing → Type 0

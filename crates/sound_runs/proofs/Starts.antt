@@ -4,21 +4,23 @@ use Rattle.std.proofs.Common.{[], ◌∷◌}
 use Rattle.std.proofs.Common.{◌++◌, length, map, get_or, if◌then◌else◌, slice_get, Option, Some, None, arith}
 use Rattle.std.proofs.Math.ListN.{get_or-map}
 use Rattle.std.proofs.lemmas.List.{length-append, length-map}
-use Rattle.tm_typed.specs.declared.files.TypedTask.{TypedTask}
-use Rattle.tm_typed.specs.Files.{TypedFileTree}
-use Rattle.tm_laid.specs.Layouts.{LaidTree, layout_of}
-use Rattle.tm_laid.specs.Paths.{listed}
-use Rattle.concrete_values.specs.declared.values.Answer.{Answer}
-use Rattle.concrete_steps.specs.declared.worlds.Status.{Status}
-use Rattle.concrete_steps.specs.declared.worlds.Status.TheVariants.{Waiting, Ready, Blocked, Done}
-use Rattle.concrete_steps.specs.NextAction.{next}
-use Rattle.concrete_steps.specs.Worlds.{Standing, World, holds, is_ended, no_mutex, is_section, is_done, start}
-use Rattle.concrete_steps.specs.Worlds.{start_standing, start_tasks, start_section, start_standings, is_section_done}
-use Rattle.concrete_steps.specs.Worlds.{no_standing, standing, answers_of, tasks_may_run}
-use Rattle.concrete_steps.specs.Moves.{status_of, settled_status}
-use Rattle.concrete_steps.specs.Occurring.{IsReached}
-use Rattle.concrete_steps.proofs.Reached.{none_in}
-use Rattle.concrete_steps.proofs.Moving.{priorities_stay}
+use Rattle.layout_laws.specs.tm_typed.declared.files.TypedTask.{TypedTask}
+use Rattle.layout_laws.specs.tm_typed.Files.{TypedFileTree}
+use Rattle.layout_laws.specs.tm_laid.Layouts.{LaidTree, layout_of}
+use Rattle.layout_laws.specs.tm_laid.Paths.{listed}
+use Rattle.program_shape.specs.concrete_values.declared.values.Answer.{Answer}
+use Rattle.program_shape.specs.concrete_steps.declared.worlds.Status.{Status}
+use Rattle.program_shape.specs.concrete_steps.declared.worlds.Status.TheVariants.{Waiting, Ready, Blocked, Done}
+use Rattle.program_shape.specs.concrete_steps.NextAction.{next}
+use Rattle.program_shape.specs.concrete_steps.Worlds.{Standing, World, holds, is_ended, no_mutex, is_section, is_done}
+use Rattle.program_shape.specs.concrete_steps.Worlds.{start}
+use Rattle.program_shape.specs.concrete_steps.Worlds.{start_standing, start_tasks, start_section, start_standings}
+use Rattle.program_shape.specs.concrete_steps.Worlds.{is_section_done}
+use Rattle.program_shape.specs.concrete_steps.Worlds.{no_standing, standing, answers_of, tasks_may_run}
+use Rattle.program_shape.specs.concrete_steps.Moves.{status_of, settled_status}
+use Rattle.program_shape.specs.concrete_steps.Occurring.{IsReached}
+use Rattle.program_shape.proofs.low.concrete_steps.Reached.{none_in}
+use Rattle.program_shape.proofs.low.concrete_steps.Moving.{priorities_stay}
 use Rattle.lowering_laws.specs.LaidFiles.{IsLaidFile}
 use Rattle.program_equations.specs.Programs.{priorities_of}
 use Rattle.sound_runs.proofs.Layouts.{of_layout}

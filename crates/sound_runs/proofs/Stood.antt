@@ -7,27 +7,28 @@ use Rattle.std.specs.Prelude.{ℤ, cond, nat_lt}
 use Rattle.std.specs.Int.{bit_at}
 use Rattle.std.proofs.lemmas.Bool.{lt-ltb}
 use Rattle.std.proofs.lemmas.Nat.Bits.{bit_at_or, bit_at-pow_same}
-use Rattle.tm_terms.specs.declared.places.Place.{Place}
-use Rattle.tm_typed.specs.declared.types.Scalar.{Scalar}
-use Rattle.tm_laid.specs.Layouts.{LaidTree, cell_at, cell_of, abstract_at, object_at, abstract_of}
-use Rattle.concrete_values.specs.declared.values.Value.{Value}
-use Rattle.concrete_values.specs.declared.values.Value.TheVariants.{Number, Pointer as APointer}
-use Rattle.concrete_values.specs.declared.values.Answer.{Answer}
-use Rattle.concrete_values.specs.declared.values.Answer.TheVariants.{Given, Done}
-use Rattle.concrete_values.specs.declared.actions.Next.{Next}
-use Rattle.concrete_values.specs.declared.actions.Next.TheVariants as Acts
-use Rattle.concrete_values.specs.Values.{truth_value, nothing}
-use Rattle.concrete_values.specs.Actions.{is_of, is_between, answer_of, value_if}
-use Rattle.concrete_steps.specs.NextAction.{After}
-use Rattle.flow_graph.specs.declared.operations.Operation.{Operation}
-use Rattle.flow_graph.specs.declared.operations.Operation.TheVariants as Op
-use Rattle.flow_graph.specs.Operations.{Temps}
-use Rattle.mutex_configs.specs.Sets.{has, with_mutex, held_after, found_after, IsOfSixteen}
+use Rattle.layout_laws.specs.tm_terms.declared.places.Place.{Place}
+use Rattle.layout_laws.specs.tm_typed.declared.types.Scalar.{Scalar}
+use Rattle.layout_laws.specs.tm_laid.Layouts.{LaidTree, cell_at, cell_of, abstract_at, object_at, abstract_of}
+use Rattle.program_shape.specs.concrete_values.declared.values.Value.{Value}
+use Rattle.program_shape.specs.concrete_values.declared.values.Value.TheVariants.{Number, Pointer as APointer}
+use Rattle.program_shape.specs.concrete_values.declared.values.Answer.{Answer}
+use Rattle.program_shape.specs.concrete_values.declared.values.Answer.TheVariants.{Given, Done}
+use Rattle.program_shape.specs.concrete_values.declared.actions.Next.{Next}
+use Rattle.program_shape.specs.concrete_values.declared.actions.Next.TheVariants as Acts
+use Rattle.program_shape.specs.concrete_values.Values.{truth_value, nothing}
+use Rattle.program_shape.specs.concrete_values.Actions.{is_of, is_between, answer_of, value_if}
+use Rattle.program_shape.specs.concrete_steps.NextAction.{After}
+use Rattle.program_shape.specs.flow_graph.declared.operations.Operation.{Operation}
+use Rattle.program_shape.specs.flow_graph.declared.operations.Operation.TheVariants as Op
+use Rattle.program_shape.specs.flow_graph.Operations.{Temps}
+use Rattle.program_shape.specs.mutex_configs.Sets.{has, with_mutex, held_after, found_after, IsOfSixteen}
 use Rattle.next_action_laws.specs.Actions.{Fit, IsCell, MayUse}
-use Rattle.tm_soundness.specs.Shape.{lock}
-use Rattle.tm_soundness.specs.Shape.{unlock}
-use Rattle.tm_soundness.specs.Worlds.{Action, a_load, a_load_any, a_store, a_choose, a_clear, a_lock, a_unlock, a_yield}
-use Rattle.tm_soundness.specs.Worlds.{a_probe, a_fault, a_ended, a_spins}
+use Rattle.program_shape.specs.tm_soundness.Shape.{lock}
+use Rattle.program_shape.specs.tm_soundness.Shape.{unlock}
+use Rattle.program_shape.specs.tm_soundness.Worlds.{Action, a_load, a_load_any, a_store, a_choose, a_clear, a_lock}
+use Rattle.program_shape.specs.tm_soundness.Worlds.{a_unlock, a_yield}
+use Rattle.program_shape.specs.tm_soundness.Worlds.{a_probe, a_fault, a_ended, a_spins}
 use Rattle.program_shape.specs.Shape.{Parts, IsShared, IsOwned}
 use Rattle.program_shape.specs.Shape.{MayChoose, operation_of, shape_of}
 use Rattle.program_shape.specs.Shape.{abstract_of_cell}

@@ -4,32 +4,32 @@ use Rattle.std.proofs.Common.{List, [], ◌∷◌}
 use Rattle.std.proofs.Common.{Option, Some, None, Result, Ok, Err, is_some}
 use Rattle.std.specs.Prelude.{◌==◌}
 use Rattle.std.proofs.lemmas.Bool.{eq-eqb}
-use Rattle.tm_cint.specs.declared.Class.{Class}
-use Rattle.tm_terms.specs.declared.places.Place.{Place}
-use Rattle.tm_typed.specs.declared.types.Scalar.{Scalar}
-use Rattle.tm_laid.specs.Layouts.{LaidTree}
-use Rattle.concrete_values.specs.declared.values.Pointer.TheVariants as Pointers
-use Rattle.concrete_values.specs.declared.values.Value.{Value}
-use Rattle.concrete_values.specs.declared.values.Value.TheVariants.{Number, Pointer as APointer}
-use Rattle.concrete_values.specs.declared.values.Answer.{Answer}
-use Rattle.concrete_values.specs.declared.actions.Next.{Next}
-use Rattle.concrete_values.specs.declared.actions.Next.TheVariants as Acts
-use Rattle.concrete_values.specs.Values.{pointer_of}
-use Rattle.concrete_values.specs.Operators.{unary, binary}
-use Rattle.concrete_values.specs.Pointers.{element, moved, dereferenced, usable, size_of}
-use Rattle.concrete_values.specs.Actions.{load_at, store_at, clear_at}
-use Rattle.concrete_steps.specs.NextAction.{After}
-use Rattle.flow_graph.specs.declared.operations.Into.{Into}
-use Rattle.flow_graph.specs.declared.operations.Operation.{Operation}
-use Rattle.flow_graph.specs.declared.operations.Operation.TheVariants as Op
-use Rattle.flow_graph.specs.declared.graphs.Edge.{Edge}
-use Rattle.flow_graph.specs.Graphs.{Edges, Among, leaving, Leaves, IsSure, IsOpposite, IsFork, IsPlain}
-use Rattle.flow_graph.specs.Operations.{Temps, holds, put_at, given_by, lets_through, effect_by, Silent}
-use Rattle.flow_graph.specs.Operations.{Asks, Breaks, effect}
-use Rattle.flow_graph.specs.Runs.{Memory}
-use Rattle.flow_graph.specs.Positions.{Asking, Stops, asking, breaking, spinning, ending}
-use Rattle.mutex_configs.specs.Sets.{held_after, found_after}
-use Rattle.tm_soundness.specs.Shape.{calculation}
+use Rattle.layout_laws.specs.tm_cint.declared.Class.{Class}
+use Rattle.layout_laws.specs.tm_terms.declared.places.Place.{Place}
+use Rattle.layout_laws.specs.tm_typed.declared.types.Scalar.{Scalar}
+use Rattle.layout_laws.specs.tm_laid.Layouts.{LaidTree}
+use Rattle.program_shape.specs.concrete_values.declared.values.Pointer.TheVariants as Pointers
+use Rattle.program_shape.specs.concrete_values.declared.values.Value.{Value}
+use Rattle.program_shape.specs.concrete_values.declared.values.Value.TheVariants.{Number, Pointer as APointer}
+use Rattle.program_shape.specs.concrete_values.declared.values.Answer.{Answer}
+use Rattle.program_shape.specs.concrete_values.declared.actions.Next.{Next}
+use Rattle.program_shape.specs.concrete_values.declared.actions.Next.TheVariants as Acts
+use Rattle.program_shape.specs.concrete_values.Values.{pointer_of}
+use Rattle.program_shape.specs.concrete_values.Operators.{unary, binary}
+use Rattle.program_shape.specs.concrete_values.Pointers.{element, moved, dereferenced, usable, size_of}
+use Rattle.program_shape.specs.concrete_values.Actions.{load_at, store_at, clear_at}
+use Rattle.program_shape.specs.concrete_steps.NextAction.{After}
+use Rattle.program_shape.specs.flow_graph.declared.operations.Into.{Into}
+use Rattle.program_shape.specs.flow_graph.declared.operations.Operation.{Operation}
+use Rattle.program_shape.specs.flow_graph.declared.operations.Operation.TheVariants as Op
+use Rattle.program_shape.specs.flow_graph.declared.graphs.Edge.{Edge}
+use Rattle.program_shape.specs.flow_graph.Graphs.{Edges, Among, leaving, Leaves, IsSure, IsOpposite, IsFork, IsPlain}
+use Rattle.program_shape.specs.flow_graph.Operations.{Temps, holds, put_at, given_by, lets_through, effect_by, Silent}
+use Rattle.program_shape.specs.flow_graph.Operations.{Asks, Breaks, effect}
+use Rattle.program_shape.specs.flow_graph.Runs.{Memory}
+use Rattle.program_shape.specs.flow_graph.Positions.{Asking, Stops, asking, breaking, spinning, ending}
+use Rattle.program_shape.specs.mutex_configs.Sets.{held_after, found_after}
+use Rattle.program_shape.specs.tm_soundness.Shape.{calculation}
 use Rattle.program_shape.specs.Shape.{operation_of, place_at}
 use Rattle.sound_runs.specs.Sources.{place_of_next}
 

@@ -4,34 +4,36 @@ use Rattle.std.proofs.Common.{◌≡◌, ◌⊎◌, inl, inr, refl, sym, ap, sub
 use Rattle.std.proofs.Common.{Bool, true, false}
 use Rattle.std.proofs.Common.{[], length, get_or, Some, None, arith}
 use Rattle.std.specs.Prelude.{IsTrue}
-use Rattle.tm_cint.specs.declared.Class.{Class}
-use Rattle.tm_cint.specs.declared.Class.TheVariants as Classes
-use Rattle.tm_terms.specs.declared.places.Place.{Place}
-use Rattle.tm_typed.specs.declared.types.Scalar.{Scalar}
-use Rattle.tm_laid.specs.Layouts.{LaidTree, cell_of}
-use Rattle.tm_laid.specs.Paths.{listed}
-use Rattle.concrete_values.specs.declared.actions.Next.{Next}
-use Rattle.concrete_values.specs.declared.actions.Next.TheVariants as Acts
-use Rattle.concrete_steps.specs.declared.worlds.Status.TheVariants.{Waiting}
-use Rattle.concrete_steps.specs.declared.worlds.Choice.{Choice}
-use Rattle.concrete_steps.specs.declared.worlds.Choice.TheVariants.{Wake, Run}
-use Rattle.concrete_steps.specs.NextAction.{next}
-use Rattle.concrete_steps.specs.Worlds.{World, standing, answers_of, next_at, holds, is_taken, start, step}
-use Rattle.concrete_steps.specs.Occurring.{IsReached, at_start, by_step, IsAccess, a_load_there}
-use Rattle.concrete_steps.specs.Occurring.{a_store_there}
-use Rattle.concrete_steps.specs.Occurring.{IsRace, Occurs}
-use Rattle.concrete_steps.proofs.Moving.{steps_are_moves}
-use Rattle.flow_graph.specs.Graphs.{Edges}
+use Rattle.layout_laws.specs.tm_cint.declared.Class.{Class}
+use Rattle.layout_laws.specs.tm_cint.declared.Class.TheVariants as Classes
+use Rattle.layout_laws.specs.tm_terms.declared.places.Place.{Place}
+use Rattle.layout_laws.specs.tm_typed.declared.types.Scalar.{Scalar}
+use Rattle.layout_laws.specs.tm_laid.Layouts.{LaidTree, cell_of}
+use Rattle.layout_laws.specs.tm_laid.Paths.{listed}
+use Rattle.program_shape.specs.concrete_values.declared.actions.Next.{Next}
+use Rattle.program_shape.specs.concrete_values.declared.actions.Next.TheVariants as Acts
+use Rattle.program_shape.specs.concrete_steps.declared.worlds.Status.TheVariants.{Waiting}
+use Rattle.program_shape.specs.concrete_steps.declared.worlds.Choice.{Choice}
+use Rattle.program_shape.specs.concrete_steps.declared.worlds.Choice.TheVariants.{Wake, Run}
+use Rattle.program_shape.specs.concrete_steps.NextAction.{next}
+use Rattle.program_shape.specs.concrete_steps.Worlds.{World, standing, answers_of, next_at, holds, is_taken, start}
+use Rattle.program_shape.specs.concrete_steps.Worlds.{step}
+use Rattle.program_shape.specs.concrete_steps.Occurring.{IsReached, at_start, by_step, IsAccess, a_load_there}
+use Rattle.program_shape.specs.concrete_steps.Occurring.{a_store_there}
+use Rattle.program_shape.specs.concrete_steps.Occurring.{IsRace, Occurs}
+use Rattle.program_shape.proofs.low.concrete_steps.Moving.{steps_are_moves}
+use Rattle.program_shape.specs.flow_graph.Graphs.{Edges}
 use Rattle.lowering_laws.specs.LaidFiles.{IsLaidFile}
 use Rattle.next_action_laws.specs.Actions.{IsProper}
-use Rattle.tm_soundness.specs.Shape.{Shape, Content as AContent}
-use Rattle.tm_soundness.specs.Tables.{Tables}
-use Rattle.tm_soundness.specs.Listing.{IsAnalysed}
-use Rattle.tm_soundness.specs.Worlds.{Source, Step, IsReached as IsAReached, starts, goes_on, IsFault}
-use Rattle.tm_soundness.specs.Worlds.{next_fails, next_relocks, next_unlocks_foreign, NextAccesses, next_loads}
-use Rattle.tm_soundness.specs.Worlds.{next_loads_any, next_stores, NextStores}
-use Rattle.tm_soundness.specs.Numbered.{TaskOf}
-use Rattle.tm_soundness.proofs.Judged.{IsJudged, judged, next_fault_listed, next_race_listed}
+use Rattle.program_shape.specs.tm_soundness.Shape.{Shape, Content as AContent}
+use Rattle.program_shape.specs.tm_soundness.Tables.{Tables}
+use Rattle.program_shape.specs.tm_soundness.Listing.{IsAnalysed}
+use Rattle.program_shape.specs.tm_soundness.Worlds.{Source, Step, IsReached as IsAReached, starts, goes_on, IsFault}
+use Rattle.program_shape.specs.tm_soundness.Worlds.{next_fails, next_relocks, next_unlocks_foreign, NextAccesses}
+use Rattle.program_shape.specs.tm_soundness.Worlds.{next_loads}
+use Rattle.program_shape.specs.tm_soundness.Worlds.{next_loads_any, next_stores, NextStores}
+use Rattle.program_shape.specs.tm_soundness.Numbered.{TaskOf}
+use Rattle.program_shape.proofs.low.tm_soundness.Judged.{IsJudged, judged, next_fault_listed, next_race_listed}
 use Rattle.program_equations.specs.Programs.{priorities_of}
 use Rattle.program_shape.specs.Shape.{number_of, Has}
 use Rattle.program_shape.proofs.TaskNumbers.{number_below, one_number, IsNumbered, task_with}

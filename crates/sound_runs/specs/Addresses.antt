@@ -1,17 +1,17 @@
 -- What the addresses in temporaries lead to: a property of single edges, from which it follows that parts and elements
 -- are taken within their objects.
 use Rattle.std.specs.Prelude.{◌≡◌, ℕ, Some}
-use Rattle.tm_laid.specs.Layouts.{LaidTree}
-use Rattle.concrete_values.specs.declared.values.Pointer.TheVariants.{To}
-use Rattle.concrete_values.specs.declared.values.Value.{Value}
-use Rattle.concrete_values.specs.declared.values.Value.TheVariants.{Pointer}
-use Rattle.concrete_values.specs.declared.values.Answer.{Answer}
-use Rattle.concrete_values.specs.declared.actions.Next.{Next}
-use Rattle.concrete_values.specs.Actions.{answer_of}
-use Rattle.flow_graph.specs.declared.operations.Operation.{Operation}
-use Rattle.flow_graph.specs.declared.graphs.Edge.{Edge}
-use Rattle.flow_graph.specs.Graphs.{Edges, Among}
-use Rattle.flow_graph.specs.Operations.{Temps, used, given, Silent, Asks, effect}
+use Rattle.layout_laws.specs.tm_laid.Layouts.{LaidTree}
+use Rattle.program_shape.specs.concrete_values.declared.values.Pointer.TheVariants.{To}
+use Rattle.program_shape.specs.concrete_values.declared.values.Value.{Value}
+use Rattle.program_shape.specs.concrete_values.declared.values.Value.TheVariants.{Pointer}
+use Rattle.program_shape.specs.concrete_values.declared.values.Answer.{Answer}
+use Rattle.program_shape.specs.concrete_values.declared.actions.Next.{Next}
+use Rattle.program_shape.specs.concrete_values.Actions.{answer_of}
+use Rattle.program_shape.specs.flow_graph.declared.operations.Operation.{Operation}
+use Rattle.program_shape.specs.flow_graph.declared.graphs.Edge.{Edge}
+use Rattle.program_shape.specs.flow_graph.Graphs.{Edges, Among}
+use Rattle.program_shape.specs.flow_graph.Operations.{Temps, used, given, Silent, Asks, effect}
 use Rattle.next_action_laws.specs.Actions.{IsPlace}
 use Rattle.program_shape.specs.Shape.{IsAddressed}
 

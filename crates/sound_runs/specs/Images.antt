@@ -1,25 +1,25 @@
 -- The worlds of runs, as the soundness theorem has them.
 use Rattle.std.specs.Prelude.{◌≡◌, ℕ, zero, suc, ◌+◌, ◌*◌, ◌<◌, nat_lt, cond, Bool, false, length}
 use Rattle.std.specs.Prelude.{get_or}
-use Rattle.tm_laid.specs.Layouts.{LaidTree}
-use Rattle.concrete_values.specs.declared.values.Value.{Value}
-use Rattle.concrete_steps.specs.declared.worlds.Content.{Content}
-use Rattle.concrete_steps.specs.declared.worlds.Content.TheVariants.{Open, Is}
-use Rattle.concrete_steps.specs.declared.worlds.Status.{Status}
-use Rattle.concrete_steps.specs.declared.worlds.Status.TheVariants.{Waiting, Ready, Blocked, Done}
-use Rattle.concrete_steps.specs.NextAction.{next}
-use Rattle.concrete_steps.specs.Worlds.{World, standing, answers_of, holds, start}
-use Rattle.concrete_steps.specs.Moves.{content_of, status_of}
-use Rattle.flow_graph.specs.Graphs.{Edges}
-use Rattle.mutex_configs.specs.Sets.{has}
-use Rattle.tm_soundness.specs.Shape.{Shape, Content as AContent, given, open_cell}
-use Rattle.tm_soundness.specs.Tables.{Tables}
-use Rattle.tm_soundness.specs.GraphWorlds.{Status as AStatus, waiting, ready, blocked, done}
-use Rattle.tm_soundness.specs.Reports.{IsRaceListed}
-use Rattle.tm_soundness.specs.Section.{Section, alone}
-use Rattle.tm_soundness.specs.Worlds.{Source, World as AWorld}
-use Rattle.tm_soundness.specs.WholeWorlds.{WholeWorld, IsWholeReached}
-use Rattle.tm_soundness.specs.Numbered.{TaskOf}
+use Rattle.layout_laws.specs.tm_laid.Layouts.{LaidTree}
+use Rattle.program_shape.specs.concrete_values.declared.values.Value.{Value}
+use Rattle.program_shape.specs.concrete_steps.declared.worlds.Content.{Content}
+use Rattle.program_shape.specs.concrete_steps.declared.worlds.Content.TheVariants.{Open, Is}
+use Rattle.program_shape.specs.concrete_steps.declared.worlds.Status.{Status}
+use Rattle.program_shape.specs.concrete_steps.declared.worlds.Status.TheVariants.{Waiting, Ready, Blocked, Done}
+use Rattle.program_shape.specs.concrete_steps.NextAction.{next}
+use Rattle.program_shape.specs.concrete_steps.Worlds.{World, standing, answers_of, holds, start}
+use Rattle.program_shape.specs.concrete_steps.Moves.{content_of, status_of}
+use Rattle.program_shape.specs.flow_graph.Graphs.{Edges}
+use Rattle.program_shape.specs.mutex_configs.Sets.{has}
+use Rattle.program_shape.specs.tm_soundness.Shape.{Shape, Content as AContent, given, open_cell}
+use Rattle.program_shape.specs.tm_soundness.Tables.{Tables}
+use Rattle.program_shape.specs.tm_soundness.GraphWorlds.{Status as AStatus, waiting, ready, blocked, done}
+use Rattle.program_shape.specs.tm_soundness.Reports.{IsRaceListed}
+use Rattle.program_shape.specs.tm_soundness.Section.{Section, alone}
+use Rattle.program_shape.specs.tm_soundness.Worlds.{Source, World as AWorld}
+use Rattle.program_shape.specs.tm_soundness.WholeWorlds.{WholeWorld, IsWholeReached}
+use Rattle.program_shape.specs.tm_soundness.Numbered.{TaskOf}
 use Rattle.program_equations.specs.Readings.{read_layout}
 use Rattle.program_equations.specs.Programs.{priorities_of}
 use Rattle.program_shape.specs.Shape.{Parts, number_of, shape_of, section_parts, section_of}

@@ -1,20 +1,20 @@
 -- What is asked of the graphs of a file, and what the tables of an analysis owe.
 use Rattle.std.specs.Prelude.{◌≡◌, ℕ, ◌<◌, ◌≤◌, ◌^◌, length}
-use Rattle.tm_laid.specs.Layouts.{LaidTree}
-use Rattle.concrete_values.specs.declared.values.Value.{Value}
-use Rattle.concrete_steps.specs.NextAction.{next}
-use Rattle.concrete_steps.specs.Worlds.{start}
-use Rattle.flow_graph.specs.Graphs.{Edges}
-use Rattle.flow_graph.specs.Operations.{Temps}
-use Rattle.flow_graph.specs.Runs.{at_entry}
-use Rattle.lowering.specs.Built.{graph_of}
+use Rattle.layout_laws.specs.tm_laid.Layouts.{LaidTree}
+use Rattle.program_shape.specs.concrete_values.declared.values.Value.{Value}
+use Rattle.program_shape.specs.concrete_steps.NextAction.{next}
+use Rattle.program_shape.specs.concrete_steps.Worlds.{start}
+use Rattle.program_shape.specs.flow_graph.Graphs.{Edges}
+use Rattle.program_shape.specs.flow_graph.Operations.{Temps}
+use Rattle.program_shape.specs.flow_graph.Runs.{at_entry}
+use Rattle.lowering_laws.specs.lowering.Built.{graph_of}
 use Rattle.lowering_laws.specs.LaidFiles.{IsLaidFile}
-use Rattle.tm_soundness.specs.Shape.{Shape, Content as AContent}
-use Rattle.tm_soundness.specs.Tables.{Tables}
-use Rattle.tm_soundness.specs.Shaped.{IsShaped}
-use Rattle.tm_soundness.specs.Covers.{IsSolution, IsEntered}
-use Rattle.tm_soundness.specs.Section.{Section, alone, IsHandover}
-use Rattle.tm_soundness.specs.Worlds.{Source}
+use Rattle.program_shape.specs.tm_soundness.Shape.{Shape, Content as AContent}
+use Rattle.program_shape.specs.tm_soundness.Tables.{Tables}
+use Rattle.program_shape.specs.tm_soundness.Shaped.{IsShaped}
+use Rattle.program_shape.specs.tm_soundness.Covers.{IsSolution, IsEntered}
+use Rattle.program_shape.specs.tm_soundness.Section.{Section, alone, IsHandover}
+use Rattle.program_shape.specs.tm_soundness.Worlds.{Source}
 use Rattle.program_equations.specs.Readings.{read_layout}
 use Rattle.program_shape.specs.Shape.{Parts, shape_of, section_parts, section_of}
 use Rattle.sound_runs.specs.Sources.{source_of, KeepsAddresses}

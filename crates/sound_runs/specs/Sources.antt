@@ -2,26 +2,27 @@
 -- stand.
 use Rattle.std.specs.Prelude.{◌≡◌, ℕ, zero, ◌<◌, pos, Bool, true, false, cond, List, [], ◌∷◌, ◌++◌, length}
 use Rattle.std.specs.Prelude.{Option, Some, None}
-use Rattle.tm_terms.specs.declared.places.Place.{Place}
-use Rattle.tm_laid.specs.Layouts.{LaidTree, object_at, cell_at, cell_of, abstract_at, abstract_of}
-use Rattle.concrete_values.specs.declared.values.Value.{Value}
-use Rattle.concrete_values.specs.declared.values.Value.TheVariants.{Number}
-use Rattle.concrete_values.specs.declared.values.Answer.{Answer}
-use Rattle.concrete_values.specs.declared.values.Answer.TheVariants.{Given, Done}
-use Rattle.concrete_values.specs.declared.actions.Next.{Next}
-use Rattle.concrete_values.specs.declared.actions.Next.TheVariants as Acts
-use Rattle.concrete_values.specs.Values.{nothing}
-use Rattle.concrete_values.specs.Actions.{is_of, answer_of}
-use Rattle.concrete_steps.specs.NextAction.{After}
-use Rattle.flow_graph.specs.declared.graphs.Edge.{Edge}
-use Rattle.flow_graph.specs.Graphs.{Edges, Among, Leaves, IsPlain}
-use Rattle.flow_graph.specs.Operations.{Temps, Silent, Asks, effect}
-use Rattle.flow_graph.specs.Runs.{Memory}
-use Rattle.flow_graph.specs.Positions.{StandsAt, RunsAlong}
-use Rattle.mutex_configs.specs.Sets.{with_mutex, without_mutex, IsOfSixteen}
+use Rattle.layout_laws.specs.tm_terms.declared.places.Place.{Place}
+use Rattle.layout_laws.specs.tm_laid.Layouts.{LaidTree, object_at, cell_at, cell_of, abstract_at, abstract_of}
+use Rattle.program_shape.specs.concrete_values.declared.values.Value.{Value}
+use Rattle.program_shape.specs.concrete_values.declared.values.Value.TheVariants.{Number}
+use Rattle.program_shape.specs.concrete_values.declared.values.Answer.{Answer}
+use Rattle.program_shape.specs.concrete_values.declared.values.Answer.TheVariants.{Given, Done}
+use Rattle.program_shape.specs.concrete_values.declared.actions.Next.{Next}
+use Rattle.program_shape.specs.concrete_values.declared.actions.Next.TheVariants as Acts
+use Rattle.program_shape.specs.concrete_values.Values.{nothing}
+use Rattle.program_shape.specs.concrete_values.Actions.{is_of, answer_of}
+use Rattle.program_shape.specs.concrete_steps.NextAction.{After}
+use Rattle.program_shape.specs.flow_graph.declared.graphs.Edge.{Edge}
+use Rattle.program_shape.specs.flow_graph.Graphs.{Edges, Among, Leaves, IsPlain}
+use Rattle.program_shape.specs.flow_graph.Operations.{Temps, Silent, Asks, effect}
+use Rattle.program_shape.specs.flow_graph.Runs.{Memory}
+use Rattle.program_shape.specs.flow_graph.Positions.{StandsAt, RunsAlong}
+use Rattle.program_shape.specs.mutex_configs.Sets.{with_mutex, without_mutex, IsOfSixteen}
 use Rattle.next_action_laws.specs.Actions.{Fit, IsProper}
-use Rattle.tm_soundness.specs.Worlds.{Action, a_load, a_load_any, a_store, a_choose, a_clear, a_lock, a_unlock, a_yield}
-use Rattle.tm_soundness.specs.Worlds.{a_probe, a_fault, a_ended, a_spins, Source}
+use Rattle.program_shape.specs.tm_soundness.Worlds.{Action, a_load, a_load_any, a_store, a_choose, a_clear, a_lock}
+use Rattle.program_shape.specs.tm_soundness.Worlds.{a_unlock, a_yield}
+use Rattle.program_shape.specs.tm_soundness.Worlds.{a_probe, a_fault, a_ended, a_spins, Source}
 use Rattle.program_shape.specs.Shape.{Parts, Task, Node, shape_of, MayChoose, IsAddressed, IsPartOf}
 
 -- ## Actions

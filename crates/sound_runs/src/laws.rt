@@ -1,16 +1,16 @@
 //! Laws of runs, each the contract of a function that does nothing.
 ghost use Rattle.std.specs.Prelude.{◌≡◌, ℕ, ◌<◌, ◌≤◌, ◌^◌, length, Some, None};
-ghost use Rattle.tm_laid.specs.Layouts.{LaidTree};
-ghost use Rattle.concrete_steps.specs.NextAction.{After, next};
-ghost use Rattle.concrete_steps.specs.Worlds.{World};
-ghost use Rattle.concrete_steps.specs.Occurring.{IsReached};
-ghost use Rattle.flow_graph.specs.Graphs.{Edges, IsLive};
-ghost use Rattle.flow_graph.specs.Runs.{at_entry};
-ghost use Rattle.lowering.specs.Built.{graph_of};
+ghost use Rattle.layout_laws.specs.tm_laid.Layouts.{LaidTree};
+ghost use Rattle.program_shape.specs.concrete_steps.NextAction.{After, next};
+ghost use Rattle.program_shape.specs.concrete_steps.Worlds.{World};
+ghost use Rattle.program_shape.specs.concrete_steps.Occurring.{IsReached};
+ghost use Rattle.program_shape.specs.flow_graph.Graphs.{Edges, IsLive};
+ghost use Rattle.program_shape.specs.flow_graph.Runs.{at_entry};
+ghost use Rattle.lowering_laws.specs.lowering.Built.{graph_of};
 ghost use Rattle.lowering_laws.specs.LaidFiles.{IsLaidFile};
-ghost use Rattle.tm_soundness.specs.Numbered.{TaskOf};
-ghost use Rattle.tm_soundness.specs.Section.{alone};
-ghost use Rattle.tm_soundness.specs.Worlds.{IsLowered, IsReached as IsTheoremReached};
+ghost use Rattle.program_shape.specs.tm_soundness.Numbered.{TaskOf};
+ghost use Rattle.program_shape.specs.tm_soundness.Section.{alone};
+ghost use Rattle.program_shape.specs.tm_soundness.Worlds.{IsLowered, IsReached as IsTheoremReached};
 ghost use Rattle.program_equations.specs.Readings.{read_layout};
 ghost use Rattle.program_shape.specs.Shape.{Parts, shape_of};
 ghost use Rattle.sound_runs.specs.Sources.{source_of, LaysCells, IsRunning, KeepsAddresses};

@@ -5,27 +5,27 @@ use Rattle.std.specs.Prelude.{Contains, Option, Some, None}
 use Rattle.std.specs.List.{list_any}
 use Rattle.std.proofs.Common.{refl, sym, ap, subst, ◌∙◌, inl, inr, ⊎_elim, arith}
 use Rattle.std.proofs.lemmas.Bool.{or_cases, eqb-true, false≢true}
-use Rattle.tm_cint.specs.declared.Class.{Class}
-use Rattle.tm_cint.specs.declared.Class.TheVariants.{Race}
-use Rattle.tm_terms.specs.declared.places.Place.{Place}
-use Rattle.flow_graph.specs.declared.operations.Operation.{Operation as GraphOperation}
-use Rattle.flow_graph.specs.declared.operations.Operation.TheVariants as Op
-use Rattle.mutex_configs.specs.declared.nodes.ConfiguredNode.{ConfiguredNode}
-use Rattle.transfer_rows.specs.StateForms.{State}
-use Rattle.transfer_rows.specs.Accesses.{is_among}
-use Rattle.transfer_rows.specs.Reports.{targets_of, IsListed}
-use Rattle.interfere_set.specs.Stores.{Interferences, are_apart}
-use Rattle.cell_env.specs.Cells.{IsWithin}
-use Rattle.least_tables.specs.Solutions.{NodeTable}
-use Rattle.task_equations.specs.Bodies.{node_at, copy_at}
-use Rattle.task_equations.specs.Equations.{action_along, around_along}
-use Rattle.program_equations.specs.Programs.{ProgramBodies, body_at, IsProgram}
+use Rattle.program_shape.specs.tm_cint.declared.Class.{Class}
+use Rattle.program_shape.specs.tm_cint.declared.Class.TheVariants.{Race}
+use Rattle.program_shape.specs.tm_terms.declared.places.Place.{Place}
+use Rattle.program_shape.specs.flow_graph.declared.operations.Operation.{Operation as GraphOperation}
+use Rattle.program_shape.specs.flow_graph.declared.operations.Operation.TheVariants as Op
+use Rattle.program_shape.specs.mutex_configs.declared.nodes.ConfiguredNode.{ConfiguredNode}
+use Rattle.program_reports.specs.transfer_rows.StateForms.{State}
+use Rattle.program_reports.specs.transfer_rows.Accesses.{is_among}
+use Rattle.program_reports.specs.transfer_rows.Reports.{targets_of, IsListed}
+use Rattle.program_reports.specs.interfere_set.Stores.{Interferences, are_apart}
+use Rattle.program_reports.specs.cell_env.Cells.{IsWithin}
+use Rattle.program_reports.specs.least_tables.Solutions.{NodeTable}
+use Rattle.program_reports.specs.task_equations.Bodies.{node_at, copy_at}
+use Rattle.program_reports.specs.task_equations.Equations.{action_along, around_along}
+use Rattle.program_reports.specs.program_equations.Programs.{ProgramBodies, body_at, IsProgram}
 use Rattle.program_reports.specs.Reports.{place_of, IsWriting, operation_in, left_in, IsReachedIn, IsAccess}
 use Rattle.program_reports.specs.Reports.{IsAlarm, faulty, racing}
-use Rattle.tm_soundness.specs.Numbered.{TaskOf}
-use Rattle.tm_soundness.specs.Shape.{store}
-use Rattle.tm_soundness.specs.Reports.{IsRaceListed}
-use Rattle.tm_soundness.specs.Tables.{Tables}
+use Rattle.program_shape.specs.tm_soundness.Numbered.{TaskOf}
+use Rattle.program_shape.specs.tm_soundness.Shape.{store}
+use Rattle.program_shape.specs.tm_soundness.Reports.{IsRaceListed}
+use Rattle.program_shape.specs.tm_soundness.Tables.{Tables}
 use Rattle.program_shape.specs.Shape.{Copy, number_of, shape_of, place_at, operation_of}
 use Rattle.sound_tables.specs.Programs.{part_of, parts_of}
 use Rattle.sound_tables.specs.Premises.{IsGraphOf}

@@ -3,34 +3,35 @@ use Rattle.std.specs.Prelude.{◌≡◌, ℕ, ◌<◌, Bool, true, false, List, 
 use Rattle.std.proofs.Common.{refl, ap, subst, ◌∙◌}
 use Rattle.std.specs.Ordering.{nat_cmp}
 use Rattle.std.specs.FinMap.{get, get-empty}
-use Rattle.tm_typed.specs.declared.types.Scalar.{Scalar}
-use Rattle.tm_typed.specs.declared.types.Scalar.TheVariants.{Int, Pointer}
-use Rattle.tm_laid.specs.Layouts.{LaidTree}
-use Rattle.mutex_configs.specs.declared.nodes.ConfiguredNode.{ConfiguredNode}
-use Rattle.mutex_configs.specs.Sets.{leads_nowhere}
-use Rattle.pointer_dom.specs.OffsetSets.{OffsetSet}
-use Rattle.pointer_dom.specs.PointerSets.{Pointers}
-use Rattle.pointer_dom.specs.Pointer.{ScalarValue}
-use Rattle.pointer_dom.specs.Values.{Values, IsValueIn}
-use Rattle.interfere_set.specs.Stores.{Interferences}
-use Rattle.transfer_rows.specs.StateForms.{Temp, State, temp_value, own_of}
-use Rattle.transfer_rows.specs.Actions.{Action}
-use Rattle.transfer_rows.specs.Accesses.{is_among}
-use Rattle.transfer_rows.specs.Rows.{after}
-use Rattle.transfer_rows.specs.Meanings.{Valuation}
-use Rattle.transfer_rows.specs.Covering.{AreIn, HasTemp, HasCell, AreSized, IsCopyOf, IsPending, IsFresh, IsStored}
-use Rattle.transfer_rows.proofs.CoverSteps.{none_some}
-use Rattle.typed_values.specs.Types.{IsOfType}
-use Rattle.least_tables.specs.Solutions.{NodeTable, IsSolution}
-use Rattle.temporary_types.specs.Sorts.{Sort}
-use Rattle.state_fits.specs.Typed.{types_of}
-use Rattle.state_fits.specs.Fits.{FitsTemp, FitsCell, FitsPlace, IsSeenCell}
-use Rattle.task_equations.specs.Bodies.{node_at, live_at}
-use Rattle.task_equations.specs.Equations.{equations_of}
-use Rattle.task_equations.specs.Premises.{FitsNode}
-use Rattle.program_equations.specs.Programs.{ProgramBodies, body_at, IsProgram}
-use Rattle.program_equations.specs.Systems.{states, FitsBody, FitsProgram}
-use Rattle.tm_soundness.specs.Numbered.{TaskOf}
+use Rattle.program_shape.specs.tm_typed.declared.types.Scalar.{Scalar}
+use Rattle.program_shape.specs.tm_typed.declared.types.Scalar.TheVariants.{Int, Pointer}
+use Rattle.program_shape.specs.tm_laid.Layouts.{LaidTree}
+use Rattle.program_shape.specs.mutex_configs.declared.nodes.ConfiguredNode.{ConfiguredNode}
+use Rattle.program_shape.specs.mutex_configs.Sets.{leads_nowhere}
+use Rattle.program_reports.specs.pointer_dom.OffsetSets.{OffsetSet}
+use Rattle.program_reports.specs.pointer_dom.PointerSets.{Pointers}
+use Rattle.program_reports.specs.pointer_dom.Pointer.{ScalarValue}
+use Rattle.program_reports.specs.pointer_dom.Values.{Values, IsValueIn}
+use Rattle.program_reports.specs.interfere_set.Stores.{Interferences}
+use Rattle.program_reports.specs.transfer_rows.StateForms.{Temp, State, temp_value, own_of}
+use Rattle.program_reports.specs.transfer_rows.Actions.{Action}
+use Rattle.program_reports.specs.transfer_rows.Accesses.{is_among}
+use Rattle.program_reports.specs.transfer_rows.Rows.{after}
+use Rattle.program_reports.specs.transfer_rows.Meanings.{Valuation}
+use Rattle.program_reports.specs.transfer_rows.Covering.{AreIn, HasTemp, HasCell, AreSized, IsCopyOf, IsPending}
+use Rattle.program_reports.specs.transfer_rows.Covering.{IsFresh, IsStored}
+use Rattle.program_reports.proofs.low.transfer_rows.CoverSteps.{none_some}
+use Rattle.program_reports.specs.typed_values.Types.{IsOfType}
+use Rattle.program_reports.specs.least_tables.Solutions.{NodeTable, IsSolution}
+use Rattle.program_reports.specs.temporary_types.Sorts.{Sort}
+use Rattle.program_reports.specs.state_fits.Typed.{types_of}
+use Rattle.program_reports.specs.state_fits.Fits.{FitsTemp, FitsCell, FitsPlace, IsSeenCell}
+use Rattle.program_reports.specs.task_equations.Bodies.{node_at, live_at}
+use Rattle.program_reports.specs.task_equations.Equations.{equations_of}
+use Rattle.program_reports.specs.task_equations.Premises.{FitsNode}
+use Rattle.program_reports.specs.program_equations.Programs.{ProgramBodies, body_at, IsProgram}
+use Rattle.program_reports.specs.program_equations.Systems.{states, FitsBody, FitsProgram}
+use Rattle.program_shape.specs.tm_soundness.Numbered.{TaskOf}
 use Rattle.program_shape.specs.Shape.{Node, Copy, from_of, to_of}
 use Rattle.sound_tables.specs.Programs.{part_of}
 use Rattle.sound_tables.specs.Premises.{IsGraphOf}

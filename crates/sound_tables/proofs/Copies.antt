@@ -6,14 +6,14 @@ use Rattle.std.proofs.lemmas.Bool.{eq-eqb, eqb-true, and_parts}
 use Rattle.std.proofs.lemmas.List.{get_or_default, get_or-map, length-map}
 use Rattle.std.proofs.lemmas.List.Elements.{Contains-append_left, Contains-append_right}
 use Rattle.std.proofs.lemmas.List.Quantifiers.{position-Some}
-use Rattle.flow_graph.specs.declared.graphs.Edge.{Edge}
-use Rattle.flow_graph.specs.Graphs.{Edges, Among}
-use Rattle.mutex_configs.specs.declared.nodes.ConfiguredNode.{ConfiguredNode}
-use Rattle.mutex_configs.specs.declared.nodes.EdgeCopy.{EdgeCopy}
-use Rattle.mutex_configs.specs.Sets.{answers_of}
-use Rattle.mutex_configs.specs.Nodes.{entry_node, is_same_node, target, copy_of, copies_from, all_copies}
-use Rattle.mutex_configs.proofs.Searching.{node_is}
-use Rattle.task_equations.specs.Bodies.{Body, no_edge, no_copy, edge_of, node_at, copy_at}
+use Rattle.program_shape.specs.flow_graph.declared.graphs.Edge.{Edge}
+use Rattle.program_shape.specs.flow_graph.Graphs.{Edges, Among}
+use Rattle.program_shape.specs.mutex_configs.declared.nodes.ConfiguredNode.{ConfiguredNode}
+use Rattle.program_shape.specs.mutex_configs.declared.nodes.EdgeCopy.{EdgeCopy}
+use Rattle.program_shape.specs.mutex_configs.Sets.{answers_of}
+use Rattle.program_shape.specs.mutex_configs.Nodes.{entry_node, is_same_node, target, copy_of, copies_from, all_copies}
+use Rattle.program_shape.proofs.low.mutex_configs.Searching.{node_is}
+use Rattle.program_reports.specs.task_equations.Bodies.{Body, no_edge, no_copy, edge_of, node_at, copy_at}
 
 pub same_node : (q r : ConfiguredNode) → is_same_node q r ≡ true → q ≡ r
 same_node q r h =

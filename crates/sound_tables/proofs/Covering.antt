@@ -7,41 +7,42 @@ use Rattle.std.proofs.lemmas.List.{get_or_past}
 use Rattle.std.specs.Prelude.{bit_or}
 use Rattle.std.specs.Int.{bit_at}
 use Rattle.std.proofs.lemmas.Nat.Bits.{bit_at_or, bit_at_above}
-use Rattle.cell_env.specs.Cells.{IsWithin}
-use Rattle.state_fits.specs.Fits.{FitsCell}
-use Rattle.tm_laid.specs.declared.objects.LaidObject.{LaidObject}
-use Rattle.tm_laid.specs.Layouts.{no_object}
-use Rattle.edge_actions.specs.Layouts.{is_owned_by}
-use Rattle.concrete_steps.specs.Worlds.{is_part}
-use Rattle.transfer_rows.specs.Actions.{usable}
+use Rattle.program_reports.specs.cell_env.Cells.{IsWithin}
+use Rattle.program_reports.specs.state_fits.Fits.{FitsCell}
+use Rattle.program_shape.specs.tm_laid.declared.objects.LaidObject.{LaidObject}
+use Rattle.program_shape.specs.tm_laid.Layouts.{no_object}
+use Rattle.program_reports.specs.edge_actions.Layouts.{is_owned_by}
+use Rattle.program_shape.specs.concrete_steps.Worlds.{is_part}
+use Rattle.program_reports.specs.transfer_rows.Actions.{usable}
 use Rattle.std.specs.Prelude.{if◌then◌else◌}
 use Rattle.std.proofs.lemmas.Bool.{eq-eqb, eqb-true, ne_eqb, cases_eq, cases_lt}
-use Rattle.edge_actions.proofs.Lists.{lt_from}
-use Rattle.tm_cint.specs.declared.Class.{Class}
-use Rattle.tm_typed.specs.declared.types.Scalar.{Scalar}
-use Rattle.tm_laid.specs.Layouts.{LaidTree, path_at, object_at, cell_at, abstract_at, cell_of}
-use Rattle.concrete_values.specs.declared.values.Pointer.{Pointer}
-use Rattle.concrete_values.specs.declared.values.Pointer.TheVariants as Pointers
-use Rattle.concrete_values.specs.declared.values.Value.{Value}
-use Rattle.concrete_values.specs.declared.values.Value.TheVariants.{Number, Pointer as APointer}
-use Rattle.flow_graph.specs.Operations.{Temps, put_at}
-use Rattle.pointer_dom.specs.Pointer.{ScalarValue, number as a_number, pointer, to}
-use Rattle.pointer_dom.specs.Values.{Values, IsValueIn}
-use Rattle.interfere_set.specs.Stores.{Interferences}
-use Rattle.transfer_rows.specs.StateForms.{Cell, State, value_of}
-use Rattle.transfer_rows.specs.Actions.{Action, Around, Spot, skips, gives, refines, loads_any}
-use Rattle.transfer_rows.specs.Rows.{after}
-use Rattle.transfer_rows.specs.Reports.{IsListed}
-use Rattle.transfer_rows.specs.Meanings.{Valuation, put, IsSpotOf}
-use Rattle.transfer_rows.specs.Covering.{AreIn, HasTemp, HasCell, AreLocalsIn, LeadsTo, IsCopyOf, IsPending, IsFresh}
-use Rattle.transfer_rows.specs.Covering.{IsStored}
-use Rattle.transfer_rows.specs.Covering as rows
-use Rattle.transfer_rows.proofs.CoverSteps.{some_same, in_temp}
-use Rattle.transfer_rows.proofs.CoverValues.{given_in, fails_in}
-use Rattle.transfer_rows.proofs.Covers.{give_covers, skip_covers}
-use Rattle.transfer_rows.proofs.Filters.{filter_covers}
-use Rattle.edge_actions.specs.Layouts.{is_reachable, is_shared_cell, spots_of}
-use Rattle.state_fits.specs.Fits.{IsSeenCell}
+use Rattle.program_reports.proofs.low.edge_actions.Lists.{lt_from}
+use Rattle.program_shape.specs.tm_cint.declared.Class.{Class}
+use Rattle.program_shape.specs.tm_typed.declared.types.Scalar.{Scalar}
+use Rattle.program_shape.specs.tm_laid.Layouts.{LaidTree, path_at, object_at, cell_at, abstract_at, cell_of}
+use Rattle.program_shape.specs.concrete_values.declared.values.Pointer.{Pointer}
+use Rattle.program_shape.specs.concrete_values.declared.values.Pointer.TheVariants as Pointers
+use Rattle.program_shape.specs.concrete_values.declared.values.Value.{Value}
+use Rattle.program_shape.specs.concrete_values.declared.values.Value.TheVariants.{Number, Pointer as APointer}
+use Rattle.program_shape.specs.flow_graph.Operations.{Temps, put_at}
+use Rattle.program_reports.specs.pointer_dom.Pointer.{ScalarValue, number as a_number, pointer, to}
+use Rattle.program_reports.specs.pointer_dom.Values.{Values, IsValueIn}
+use Rattle.program_reports.specs.interfere_set.Stores.{Interferences}
+use Rattle.program_reports.specs.transfer_rows.StateForms.{Cell, State, value_of}
+use Rattle.program_reports.specs.transfer_rows.Actions.{Action, Around, Spot, skips, gives, refines, loads_any}
+use Rattle.program_reports.specs.transfer_rows.Rows.{after}
+use Rattle.program_reports.specs.transfer_rows.Reports.{IsListed}
+use Rattle.program_reports.specs.transfer_rows.Meanings.{Valuation, put, IsSpotOf}
+use Rattle.program_reports.specs.transfer_rows.Covering.{AreIn, HasTemp, HasCell, AreLocalsIn, LeadsTo, IsCopyOf}
+use Rattle.program_reports.specs.transfer_rows.Covering.{IsPending, IsFresh}
+use Rattle.program_reports.specs.transfer_rows.Covering.{IsStored}
+use Rattle.program_reports.specs.transfer_rows.Covering as rows
+use Rattle.program_reports.proofs.low.transfer_rows.CoverSteps.{some_same, in_temp}
+use Rattle.program_reports.proofs.low.transfer_rows.CoverValues.{given_in, fails_in}
+use Rattle.program_reports.proofs.low.transfer_rows.Covers.{give_covers, skip_covers}
+use Rattle.program_reports.proofs.low.transfer_rows.FilterLaws.{filter_covers}
+use Rattle.program_reports.specs.edge_actions.Layouts.{is_reachable, is_shared_cell, spots_of}
+use Rattle.program_reports.specs.state_fits.Fits.{IsSeenCell}
 use Rattle.program_shape.specs.Shape.{Points, IsShared, IsOwned}
 use Rattle.program_shape.specs.Shape.{abstract_of_cell}
 use Rattle.sound_tables.specs.Premises.{LaysCells}

@@ -7,32 +7,32 @@ use Rattle.std.specs.Prelude.{List, [], ◌∷◌, length, get_or, slice_get, Op
 use Rattle.std.proofs.Common.{refl, sym, ap, ◌∙◌, arith}
 use Rattle.std.proofs.lemmas.Int.{ints}
 use Rattle.std.proofs.lemmas.Bool.{and_parts, and_from}
-use Rattle.edge_actions.proofs.Lists.{le_from, le_test, lt_test}
-use Rattle.tm_cint.specs.declared.Class.{Class}
-use Rattle.tm_cint.specs.declared.int_types.IntType.{IntType}
-use Rattle.tm_cint.specs.declared.int_types.IntType.TheVariants as Ints
-use Rattle.tm_cint.specs.IntTypes.{IsIn}
-use Rattle.tm_cint.specs.Conversions.{converted_value}
-use Rattle.tm_cint.proofs.Values.{wrapped-same, wrapped-in, wrapped-turned}
-use Rattle.tm_cint.proofs.Ranges.{is_in-true}
-use Rattle.transfer_int.specs.Values.{ones_of}
-use Rattle.transfer_int.proofs.Complementing.{complement_in}
-use Rattle.tm_laid.specs.declared.objects.LaidObject.{LaidObject}
-use Rattle.tm_laid.specs.Layouts.{LaidTree, object_at, no_object, is_alive, stands_at}
-use Rattle.concrete_values.specs.declared.values.Pointer.{Pointer}
-use Rattle.concrete_values.specs.declared.values.Pointer.TheVariants as Pointers
-use Rattle.concrete_values.specs.declared.values.Value.{Value}
-use Rattle.concrete_values.specs.declared.values.Value.TheVariants.{Number, Pointer as APointer}
-use Rattle.concrete_values.specs.Values.{number_of, number_in}
-use Rattle.concrete_values.specs.Operators.{number_result}
-use Rattle.concrete_values.specs.Pointers.{cells_of_object, size_of, placed, pointer_in, shifted}
-use Rattle.concrete_values.specs.Pointers.{is_dereferenceable}
-use Rattle.pointer_dom.specs.Pointer.{null, invalid}
-use Rattle.pointer_dom.specs.Pointer.{to as leads_to}
-use Rattle.pointer_dom.specs.Offset.{IsOffset}
-use Rattle.transfer_rows.specs.Meanings.{IsMove}
-use Rattle.transfer_rows.specs.Meanings.{IsReached, Strays, strays_null, strays_invalid, strays_out}
-use Rattle.transfer_rows.specs.Meanings.{IsUnreached}
+use Rattle.program_reports.proofs.low.edge_actions.Lists.{le_from, le_test, lt_test}
+use Rattle.program_shape.specs.tm_cint.declared.Class.{Class}
+use Rattle.program_shape.specs.tm_cint.declared.int_types.IntType.{IntType}
+use Rattle.program_shape.specs.tm_cint.declared.int_types.IntType.TheVariants as Ints
+use Rattle.program_shape.specs.tm_cint.IntTypes.{IsIn}
+use Rattle.program_shape.specs.tm_cint.Conversions.{converted_value}
+use Rattle.program_shape.proofs.low.tm_cint.Values.{wrapped-same, wrapped-in, wrapped-turned}
+use Rattle.program_shape.proofs.low.tm_cint.Ranges.{is_in-true}
+use Rattle.program_reports.specs.transfer_int.Values.{ones_of}
+use Rattle.program_reports.proofs.low.transfer_int.Complementing.{complement_in}
+use Rattle.program_shape.specs.tm_laid.declared.objects.LaidObject.{LaidObject}
+use Rattle.program_shape.specs.tm_laid.Layouts.{LaidTree, object_at, no_object, is_alive, stands_at}
+use Rattle.program_shape.specs.concrete_values.declared.values.Pointer.{Pointer}
+use Rattle.program_shape.specs.concrete_values.declared.values.Pointer.TheVariants as Pointers
+use Rattle.program_shape.specs.concrete_values.declared.values.Value.{Value}
+use Rattle.program_shape.specs.concrete_values.declared.values.Value.TheVariants.{Number, Pointer as APointer}
+use Rattle.program_shape.specs.concrete_values.Values.{number_of, number_in}
+use Rattle.program_shape.specs.concrete_values.Operators.{number_result}
+use Rattle.program_shape.specs.concrete_values.Pointers.{cells_of_object, size_of, placed, pointer_in, shifted}
+use Rattle.program_shape.specs.concrete_values.Pointers.{is_dereferenceable}
+use Rattle.program_reports.specs.pointer_dom.Pointer.{null, invalid}
+use Rattle.program_reports.specs.pointer_dom.Pointer.{to as leads_to}
+use Rattle.program_reports.specs.pointer_dom.Offset.{IsOffset}
+use Rattle.program_reports.specs.transfer_rows.Meanings.{IsMove}
+use Rattle.program_reports.specs.transfer_rows.Meanings.{IsReached, Strays, strays_null, strays_invalid, strays_out}
+use Rattle.program_reports.specs.transfer_rows.Meanings.{IsUnreached}
 use Rattle.sound_tables.specs.Memberships.{scalar_as, address_as}
 use Rattle.sound_tables.specs.Meanings.{sizes_of}
 use Rattle.sound_tables.proofs.Operands.{LiesIn}

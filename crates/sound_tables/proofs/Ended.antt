@@ -5,19 +5,20 @@ use Rattle.std.specs.Prelude.{Option, Some, None, IfSome}
 use Rattle.std.proofs.Common.{refl, sym, ap, subst, ◌∙◌, inl, inr, arith}
 use Rattle.std.specs.FinMap.{get}
 use Rattle.std.proofs.lemmas.Bool.{cases_eq, eqb-true}
-use Rattle.flow_graph.specs.declared.graphs.Edge.{Edge}
-use Rattle.flow_graph.specs.Graphs.{Edges, Leaves}
-use Rattle.mutex_configs.specs.declared.nodes.ConfiguredNode.{ConfiguredNode}
-use Rattle.pointer_dom.specs.Pointer.{ScalarValue}
-use Rattle.pointer_dom.specs.Values.{IsValueIn, joined_values}
-use Rattle.pointer_dom.proofs.Meaning.{value_included}
-use Rattle.cell_env.specs.States.{joined_state}
-use Rattle.tm_lattice.specs.Tables.{IsBelow, joined_at}
-use Rattle.transfer_rows.specs.StateForms.{Cell, State, IsStateForm, IsStateUnder, IsCellUnder, own_value, own_of}
-use Rattle.transfer_rows.proofs.CoverSteps.{none_has}
-use Rattle.least_tables.specs.Solutions.{NodeTable}
-use Rattle.state_fits.specs.laws.PlacesFit.{states_join}
-use Rattle.program_equations.specs.Entries.{is_left, is_end, ended_below}
+use Rattle.program_shape.specs.flow_graph.declared.graphs.Edge.{Edge}
+use Rattle.program_shape.specs.flow_graph.Graphs.{Edges, Leaves}
+use Rattle.program_shape.specs.mutex_configs.declared.nodes.ConfiguredNode.{ConfiguredNode}
+use Rattle.program_reports.specs.pointer_dom.Pointer.{ScalarValue}
+use Rattle.program_reports.specs.pointer_dom.Values.{IsValueIn, joined_values}
+use Rattle.program_reports.proofs.low.pointer_dom.Meaning.{value_included}
+use Rattle.program_reports.specs.cell_env.States.{joined_state}
+use Rattle.program_shape.specs.tm_lattice.Tables.{IsBelow, joined_at}
+use Rattle.program_reports.specs.transfer_rows.StateForms.{Cell, State, IsStateForm, IsStateUnder, IsCellUnder}
+use Rattle.program_reports.specs.transfer_rows.StateForms.{own_value, own_of}
+use Rattle.program_reports.proofs.low.transfer_rows.CoverSteps.{none_has}
+use Rattle.program_reports.specs.least_tables.Solutions.{NodeTable}
+use Rattle.program_reports.specs.state_fits.laws.PlacesFit.{states_join}
+use Rattle.program_reports.specs.program_equations.Entries.{is_left, is_end, ended_below}
 
 own_by : (a b : Option Cell) (v : ScalarValue) → IsBelow IsCellUnder a b → IsValueIn (own_value a) v
     → IsValueIn (own_value b) v

@@ -3,23 +3,23 @@ use Rattle.std.specs.Prelude.{◌≡◌, ℕ, ◌<◌, false, length}
 use Rattle.std.specs.Prelude.{is_none}
 use Rattle.std.specs.Prelude.{Option, Some, IfSome}
 use Rattle.std.proofs.Common.{refl, sym, ap, subst, ◌∙◌, inl, inr}
-use Rattle.tm_laid.specs.Layouts.{LaidTree, object_at, cell_at, abstract_at}
-use Rattle.concrete_values.specs.declared.values.Value.{Value}
-use Rattle.concrete_values.specs.Values.{nothing}
-use Rattle.flow_graph.specs.Operations.{Temps}
-use Rattle.pointer_dom.specs.Values.{Values, IsValueIn}
-use Rattle.interfere_set.specs.Stores.{Interferences}
-use Rattle.transfer_rows.specs.StateForms.{State}
-use Rattle.edge_actions.specs.Layouts.{is_shared_cell, open_value}
-use Rattle.least_tables.specs.Solutions.{NodeTable, IsSolution}
-use Rattle.task_equations.specs.Equations.{equations_of}
-use Rattle.program_equations.specs.Programs.{ProgramBodies, body_at, IsProgram}
-use Rattle.program_equations.specs.Entries.{initial_of, entry_state, first_state}
-use Rattle.program_equations.specs.Systems.{states, FitsBody, FitsProgram}
-use Rattle.tm_soundness.specs.Numbered.{TaskOf}
-use Rattle.tm_soundness.specs.Shape.{Shape, Content, Reads}
-use Rattle.tm_soundness.specs.Tables.{Tables}
-use Rattle.tm_soundness.specs.Covers as covers
+use Rattle.program_shape.specs.tm_laid.Layouts.{LaidTree, object_at, cell_at, abstract_at}
+use Rattle.program_shape.specs.concrete_values.declared.values.Value.{Value}
+use Rattle.program_shape.specs.concrete_values.Values.{nothing}
+use Rattle.program_shape.specs.flow_graph.Operations.{Temps}
+use Rattle.program_reports.specs.pointer_dom.Values.{Values, IsValueIn}
+use Rattle.program_reports.specs.interfere_set.Stores.{Interferences}
+use Rattle.program_reports.specs.transfer_rows.StateForms.{State}
+use Rattle.program_reports.specs.edge_actions.Layouts.{is_shared_cell, open_value}
+use Rattle.program_reports.specs.least_tables.Solutions.{NodeTable, IsSolution}
+use Rattle.program_reports.specs.task_equations.Equations.{equations_of}
+use Rattle.program_reports.specs.program_equations.Programs.{ProgramBodies, body_at, IsProgram}
+use Rattle.program_reports.specs.program_equations.Entries.{initial_of, entry_state, first_state}
+use Rattle.program_reports.specs.program_equations.Systems.{states, FitsBody, FitsProgram}
+use Rattle.program_shape.specs.tm_soundness.Numbered.{TaskOf}
+use Rattle.program_shape.specs.tm_soundness.Shape.{Shape, Content, Reads}
+use Rattle.program_shape.specs.tm_soundness.Tables.{Tables}
+use Rattle.program_shape.specs.tm_soundness.Covers as covers
 use Rattle.program_shape.specs.Shape.{IsShared, IsOwned, abstract_of_cell, shape_of}
 use Rattle.sound_tables.specs.Programs.{part_of}
 use Rattle.sound_tables.specs.Premises.{LaysCells, IsGraphOf}

@@ -6,24 +6,24 @@ use Rattle.std.specs.List.{position_or_len}
 use Rattle.std.specs.FinMap.{get}
 use Rattle.std.proofs.Common.{refl, ap, subst, ◌∙◌, inl, inr, arith}
 use Rattle.std.proofs.lemmas.List.Sums.{position_or_len_is}
-use Rattle.edge_actions.proofs.Lists.{lt_test}
-use Rattle.mutex_configs.specs.declared.nodes.ConfiguredNode.{ConfiguredNode}
-use Rattle.mutex_configs.specs.Nodes.{AreNodes, IsBefore, entry_node, is_same_node, at_entry}
-use Rattle.pointer_dom.specs.Pointer.{ScalarValue}
-use Rattle.pointer_dom.specs.Values.{IsValueIn}
-use Rattle.interfere_set.specs.Stores.{Interferences}
-use Rattle.transfer_rows.specs.StateForms.{Temp, State, own_of}
-use Rattle.transfer_rows.specs.Accesses.{is_among}
-use Rattle.transfer_rows.specs.Meanings.{Valuation}
-use Rattle.transfer_rows.specs.Covering.{AreIn, IsFresh, IsStored}
-use Rattle.least_tables.specs.Solutions.{NodeTable, IsSolution}
-use Rattle.state_fits.specs.Typed.{types_of}
-use Rattle.state_fits.specs.Fits.{FitsTemp}
-use Rattle.task_equations.specs.Bodies.{Body, node_at, live_at}
-use Rattle.task_equations.specs.Equations.{equations_of}
-use Rattle.program_equations.specs.Programs.{ProgramBodies, body_at, IsProgram}
-use Rattle.program_equations.specs.Systems.{states, FitsBody, FitsProgram}
-use Rattle.tm_soundness.specs.Numbered.{TaskOf}
+use Rattle.program_reports.proofs.low.edge_actions.Lists.{lt_test}
+use Rattle.program_shape.specs.mutex_configs.declared.nodes.ConfiguredNode.{ConfiguredNode}
+use Rattle.program_shape.specs.mutex_configs.Nodes.{AreNodes, IsBefore, entry_node, is_same_node, at_entry}
+use Rattle.program_reports.specs.pointer_dom.Pointer.{ScalarValue}
+use Rattle.program_reports.specs.pointer_dom.Values.{IsValueIn}
+use Rattle.program_reports.specs.interfere_set.Stores.{Interferences}
+use Rattle.program_reports.specs.transfer_rows.StateForms.{Temp, State, own_of}
+use Rattle.program_reports.specs.transfer_rows.Accesses.{is_among}
+use Rattle.program_reports.specs.transfer_rows.Meanings.{Valuation}
+use Rattle.program_reports.specs.transfer_rows.Covering.{AreIn, IsFresh, IsStored}
+use Rattle.program_reports.specs.least_tables.Solutions.{NodeTable, IsSolution}
+use Rattle.program_reports.specs.state_fits.Typed.{types_of}
+use Rattle.program_reports.specs.state_fits.Fits.{FitsTemp}
+use Rattle.program_reports.specs.task_equations.Bodies.{Body, node_at, live_at}
+use Rattle.program_reports.specs.task_equations.Equations.{equations_of}
+use Rattle.program_reports.specs.program_equations.Programs.{ProgramBodies, body_at, IsProgram}
+use Rattle.program_reports.specs.program_equations.Systems.{states, FitsBody, FitsProgram}
+use Rattle.program_shape.specs.tm_soundness.Numbered.{TaskOf}
 use Rattle.sound_tables.specs.Premises.{IsGraphOf}
 use Rattle.sound_tables.specs.Memberships.{found_at, number_at, CopiesStand}
 use Rattle.sound_tables.proofs.Led.{Arrives, entry_arrives}

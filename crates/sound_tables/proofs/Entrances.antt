@@ -4,17 +4,17 @@ use Rattle.std.specs.Prelude.{Some}
 use Rattle.std.specs.Prelude.{None}
 use Rattle.std.proofs.Common.{refl, ap, inl, inr}
 use Rattle.std.proofs.lemmas.Bool.{cases_lt}
-use Rattle.flow_graph.specs.Operations.{Temps}
-use Rattle.interfere_set.specs.Stores.{no_interference}
-use Rattle.transfer_rows.specs.StateForms.{State}
-use Rattle.least_tables.specs.Solutions.{at}
-use Rattle.program_equations.specs.Programs.{ProgramBodies, body_at, HasSection}
-use Rattle.program_equations.specs.Entries.{first_state, later_state, ended}
-use Rattle.program_equations.specs.Systems.{task_entry}
-use Rattle.program_equations.specs.Solutions.{tables_of as lists_of, table_at}
-use Rattle.program_equations.specs.laws.TaskEntries.{first_fits}
-use Rattle.program_equations.specs.laws.StoresFit.{nothing_fits}
-use Rattle.tm_soundness.specs.Numbered.{TaskOf}
+use Rattle.program_shape.specs.flow_graph.Operations.{Temps}
+use Rattle.program_reports.specs.interfere_set.Stores.{no_interference}
+use Rattle.program_reports.specs.transfer_rows.StateForms.{State}
+use Rattle.program_reports.specs.least_tables.Solutions.{at}
+use Rattle.program_reports.specs.program_equations.Programs.{ProgramBodies, body_at, HasSection}
+use Rattle.program_reports.specs.program_equations.Entries.{first_state, later_state, ended}
+use Rattle.program_reports.specs.program_equations.Systems.{task_entry}
+use Rattle.program_reports.specs.program_equations.Solutions.{tables_of as lists_of, table_at}
+use Rattle.program_reports.specs.program_equations.laws.TaskEntries.{first_fits}
+use Rattle.program_reports.specs.program_equations.laws.StoresFit.{nothing_fits}
+use Rattle.program_shape.specs.tm_soundness.Numbered.{TaskOf}
 use Rattle.program_shape.specs.Shape.{number_of, section_of}
 use Rattle.sound_tables.specs.Programs.{parts_of}
 use Rattle.sound_tables.specs.Memberships.{section_tables}

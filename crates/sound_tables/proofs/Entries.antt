@@ -7,16 +7,17 @@ use Rattle.std.specs.Int.{bit_at}
 use Rattle.std.specs.FinMap.{get}
 use Rattle.std.proofs.lemmas.Bool.{and_from, or_left, or_right, eq-eqb, ne_eqb, le-leb, not_from_false, cases_eq}
 use Rattle.std.proofs.lemmas.Nat.Bits.{bit_at_and, bit_at-zero, bit_at-lt, same_from_bits}
-use Rattle.tm_lattice.specs.Tables.{Table, IsBelow, IsTableBelow}
-use Rattle.pointer_dom.specs.Pointer.{ScalarValue}
-use Rattle.pointer_dom.specs.Values.{Values, IsValueIn, IsValuesBelow}
-use Rattle.pointer_dom.proofs.Meaning.{value_included}
-use Rattle.cell_env.specs.Cells.{IsWithin}
-use Rattle.interfere_set.specs.Stores.{Nested, Interferences, IsStore, IsNestedBelow, Reader, value_or_none, left_in}
-use Rattle.interfere_set.specs.Stores.{are_apart, is_visible, visible, handed}
-use Rattle.interfere_set.specs.laws.Hearing.{visible_upper, handed_upper}
-use Rattle.transfer_rows.specs.Contributions.{at_task, entry_at}
-use Rattle.transfer_rows.proofs.CoverSteps.{none_has}
+use Rattle.program_shape.specs.tm_lattice.Tables.{Table, IsBelow, IsTableBelow}
+use Rattle.program_reports.specs.pointer_dom.Pointer.{ScalarValue}
+use Rattle.program_reports.specs.pointer_dom.Values.{Values, IsValueIn, IsValuesBelow}
+use Rattle.program_reports.proofs.low.pointer_dom.Meaning.{value_included}
+use Rattle.program_reports.specs.cell_env.Cells.{IsWithin}
+use Rattle.program_reports.specs.interfere_set.Stores.{Nested, Interferences, IsStore, IsNestedBelow, Reader}
+use Rattle.program_reports.specs.interfere_set.Stores.{value_or_none, left_in}
+use Rattle.program_reports.specs.interfere_set.Stores.{are_apart, is_visible, visible, handed}
+use Rattle.program_reports.specs.interfere_set.laws.Hearing.{visible_upper, handed_upper}
+use Rattle.program_reports.specs.transfer_rows.Contributions.{at_task, entry_at}
+use Rattle.program_reports.proofs.low.transfer_rows.CoverSteps.{none_has}
 use Rattle.sound_tables.proofs.MutexSets.{from_bit}
 use Rattle.sound_tables.proofs.Covering.{within_small}
 use Rattle.sound_tables.proofs.Hearing.{Apart}

@@ -7,30 +7,31 @@ use Rattle.std.specs.Ordering.{nat_cmp}
 use Rattle.std.specs.FinMap.{get, insert}
 use Rattle.std.specs.FinMap as map
 use Rattle.std.proofs.lemmas.Bool.{cases_eq, eq-eqb}
-use Rattle.strided_dom.specs.Progression.{single, Has}
-use Rattle.tm_lattice.specs.Tables.{Table}
-use Rattle.tm_lattice.specs.laws.TableLaws.{get-insert_here, get-insert_there}
-use Rattle.tm_laid.specs.declared.objects.Initial.{Initial}
-use Rattle.tm_laid.specs.declared.objects.Initial.TheVariants as Initials
-use Rattle.tm_laid.specs.Layouts.{LaidTree, object_at, cell_at, abstract_at}
-use Rattle.pointer_dom.specs.Pointer.{ScalarValue}
-use Rattle.pointer_dom.specs.PointerSets.{no_pointer, offsets_or_none, pointer_to}
-use Rattle.pointer_dom.specs.Values.{Values, IsValues, IsValueIn, joined_values}
-use Rattle.pointer_dom.specs.laws.ValueLaws.{values_join}
-use Rattle.pointer_dom.proofs.Meaning.{value_included}
-use Rattle.interfere_set.specs.laws.Joins.{none_is}
-use Rattle.transfer_rows.specs.StateForms.{Cell, State, own_value, own_of, only_pointers}
-use Rattle.transfer_rows.specs.Covering.{IsFresh, IsStored}
-use Rattle.transfer_rows.proofs.CoverSteps.{some_same}
-use Rattle.edge_actions.specs.Layouts.{is_reachable, is_shared_cell, open_value}
-use Rattle.edge_actions.specs.Edges.{pointer_within}
-use Rattle.edge_actions.proofs.Lists.{le_test}
-use Rattle.typed_values.specs.laws.TypeLaws.{typed_values}
-use Rattle.state_fits.specs.Fits.{IsSeenCell}
-use Rattle.program_equations.specs.Programs.{ProgramBodies, IsProgram}
-use Rattle.program_equations.specs.Entries.{initial_value, initial_or_none, initial_at, initial_below, initial_of}
-use Rattle.program_equations.specs.Entries.{entry_cell, entry_cells}
-use Rattle.program_equations.specs.Entries.{entry_state}
+use Rattle.program_shape.specs.strided_dom.Progression.{single, Has}
+use Rattle.program_shape.specs.tm_lattice.Tables.{Table}
+use Rattle.program_shape.specs.tm_lattice.laws.TableLaws.{get-insert_here, get-insert_there}
+use Rattle.program_shape.specs.tm_laid.declared.objects.Initial.{Initial}
+use Rattle.program_shape.specs.tm_laid.declared.objects.Initial.TheVariants as Initials
+use Rattle.program_shape.specs.tm_laid.Layouts.{LaidTree, object_at, cell_at, abstract_at}
+use Rattle.program_reports.specs.pointer_dom.Pointer.{ScalarValue}
+use Rattle.program_reports.specs.pointer_dom.PointerSets.{no_pointer, offsets_or_none, pointer_to}
+use Rattle.program_reports.specs.pointer_dom.Values.{Values, IsValues, IsValueIn, joined_values}
+use Rattle.program_reports.specs.pointer_dom.laws.ValueLaws.{values_join}
+use Rattle.program_reports.proofs.low.pointer_dom.Meaning.{value_included}
+use Rattle.program_reports.specs.interfere_set.laws.Joins.{none_is}
+use Rattle.program_reports.specs.transfer_rows.StateForms.{Cell, State, own_value, own_of, only_pointers}
+use Rattle.program_reports.specs.transfer_rows.Covering.{IsFresh, IsStored}
+use Rattle.program_reports.proofs.low.transfer_rows.CoverSteps.{some_same}
+use Rattle.program_reports.specs.edge_actions.Layouts.{is_reachable, is_shared_cell, open_value}
+use Rattle.program_reports.specs.edge_actions.Edges.{pointer_within}
+use Rattle.program_reports.proofs.low.edge_actions.Lists.{le_test}
+use Rattle.program_reports.specs.typed_values.laws.TypeLaws.{typed_values}
+use Rattle.program_reports.specs.state_fits.Fits.{IsSeenCell}
+use Rattle.program_reports.specs.program_equations.Programs.{ProgramBodies, IsProgram}
+use Rattle.program_reports.specs.program_equations.Entries.{initial_value, initial_or_none, initial_at, initial_below}
+use Rattle.program_reports.specs.program_equations.Entries.{initial_of}
+use Rattle.program_reports.specs.program_equations.Entries.{entry_cell, entry_cells}
+use Rattle.program_reports.specs.program_equations.Entries.{entry_state}
 use Rattle.sound_tables.specs.Memberships.{scalar_as}
 use Rattle.sound_tables.specs.Starting.{initial_as, LiesWithin}
 

@@ -3,26 +3,26 @@ use Rattle.std.specs.Prelude.{◌≡◌, ℕ, ◌≤◌, ◌^◌, Bool, true, fa
 use Rattle.std.specs.Prelude.{None}
 use Rattle.std.specs.Prelude.{Err}
 use Rattle.std.proofs.Common.{refl, sym, ap, ◌∙◌, inl, inr}
-use Rattle.tm_cint.specs.declared.Class.{Class}
-use Rattle.tm_cint.specs.declared.Class.TheVariants as Classes
-use Rattle.tm_cint.specs.declared.int_types.IntType.{IntType}
-use Rattle.tm_terms.specs.declared.places.Place.{Place}
-use Rattle.tm_typed.specs.declared.expressions.Unary.TheVariants.{Negate, Complement}
-use Rattle.tm_laid.specs.Layouts.{LaidTree}
-use Rattle.concrete_values.specs.declared.values.Pointer.{Pointer}
-use Rattle.concrete_values.specs.declared.values.Pointer.TheVariants as Pointers
-use Rattle.concrete_values.specs.declared.values.Value.{Value}
-use Rattle.concrete_values.specs.declared.values.Value.TheVariants.{Pointer as APointer}
-use Rattle.concrete_values.specs.Operators.{binary, unary}
-use Rattle.concrete_values.specs.Pointers.{usable, element, moved, dereferenced}
-use Rattle.flow_graph.specs.declared.operations.Operation.{Operation}
-use Rattle.flow_graph.specs.declared.operations.Operation.TheVariants as Op
-use Rattle.flow_graph.specs.Operations.{Temps, used, holds, lets_through, effect_by, Breaks}
-use Rattle.flow_graph.specs.Graphs.{Among}
-use Rattle.pointer_dom.specs.Pointer as scalars
-use Rattle.transfer_rows.specs.Meanings.{Fails as MayFail}
-use Rattle.edge_actions.specs.Edges.{action_of}
-use Rattle.temporary_types.specs.Sorts.{Sort, numbers, pointers, Works, Holds}
+use Rattle.program_shape.specs.tm_cint.declared.Class.{Class}
+use Rattle.program_shape.specs.tm_cint.declared.Class.TheVariants as Classes
+use Rattle.program_shape.specs.tm_cint.declared.int_types.IntType.{IntType}
+use Rattle.program_shape.specs.tm_terms.declared.places.Place.{Place}
+use Rattle.program_shape.specs.tm_typed.declared.expressions.Unary.TheVariants.{Negate, Complement}
+use Rattle.program_shape.specs.tm_laid.Layouts.{LaidTree}
+use Rattle.program_shape.specs.concrete_values.declared.values.Pointer.{Pointer}
+use Rattle.program_shape.specs.concrete_values.declared.values.Pointer.TheVariants as Pointers
+use Rattle.program_shape.specs.concrete_values.declared.values.Value.{Value}
+use Rattle.program_shape.specs.concrete_values.declared.values.Value.TheVariants.{Pointer as APointer}
+use Rattle.program_shape.specs.concrete_values.Operators.{binary, unary}
+use Rattle.program_shape.specs.concrete_values.Pointers.{usable, element, moved, dereferenced}
+use Rattle.program_shape.specs.flow_graph.declared.operations.Operation.{Operation}
+use Rattle.program_shape.specs.flow_graph.declared.operations.Operation.TheVariants as Op
+use Rattle.program_shape.specs.flow_graph.Operations.{Temps, used, holds, lets_through, effect_by, Breaks}
+use Rattle.program_shape.specs.flow_graph.Graphs.{Among}
+use Rattle.program_reports.specs.pointer_dom.Pointer as scalars
+use Rattle.program_reports.specs.transfer_rows.Meanings.{Fails as MayFail}
+use Rattle.program_reports.specs.edge_actions.Edges.{action_of}
+use Rattle.program_reports.specs.temporary_types.Sorts.{Sort, numbers, pointers, Works, Holds}
 use Rattle.program_shape.specs.Shape.{Fails}
 use Rattle.sound_tables.specs.Memberships.{scalar_as, scalars_as}
 use Rattle.sound_tables.specs.Meanings.{FailsAs, sizes_of}

@@ -2,10 +2,10 @@
 use Rattle.std.specs.Prelude.{◌≡◌, ℕ, Bool, true, false, if◌then◌else◌, [], ◌∷◌, ◌==◌}
 use Rattle.std.proofs.Common.{refl, inl, inr, sym, ap, subst, ◌∙◌}
 use Rattle.std.proofs.lemmas.Bool.{eq-eqb}
-use Rattle.flow_graph.specs.declared.graphs.Edge.{Edge}
-use Rattle.flow_graph.specs.declared.operations.Operation.{Operation}
-use Rattle.flow_graph.specs.declared.operations.Operation.TheVariants as Op
-use Rattle.flow_graph.specs.Graphs.{Edges, Among, leaving, Leaves, IsSure, IsOpposite, IsFork, IsPlain}
+use Rattle.program_shape.specs.flow_graph.declared.graphs.Edge.{Edge}
+use Rattle.program_shape.specs.flow_graph.declared.operations.Operation.{Operation}
+use Rattle.program_shape.specs.flow_graph.declared.operations.Operation.TheVariants as Op
+use Rattle.program_shape.specs.flow_graph.Graphs.{Edges, Among, leaving, Leaves, IsSure, IsOpposite, IsFork, IsPlain}
 
 among_case : (x e : Edge) (g : Edges) (node : ℕ) → (Among e g → Among e (leaving g node)) → (b : Bool)
     → (x.from == node) ≡ b → e.from ≡ node → Among e (x ∷ g)

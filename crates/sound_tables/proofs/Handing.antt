@@ -2,22 +2,23 @@
 use Rattle.std.specs.Prelude.{◌≡◌, ℕ, ◌<◌, not, true, cond, List, length, get_or}
 use Rattle.std.specs.Prelude.{Option, Some, None, IfSome}
 use Rattle.std.proofs.Common.{refl, sym, ap, subst, ◌∙◌, arith}
-use Rattle.edge_actions.proofs.Lists.{lt_test}
-use Rattle.concrete_values.specs.declared.values.Value.{Value}
-use Rattle.flow_graph.specs.Operations.{Temps}
-use Rattle.mutex_configs.specs.declared.nodes.ConfiguredNode.{ConfiguredNode}
-use Rattle.pointer_dom.specs.Values.{IsValueIn}
-use Rattle.interfere_set.specs.Stores.{Interferences}
-use Rattle.transfer_rows.specs.StateForms.{State, IsStateForm, own_of}
-use Rattle.least_tables.specs.Solutions.{NodeTable, at}
-use Rattle.task_equations.specs.Bodies.{Body}
-use Rattle.program_equations.specs.Programs.{ProgramBodies, body_at, HasSection, IsProgram}
-use Rattle.program_equations.specs.Entries.{entry_state, later_state, first_state, ended, is_left, is_end}
-use Rattle.program_equations.specs.Systems.{FitsBody, task_entry}
-use Rattle.program_equations.specs.Solutions.{IsWholeSolution}
-use Rattle.tm_soundness.specs.Numbered.{TaskOf}
-use Rattle.tm_soundness.specs.Shape.{Shape, Content}
-use Rattle.tm_soundness.specs.Section.{Section, IsHandover}
+use Rattle.program_reports.proofs.low.edge_actions.Lists.{lt_test}
+use Rattle.program_shape.specs.concrete_values.declared.values.Value.{Value}
+use Rattle.program_shape.specs.flow_graph.Operations.{Temps}
+use Rattle.program_shape.specs.mutex_configs.declared.nodes.ConfiguredNode.{ConfiguredNode}
+use Rattle.program_reports.specs.pointer_dom.Values.{IsValueIn}
+use Rattle.program_reports.specs.interfere_set.Stores.{Interferences}
+use Rattle.program_reports.specs.transfer_rows.StateForms.{State, IsStateForm, own_of}
+use Rattle.program_reports.specs.least_tables.Solutions.{NodeTable, at}
+use Rattle.program_reports.specs.task_equations.Bodies.{Body}
+use Rattle.program_reports.specs.program_equations.Programs.{ProgramBodies, body_at, HasSection, IsProgram}
+use Rattle.program_reports.specs.program_equations.Entries.{entry_state, later_state, first_state, ended, is_left}
+use Rattle.program_reports.specs.program_equations.Entries.{is_end}
+use Rattle.program_reports.specs.program_equations.Systems.{FitsBody, task_entry}
+use Rattle.program_reports.specs.program_equations.Solutions.{IsWholeSolution}
+use Rattle.program_shape.specs.tm_soundness.Numbered.{TaskOf}
+use Rattle.program_shape.specs.tm_soundness.Shape.{Shape, Content}
+use Rattle.program_shape.specs.tm_soundness.Section.{Section, IsHandover}
 use Rattle.program_shape.specs.Shape.{Node, number_of, shape_of, section_of, IsEnd}
 use Rattle.sound_tables.specs.Programs.{parts_of, section_alone}
 use Rattle.sound_tables.specs.Premises.{LaysCells, IsGraphOf}

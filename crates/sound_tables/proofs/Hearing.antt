@@ -1,13 +1,13 @@
 -- What an analysis writes into a store and hears from it, in terms of members.
 use Rattle.std.specs.Prelude.{◌≡◌, ◌⊎◌, ◌≤◌, ℕ, Bool, false, Some}
-use Rattle.concrete_values.specs.declared.values.Value.{Value}
-use Rattle.pointer_dom.specs.Values.{IsValueIn}
-use Rattle.interfere_set.specs.Stores.{Interferences, reader_of, visible, handed}
-use Rattle.transfer_rows.specs.StateForms.{State}
-use Rattle.transfer_rows.specs.Reports.{weak_of, sync_of}
-use Rattle.least_tables.specs.Solutions.{NodeTable}
-use Rattle.program_equations.specs.Programs.{ProgramBodies}
-use Rattle.tm_soundness.specs.Numbered.{TaskOf}
+use Rattle.program_shape.specs.concrete_values.declared.values.Value.{Value}
+use Rattle.program_reports.specs.pointer_dom.Values.{IsValueIn}
+use Rattle.program_reports.specs.interfere_set.Stores.{Interferences, reader_of, visible, handed}
+use Rattle.program_reports.specs.transfer_rows.StateForms.{State}
+use Rattle.program_reports.specs.transfer_rows.Reports.{weak_of, sync_of}
+use Rattle.program_reports.specs.least_tables.Solutions.{NodeTable}
+use Rattle.program_reports.specs.program_equations.Programs.{ProgramBodies}
+use Rattle.program_shape.specs.tm_soundness.Numbered.{TaskOf}
 use Rattle.program_shape.specs.Shape.{Copy, Has, from_of}
 use Rattle.sound_tables.specs.Programs.{part_of}
 use Rattle.sound_tables.specs.Memberships.{scalar_as, state_at, around_copy, action_copy}

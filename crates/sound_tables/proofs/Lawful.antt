@@ -1,9 +1,9 @@
 -- The laws, of the lemmas.
 use Rattle.std.specs.Prelude.{◌<◌, length, get_or}
 use Rattle.std.proofs.Common.{refl, arith}
-use Rattle.program_equations.specs.Programs.{ProgramBodies, IsProgram}
-use Rattle.program_equations.specs.Solutions.{tables_of as lists_of, table_at}
-use Rattle.tm_soundness.specs.Numbered.{TaskOf}
+use Rattle.program_reports.specs.program_equations.Programs.{ProgramBodies, IsProgram}
+use Rattle.program_reports.specs.program_equations.Solutions.{tables_of as lists_of, table_at}
+use Rattle.program_shape.specs.tm_soundness.Numbered.{TaskOf}
 use Rattle.program_shape.specs.Shape.{number_of}
 use Rattle.sound_tables.specs.Laws.{ShapesAreLawful, PairsCover, ListedAreAlarms}
 use Rattle.sound_tables.proofs.Alarms.{listed_alarm, race_alarm}

@@ -8,37 +8,37 @@ use Rattle.std.proofs.lemmas.Bool.{cases_lt, eq-eqb, and_from}
 use Rattle.std.proofs.lemmas.List.{get_or-map, length-map, get_or_default}
 use Rattle.std.proofs.lemmas.List.Sums.{fails_before_first}
 use Rattle.std.specs.List.{position_or_len}
-use Rattle.edge_actions.proofs.Lists.{lt_test}
-use Rattle.edge_actions.specs.Layouts.{is_shared_cell, is_smashed_cell}
-use Rattle.edge_actions.specs.Edges.{action_of}
-use Rattle.interfere_set.specs.Stores.{reader_of}
-use Rattle.transfer_rows.specs.Accesses.{is_among}
-use Rattle.tm_laid.specs.Layouts.{LaidTree}
-use Rattle.task_equations.specs.Bodies.{live_at}
-use Rattle.task_equations.specs.Equations.{tests_pointer}
-use Rattle.mutex_configs.specs.Nodes.{entry_node}
-use Rattle.tm_lattice.specs.Tables.{IsBelow}
-use Rattle.flow_graph.specs.declared.graphs.Edge.{Edge}
-use Rattle.flow_graph.specs.Graphs.{Among}
-use Rattle.mutex_configs.specs.declared.nodes.ConfiguredNode.{ConfiguredNode}
-use Rattle.mutex_configs.specs.declared.nodes.EdgeCopy.{EdgeCopy}
-use Rattle.mutex_configs.specs.Sets.{answers_of, leads_nowhere, node_after}
-use Rattle.mutex_configs.specs.Nodes.{IsReached, along, is_same_node}
-use Rattle.interfere_set.specs.Stores.{Interferences}
-use Rattle.transfer_rows.specs.StateForms.{State, IsStateUnder}
-use Rattle.transfer_rows.specs.Actions.{Around}
-use Rattle.transfer_rows.specs.Rows.{after}
-use Rattle.least_tables.specs.declared.links.Link.{Link}
-use Rattle.least_tables.specs.Systems.{System, IsLawfulSystem, no_link, from_of, to_of}
-use Rattle.least_tables.specs.Solutions.{NodeTable, brought, IsSolution}
-use Rattle.least_tables.specs.Solutions as solutions
-use Rattle.least_tables.specs.laws.Closing as closing
-use Rattle.state_fits.specs.laws.PlacesFit.{states_order, states_join}
-use Rattle.task_equations.specs.Bodies.{Body, no_copy, edge_of, node_at, copy_at}
-use Rattle.task_equations.specs.Equations.{equations_of, link_of, action_along, around_along, led}
-use Rattle.program_equations.specs.Programs.{ProgramBodies, body_at, IsProgram}
-use Rattle.program_equations.specs.Systems.{states, FitsBody, FitsProgram}
-use Rattle.program_equations.specs.laws.Fitting.{body_is_lawful}
+use Rattle.program_reports.proofs.low.edge_actions.Lists.{lt_test}
+use Rattle.program_reports.specs.edge_actions.Layouts.{is_shared_cell, is_smashed_cell}
+use Rattle.program_reports.specs.edge_actions.Edges.{action_of}
+use Rattle.program_reports.specs.interfere_set.Stores.{reader_of}
+use Rattle.program_reports.specs.transfer_rows.Accesses.{is_among}
+use Rattle.program_shape.specs.tm_laid.Layouts.{LaidTree}
+use Rattle.program_reports.specs.task_equations.Bodies.{live_at}
+use Rattle.program_reports.specs.task_equations.Equations.{tests_pointer}
+use Rattle.program_shape.specs.mutex_configs.Nodes.{entry_node}
+use Rattle.program_shape.specs.tm_lattice.Tables.{IsBelow}
+use Rattle.program_shape.specs.flow_graph.declared.graphs.Edge.{Edge}
+use Rattle.program_shape.specs.flow_graph.Graphs.{Among}
+use Rattle.program_shape.specs.mutex_configs.declared.nodes.ConfiguredNode.{ConfiguredNode}
+use Rattle.program_shape.specs.mutex_configs.declared.nodes.EdgeCopy.{EdgeCopy}
+use Rattle.program_shape.specs.mutex_configs.Sets.{answers_of, leads_nowhere, node_after}
+use Rattle.program_shape.specs.mutex_configs.Nodes.{IsReached, along, is_same_node}
+use Rattle.program_reports.specs.interfere_set.Stores.{Interferences}
+use Rattle.program_reports.specs.transfer_rows.StateForms.{State, IsStateUnder}
+use Rattle.program_reports.specs.transfer_rows.Actions.{Around}
+use Rattle.program_reports.specs.transfer_rows.Rows.{after}
+use Rattle.program_reports.specs.least_tables.declared.links.Link.{Link}
+use Rattle.program_reports.specs.least_tables.Systems.{System, IsLawfulSystem, no_link, from_of, to_of}
+use Rattle.program_reports.specs.least_tables.Solutions.{NodeTable, brought, IsSolution}
+use Rattle.program_reports.specs.least_tables.Solutions as solutions
+use Rattle.program_reports.specs.least_tables.laws.Closing as closing
+use Rattle.program_reports.specs.state_fits.laws.PlacesFit.{states_order, states_join}
+use Rattle.program_reports.specs.task_equations.Bodies.{Body, no_copy, edge_of, node_at, copy_at}
+use Rattle.program_reports.specs.task_equations.Equations.{equations_of, link_of, action_along, around_along, led}
+use Rattle.program_reports.specs.program_equations.Programs.{ProgramBodies, body_at, IsProgram}
+use Rattle.program_reports.specs.program_equations.Systems.{states, FitsBody, FitsProgram}
+use Rattle.program_reports.specs.program_equations.laws.Fitting.{body_is_lawful}
 use Rattle.sound_tables.specs.Premises.{IsGraphOf}
 use Rattle.sound_tables.specs.Memberships.{found_at, number_at, around_at, action_at}
 use Rattle.sound_tables.proofs.Copies.{IsCopyNumber, copy_number, numbered}

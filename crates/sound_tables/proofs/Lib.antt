@@ -31,3 +31,4 @@ pub mod Operating
 pub mod Failing
 pub mod Meaningful
 pub mod Entrances
+pub mod low

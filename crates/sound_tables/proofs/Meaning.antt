@@ -6,27 +6,27 @@ use Rattle.std.specs.Prelude.{negsuc, ◌-ℤ◌, ◌≤ℤ◌, int_le, ◌==◌
 use Rattle.std.proofs.Common.{refl, sym, ap, ◌∙◌, arith}
 use Rattle.std.proofs.lemmas.Int.{ints}
 use Rattle.std.proofs.lemmas.Bool.{and_parts, and_from, eq-eqb, eqb-true}
-use Rattle.tm_cint.specs.declared.Class.{Class}
-use Rattle.tm_cint.specs.declared.int_types.IntType.{IntType}
-use Rattle.tm_cint.specs.declared.int_types.IntType.TheVariants as Ints
-use Rattle.tm_cint.specs.declared.operators.BinOp.{BinOp}
-use Rattle.tm_cint.specs.declared.operators.BinOp.TheVariants as Bins
-use Rattle.tm_cint.specs.IntTypes.{IsIn, lo_of, hi_of}
-use Rattle.tm_cint.specs.Conversions.{converted_value, represents_all}
-use Rattle.tm_cint.specs.Operators.{outcome, IsRightOperand}
-use Rattle.tm_cint.proofs.Values.{zero_in}
-use Rattle.tm_typed.specs.declared.expressions.Unary.TheVariants.{Negate, Complement}
-use Rattle.tm_laid.specs.Layouts.{LaidTree}
-use Rattle.concrete_values.specs.declared.values.Pointer.{Pointer}
-use Rattle.concrete_values.specs.declared.values.Pointer.TheVariants as Pointers
-use Rattle.concrete_values.specs.declared.values.Value.{Value}
-use Rattle.concrete_values.specs.declared.values.Value.TheVariants.{Number, Pointer as APointer}
-use Rattle.concrete_values.specs.Values.{number_of, pointer_of, number_in}
-use Rattle.concrete_values.specs.Operators.{right_number, binary, unary, converted}
-use Rattle.concrete_values.specs.Pointers.{is_same_pointer}
-use Rattle.pointer_dom.specs.Pointer.{number as a_number}
-use Rattle.transfer_rows.specs.Meanings.{IsOperation, IsFailure, IsComplement, IsConversion}
-use Rattle.temporary_types.specs.Sorts.{Sort, numbers, HoldsRight, Holds}
+use Rattle.program_shape.specs.tm_cint.declared.Class.{Class}
+use Rattle.program_shape.specs.tm_cint.declared.int_types.IntType.{IntType}
+use Rattle.program_shape.specs.tm_cint.declared.int_types.IntType.TheVariants as Ints
+use Rattle.program_shape.specs.tm_cint.declared.operators.BinOp.{BinOp}
+use Rattle.program_shape.specs.tm_cint.declared.operators.BinOp.TheVariants as Bins
+use Rattle.program_shape.specs.tm_cint.IntTypes.{IsIn, lo_of, hi_of}
+use Rattle.program_shape.specs.tm_cint.Conversions.{converted_value, represents_all}
+use Rattle.program_shape.specs.tm_cint.Operators.{outcome, IsRightOperand}
+use Rattle.program_shape.proofs.low.tm_cint.Values.{zero_in}
+use Rattle.program_shape.specs.tm_typed.declared.expressions.Unary.TheVariants.{Negate, Complement}
+use Rattle.program_shape.specs.tm_laid.Layouts.{LaidTree}
+use Rattle.program_shape.specs.concrete_values.declared.values.Pointer.{Pointer}
+use Rattle.program_shape.specs.concrete_values.declared.values.Pointer.TheVariants as Pointers
+use Rattle.program_shape.specs.concrete_values.declared.values.Value.{Value}
+use Rattle.program_shape.specs.concrete_values.declared.values.Value.TheVariants.{Number, Pointer as APointer}
+use Rattle.program_shape.specs.concrete_values.Values.{number_of, pointer_of, number_in}
+use Rattle.program_shape.specs.concrete_values.Operators.{right_number, binary, unary, converted}
+use Rattle.program_shape.specs.concrete_values.Pointers.{is_same_pointer}
+use Rattle.program_reports.specs.pointer_dom.Pointer.{number as a_number}
+use Rattle.program_reports.specs.transfer_rows.Meanings.{IsOperation, IsFailure, IsComplement, IsConversion}
+use Rattle.program_reports.specs.temporary_types.Sorts.{Sort, numbers, HoldsRight, Holds}
 use Rattle.sound_tables.specs.Memberships.{scalar_as, address_as}
 use Rattle.sound_tables.proofs.Covering.{address_same}
 use Rattle.sound_tables.proofs.Operands.{IsOf}

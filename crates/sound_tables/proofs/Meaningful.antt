@@ -1,12 +1,12 @@
 -- The operations of a body of a program do what the rows say.
 use Rattle.std.specs.Prelude.{ℕ, ◌<◌, List, length}
 use Rattle.std.proofs.Common.{subst}
-use Rattle.flow_graph.specs.declared.graphs.Edge.{Edge}
-use Rattle.flow_graph.specs.Graphs.{Among}
-use Rattle.temporary_types.specs.Sorts.{Sort, Works, FitsSorts}
-use Rattle.task_equations.specs.Bodies.{live_at}
-use Rattle.task_equations.specs.Equations.{tests_pointer}
-use Rattle.program_equations.specs.Programs.{ProgramBodies, body_at, IsTested, IsProgram}
+use Rattle.program_shape.specs.flow_graph.declared.graphs.Edge.{Edge}
+use Rattle.program_shape.specs.flow_graph.Graphs.{Among}
+use Rattle.program_reports.specs.temporary_types.Sorts.{Sort, Works, FitsSorts}
+use Rattle.program_reports.specs.task_equations.Bodies.{live_at}
+use Rattle.program_reports.specs.task_equations.Equations.{tests_pointer}
+use Rattle.program_reports.specs.program_equations.Programs.{ProgramBodies, body_at, IsTested, IsProgram}
 use Rattle.sound_tables.specs.Premises.{IsGraphOf, AreRegular}
 use Rattle.sound_tables.specs.Meanings.{HaveMeanings}
 use Rattle.sound_tables.proofs.Copies.{IsNumbered, numbered_edge}

@@ -6,34 +6,35 @@ use Rattle.std.proofs.Common.{refl, sym, ap, subst, ◌∙◌, arith}
 use Rattle.std.proofs.lemmas.Int.{ints}
 use Rattle.std.proofs.lemmas.Bool.{and_parts, and_from}
 use Rattle.std.specs.FinMap as map
-use Rattle.edge_actions.proofs.Lists.{le_test}
-use Rattle.strided_dom.specs.Progression.{single, Has}
-use Rattle.tm_lattice.specs.laws.TableLaws.{get-insert_here}
-use Rattle.tm_cint.specs.declared.Class.{Class}
-use Rattle.tm_cint.specs.declared.Class.TheVariants as Classes
-use Rattle.tm_terms.specs.declared.places.Place.{Place}
-use Rattle.tm_laid.specs.Layouts.{LaidTree, object_at, is_alive, stands_at}
-use Rattle.concrete_values.specs.declared.values.Pointer.{Pointer}
-use Rattle.concrete_values.specs.declared.values.Pointer.TheVariants as Pointers
-use Rattle.concrete_values.specs.declared.values.Value.{Value}
-use Rattle.concrete_values.specs.declared.values.Value.TheVariants.{Number, Pointer as APointer}
-use Rattle.concrete_values.specs.declared.actions.Next.{Next}
-use Rattle.concrete_values.specs.Values.{number_of, pointer_of}
-use Rattle.concrete_values.specs.Pointers.{shifted, base, pointer_in, placed, or_invalid, part, element, moved}
-use Rattle.concrete_values.specs.Pointers.{or_class}
-use Rattle.concrete_values.specs.Pointers.{is_subscript, directed, dereferenced, is_dereferenceable}
-use Rattle.flow_graph.specs.Operations.{Temps, put_at, Silent, Asks, Breaks, effect_by}
-use Rattle.flow_graph.specs.Operations.{given_by}
-use Rattle.flow_graph.specs.Operations.{lets_through}
-use Rattle.pointer_dom.specs.Values.{IsValueIn}
-use Rattle.pointer_dom.specs.Advances.{IsSubscript}
-use Rattle.pointer_dom.specs.Advances as advances
-use Rattle.transfer_rows.specs.Actions.{Calculation, gives}
-use Rattle.transfer_rows.specs.Meanings.{IsNoSubscript, Strays, IsStray, IsUnreached}
-use Rattle.transfer_rows.specs.Meanings.{MayGive, IsMove, IsElement, IsCounted, IsReached}
-use Rattle.pointer_dom.specs.PointerSets.{offsets_or_none}
-use Rattle.temporary_types.specs.Sorts.{pointers}
-use Rattle.edge_actions.specs.Edges.{base_value, constant_value}
+use Rattle.program_reports.proofs.low.edge_actions.Lists.{le_test}
+use Rattle.program_shape.specs.strided_dom.Progression.{single, Has}
+use Rattle.program_shape.specs.tm_lattice.laws.TableLaws.{get-insert_here}
+use Rattle.program_shape.specs.tm_cint.declared.Class.{Class}
+use Rattle.program_shape.specs.tm_cint.declared.Class.TheVariants as Classes
+use Rattle.program_shape.specs.tm_terms.declared.places.Place.{Place}
+use Rattle.program_shape.specs.tm_laid.Layouts.{LaidTree, object_at, is_alive, stands_at}
+use Rattle.program_shape.specs.concrete_values.declared.values.Pointer.{Pointer}
+use Rattle.program_shape.specs.concrete_values.declared.values.Pointer.TheVariants as Pointers
+use Rattle.program_shape.specs.concrete_values.declared.values.Value.{Value}
+use Rattle.program_shape.specs.concrete_values.declared.values.Value.TheVariants.{Number, Pointer as APointer}
+use Rattle.program_shape.specs.concrete_values.declared.actions.Next.{Next}
+use Rattle.program_shape.specs.concrete_values.Values.{number_of, pointer_of}
+use Rattle.program_shape.specs.concrete_values.Pointers.{shifted, base, pointer_in, placed, or_invalid, part, element}
+use Rattle.program_shape.specs.concrete_values.Pointers.{moved}
+use Rattle.program_shape.specs.concrete_values.Pointers.{or_class}
+use Rattle.program_shape.specs.concrete_values.Pointers.{is_subscript, directed, dereferenced, is_dereferenceable}
+use Rattle.program_shape.specs.flow_graph.Operations.{Temps, put_at, Silent, Asks, Breaks, effect_by}
+use Rattle.program_shape.specs.flow_graph.Operations.{given_by}
+use Rattle.program_shape.specs.flow_graph.Operations.{lets_through}
+use Rattle.program_reports.specs.pointer_dom.Values.{IsValueIn}
+use Rattle.program_reports.specs.pointer_dom.Advances.{IsSubscript}
+use Rattle.program_reports.specs.pointer_dom.Advances as advances
+use Rattle.program_reports.specs.transfer_rows.Actions.{Calculation, gives}
+use Rattle.program_reports.specs.transfer_rows.Meanings.{IsNoSubscript, Strays, IsStray, IsUnreached}
+use Rattle.program_reports.specs.transfer_rows.Meanings.{MayGive, IsMove, IsElement, IsCounted, IsReached}
+use Rattle.program_reports.specs.pointer_dom.PointerSets.{offsets_or_none}
+use Rattle.program_reports.specs.temporary_types.Sorts.{pointers}
+use Rattle.program_reports.specs.edge_actions.Edges.{base_value, constant_value}
 use Rattle.sound_tables.specs.Memberships.{scalar_as, scalars_as}
 use Rattle.sound_tables.specs.Meanings.{Means, sizes_of}
 use Rattle.sound_tables.proofs.Covering.{put_as}

@@ -5,8 +5,8 @@ use Rattle.std.specs.Int.{bit_at}
 use Rattle.std.proofs.lemmas.Bool.{eqb-true, eq-eqb}
 use Rattle.std.proofs.lemmas.Nat.Bits.{bit_at-lt, bit_at_or, bit_at_and, bit_at-pow_same, bit_at-pow_other, bit_at-zero}
 use native.Mathlib.Decide.{ℕ_discrete}
-use Rattle.mutex_configs.specs.Sets.{has, with_mutex, without_mutex}
-use Rattle.transfer_rows.proofs.CoverSteps.{bit_stays, bit_joined_left, bit_joined_right}
+use Rattle.program_shape.specs.mutex_configs.Sets.{has, with_mutex, without_mutex}
+use Rattle.program_reports.proofs.low.transfer_rows.CoverSteps.{bit_stays, bit_joined_left, bit_joined_right}
 use Rattle.program_shape.specs.Shape.{Has}
 
 pub bit_of : (l m : ℕ) → has l m ≡ true → bit_at l m ≡ 1

@@ -1,15 +1,15 @@
 -- Tables that hold nothing: they are a solution, and stand for those of tasks that never begin.
 use Rattle.std.specs.Prelude.{ℕ, Option, Some, None}
-use Rattle.concrete_values.specs.declared.values.Value.{Value}
-use Rattle.flow_graph.specs.Operations.{Temps}
-use Rattle.transfer_rows.specs.StateForms.{State}
-use Rattle.least_tables.specs.Solutions.{NodeTable}
-use Rattle.program_equations.specs.Programs.{ProgramBodies}
-use Rattle.tm_soundness.specs.Numbered.{TaskOf}
-use Rattle.tm_soundness.specs.Shape.{Shape, Content}
-use Rattle.tm_soundness.specs.Tables.{Tables}
-use Rattle.tm_soundness.specs.Covers as covers
-use Rattle.tm_soundness.specs.Section.{Section, alone, IsHandover}
+use Rattle.program_shape.specs.concrete_values.declared.values.Value.{Value}
+use Rattle.program_shape.specs.flow_graph.Operations.{Temps}
+use Rattle.program_reports.specs.transfer_rows.StateForms.{State}
+use Rattle.program_reports.specs.least_tables.Solutions.{NodeTable}
+use Rattle.program_reports.specs.program_equations.Programs.{ProgramBodies}
+use Rattle.program_shape.specs.tm_soundness.Numbered.{TaskOf}
+use Rattle.program_shape.specs.tm_soundness.Shape.{Shape, Content}
+use Rattle.program_shape.specs.tm_soundness.Tables.{Tables}
+use Rattle.program_shape.specs.tm_soundness.Covers as covers
+use Rattle.program_shape.specs.tm_soundness.Section.{Section, alone, IsHandover}
 use Rattle.program_shape.specs.Shape.{Node, shape_of}
 use Rattle.sound_tables.specs.Programs.{part_of}
 use Rattle.sound_tables.specs.Memberships.{HasState, found_at, state_at, tables_with}

@@ -4,23 +4,23 @@ use Rattle.std.specs.Prelude.{nat_abs, true, cond, Some, None}
 use Rattle.std.proofs.Common.{inl, inr, refl, sym, ap, subst, arith}
 use Rattle.std.proofs.lemmas.Int.{ints}
 use Rattle.std.proofs.lemmas.Bool.{and_parts, and_from, cases_Bool}
-use Rattle.tm_cint.proofs.Ranges.{IsIn-from_test}
-use Rattle.edge_actions.proofs.Lists.{le_test, le_from, lt_test, lt_from}
-use Rattle.strided_dom.specs.Progression.{Has}
-use Rattle.tm_cint.specs.declared.int_types.IntType.{IntType}
-use Rattle.tm_cint.specs.IntTypes.{lo_of, hi_of, is_in}
-use Rattle.tm_typed.specs.declared.types.Scalar.{Scalar}
-use Rattle.tm_typed.specs.declared.types.Scalar.TheVariants as Scalars
-use Rattle.tm_laid.specs.Layouts.{LaidTree, object_at, abstract_at}
-use Rattle.concrete_values.specs.declared.values.Pointer.TheVariants as Pointers
-use Rattle.concrete_values.specs.declared.values.Value.{Value}
-use Rattle.concrete_values.specs.declared.values.Value.TheVariants.{Number, Pointer as APointer}
-use Rattle.concrete_values.specs.Actions.{is_of}
-use Rattle.flow_graph.specs.Graphs.{IsOfObject}
-use Rattle.pointer_dom.specs.Values.{IsValueIn}
-use Rattle.edge_actions.specs.Layouts.{numbers_up, numbers_between, numbers_of_type, open_value}
-use Rattle.edge_actions.specs.Edges.{cleared_value}
-use Rattle.tm_soundness.specs.Shape.{Content, given, open_cell, Reads, reads_given, reads_open}
+use Rattle.program_shape.proofs.low.tm_cint.Ranges.{IsIn-from_test}
+use Rattle.program_reports.proofs.low.edge_actions.Lists.{le_test, le_from, lt_test, lt_from}
+use Rattle.program_shape.specs.strided_dom.Progression.{Has}
+use Rattle.program_shape.specs.tm_cint.declared.int_types.IntType.{IntType}
+use Rattle.program_shape.specs.tm_cint.IntTypes.{lo_of, hi_of, is_in}
+use Rattle.program_shape.specs.tm_typed.declared.types.Scalar.{Scalar}
+use Rattle.program_shape.specs.tm_typed.declared.types.Scalar.TheVariants as Scalars
+use Rattle.program_shape.specs.tm_laid.Layouts.{LaidTree, object_at, abstract_at}
+use Rattle.program_shape.specs.concrete_values.declared.values.Pointer.TheVariants as Pointers
+use Rattle.program_shape.specs.concrete_values.declared.values.Value.{Value}
+use Rattle.program_shape.specs.concrete_values.declared.values.Value.TheVariants.{Number, Pointer as APointer}
+use Rattle.program_shape.specs.concrete_values.Actions.{is_of}
+use Rattle.program_shape.specs.flow_graph.Graphs.{IsOfObject}
+use Rattle.program_reports.specs.pointer_dom.Values.{IsValueIn}
+use Rattle.program_reports.specs.edge_actions.Layouts.{numbers_up, numbers_between, numbers_of_type, open_value}
+use Rattle.program_reports.specs.edge_actions.Edges.{cleared_value}
+use Rattle.program_shape.specs.tm_soundness.Shape.{Content, given, open_cell, Reads, reads_given, reads_open}
 use Rattle.program_shape.specs.Shape.{Parts, shape_of, cleared_as}
 use Rattle.sound_tables.specs.Memberships.{scalar_as}
 

@@ -3,28 +3,28 @@ use Rattle.std.specs.Prelude.{◌≡◌, ℕ, ◌<◌, ◌≤◌, ℤ, pos, true
 use Rattle.std.proofs.Common.{refl, subst, arith}
 use Rattle.std.proofs.lemmas.Int.{ints}
 use Rattle.std.specs.FinMap.{get}
-use Rattle.strided_dom.specs.Progression.{Progression, Has}
-use Rattle.strided_dom.proofs.Members.{not_in_empty}
-use Rattle.tm_lattice.specs.Tables.{IsEntry}
-use Rattle.tm_cint.specs.IntTypes.{IsIn}
-use Rattle.tm_laid.specs.Layouts.{LaidTree, object_at}
-use Rattle.concrete_values.specs.declared.values.Pointer.{Pointer}
-use Rattle.concrete_values.specs.declared.values.Pointer.TheVariants as Pointers
-use Rattle.concrete_values.specs.declared.values.Value.{Value}
-use Rattle.concrete_values.specs.declared.values.Value.TheVariants.{Number, Pointer as APointer}
-use Rattle.flow_graph.specs.Operations.{Temps}
-use Rattle.pointer_dom.specs.OffsetSets.{OffsetSet, IsOffsetSet, HasNoOffset}
-use Rattle.pointer_dom.specs.PointerSets.{Pointers as PointerSet, offsets_or_none, no_pointer}
-use Rattle.pointer_dom.specs.Values.{Values, IsValueIn}
-use Rattle.transfer_rows.specs.StateForms.{Temp, State}
-use Rattle.transfer_rows.specs.Accesses.{is_among}
-use Rattle.transfer_rows.specs.Covering.{AreIn}
-use Rattle.transfer_rows.proofs.CoverSteps.{none_has}
-use Rattle.typed_values.specs.Types.{IsOfType}
-use Rattle.state_fits.specs.Typed.{type_of_sort, type_of_some, types_of}
-use Rattle.state_fits.specs.Fits.{FitsTemp, FitsPlace}
-use Rattle.state_fits.specs.laws.Exact.{wider_type}
-use Rattle.temporary_types.specs.Sorts.{Sort, numbers, pointers, Holds}
+use Rattle.program_shape.specs.strided_dom.Progression.{Progression, Has}
+use Rattle.program_shape.proofs.low.strided_dom.Members.{not_in_empty}
+use Rattle.program_shape.specs.tm_lattice.Tables.{IsEntry}
+use Rattle.program_shape.specs.tm_cint.IntTypes.{IsIn}
+use Rattle.program_shape.specs.tm_laid.Layouts.{LaidTree, object_at}
+use Rattle.program_shape.specs.concrete_values.declared.values.Pointer.{Pointer}
+use Rattle.program_shape.specs.concrete_values.declared.values.Pointer.TheVariants as Pointers
+use Rattle.program_shape.specs.concrete_values.declared.values.Value.{Value}
+use Rattle.program_shape.specs.concrete_values.declared.values.Value.TheVariants.{Number, Pointer as APointer}
+use Rattle.program_shape.specs.flow_graph.Operations.{Temps}
+use Rattle.program_reports.specs.pointer_dom.OffsetSets.{OffsetSet, IsOffsetSet, HasNoOffset}
+use Rattle.program_reports.specs.pointer_dom.PointerSets.{Pointers as PointerSet, offsets_or_none, no_pointer}
+use Rattle.program_reports.specs.pointer_dom.Values.{Values, IsValueIn}
+use Rattle.program_reports.specs.transfer_rows.StateForms.{Temp, State}
+use Rattle.program_reports.specs.transfer_rows.Accesses.{is_among}
+use Rattle.program_reports.specs.transfer_rows.Covering.{AreIn}
+use Rattle.program_reports.proofs.low.transfer_rows.CoverSteps.{none_has}
+use Rattle.program_reports.specs.typed_values.Types.{IsOfType}
+use Rattle.program_reports.specs.state_fits.Typed.{type_of_sort, type_of_some, types_of}
+use Rattle.program_reports.specs.state_fits.Fits.{FitsTemp, FitsPlace}
+use Rattle.program_reports.specs.state_fits.laws.Exact.{wider_type}
+use Rattle.program_reports.specs.temporary_types.Sorts.{Sort, numbers, pointers, Holds}
 use Rattle.sound_tables.specs.Memberships.{scalar_as, scalars_as, address_as}
 use Rattle.sound_tables.proofs.Arriving.{live_has}
 

@@ -3,33 +3,33 @@ use Rattle.std.specs.Prelude.{◌≡◌, ℕ, ◌≤◌, ◌^◌, ℤ, int_le, B
 use Rattle.std.specs.Prelude.{List, length, slice_get, is_some, Some, None}
 use Rattle.std.proofs.Common.{refl, sym, ap, subst, ◌∙◌, inl, inr}
 use Rattle.std.proofs.lemmas.Bool.{and_parts}
-use Rattle.tm_typed.specs.declared.types.Scalar.{Scalar}
-use Rattle.tm_typed.specs.declared.types.Scalar.TheVariants as Scalars
-use Rattle.tm_typed.specs.declared.expressions.Unary.TheVariants.{Negate, Complement}
-use Rattle.tm_laid.specs.Layouts.{LaidTree}
-use Rattle.concrete_values.specs.declared.values.Pointer.{Pointer}
-use Rattle.concrete_values.specs.declared.values.Pointer.TheVariants as Pointers
-use Rattle.concrete_values.specs.declared.values.Value.{Value}
-use Rattle.concrete_values.specs.declared.values.Value.TheVariants.{Number, Pointer as APointer}
-use Rattle.concrete_values.specs.declared.actions.Next.{Next}
-use Rattle.concrete_values.specs.declared.actions.Next.TheVariants as Acts
-use Rattle.concrete_values.specs.Values.{pointer_of}
-use Rattle.concrete_values.specs.Operators.{binary, unary, converted}
-use Rattle.concrete_values.specs.Pointers.{usable, compared, element, moved, dereferenced}
-use Rattle.concrete_values.specs.Actions.{load_by, load_at, store_by, store_at, clear_at, is_of}
-use Rattle.flow_graph.specs.declared.operations.Test.{Test}
-use Rattle.flow_graph.specs.declared.operations.Test.TheVariants as Tests
-use Rattle.flow_graph.specs.declared.operations.Operation.{Operation}
-use Rattle.flow_graph.specs.declared.operations.Operation.TheVariants as Op
-use Rattle.flow_graph.specs.Operations.{Temps, put_at, used, Asks, holds}
-use Rattle.flow_graph.specs.Graphs.{Among}
-use Rattle.pointer_dom.specs.Values.{IsValueIn}
-use Rattle.transfer_rows.specs.Meanings.{MayGive, Passes}
-use Rattle.edge_actions.specs.Edges.{action_of, filter_of}
-use Rattle.edge_actions.specs.Layouts.{open_value}
-use Rattle.temporary_types.specs.Sorts.{Sort, numbers, pointers, Works, WorksTest, Holds}
-use Rattle.temporary_types.specs.PointerMarks.{is_pointers}
-use Rattle.program_equations.specs.Programs.{IsTested}
+use Rattle.program_shape.specs.tm_typed.declared.types.Scalar.{Scalar}
+use Rattle.program_shape.specs.tm_typed.declared.types.Scalar.TheVariants as Scalars
+use Rattle.program_shape.specs.tm_typed.declared.expressions.Unary.TheVariants.{Negate, Complement}
+use Rattle.program_shape.specs.tm_laid.Layouts.{LaidTree}
+use Rattle.program_shape.specs.concrete_values.declared.values.Pointer.{Pointer}
+use Rattle.program_shape.specs.concrete_values.declared.values.Pointer.TheVariants as Pointers
+use Rattle.program_shape.specs.concrete_values.declared.values.Value.{Value}
+use Rattle.program_shape.specs.concrete_values.declared.values.Value.TheVariants.{Number, Pointer as APointer}
+use Rattle.program_shape.specs.concrete_values.declared.actions.Next.{Next}
+use Rattle.program_shape.specs.concrete_values.declared.actions.Next.TheVariants as Acts
+use Rattle.program_shape.specs.concrete_values.Values.{pointer_of}
+use Rattle.program_shape.specs.concrete_values.Operators.{binary, unary, converted}
+use Rattle.program_shape.specs.concrete_values.Pointers.{usable, compared, element, moved, dereferenced}
+use Rattle.program_shape.specs.concrete_values.Actions.{load_by, load_at, store_by, store_at, clear_at, is_of}
+use Rattle.program_shape.specs.flow_graph.declared.operations.Test.{Test}
+use Rattle.program_shape.specs.flow_graph.declared.operations.Test.TheVariants as Tests
+use Rattle.program_shape.specs.flow_graph.declared.operations.Operation.{Operation}
+use Rattle.program_shape.specs.flow_graph.declared.operations.Operation.TheVariants as Op
+use Rattle.program_shape.specs.flow_graph.Operations.{Temps, put_at, used, Asks, holds}
+use Rattle.program_shape.specs.flow_graph.Graphs.{Among}
+use Rattle.program_reports.specs.pointer_dom.Values.{IsValueIn}
+use Rattle.program_reports.specs.transfer_rows.Meanings.{MayGive, Passes}
+use Rattle.program_reports.specs.edge_actions.Edges.{action_of, filter_of}
+use Rattle.program_reports.specs.edge_actions.Layouts.{open_value}
+use Rattle.program_reports.specs.temporary_types.Sorts.{Sort, numbers, pointers, Works, WorksTest, Holds}
+use Rattle.program_reports.specs.temporary_types.PointerMarks.{is_pointers}
+use Rattle.program_reports.specs.program_equations.Programs.{IsTested}
 use Rattle.program_shape.specs.Shape.{MayChoose, Does, by_itself, by_choice}
 use Rattle.sound_tables.specs.Memberships.{scalar_as, scalars_as}
 use Rattle.sound_tables.specs.Meanings.{Means, sizes_of}
@@ -42,13 +42,14 @@ use Rattle.sound_tables.proofs.Meaning.{converted_is}
 use Rattle.sound_tables.proofs.Means.{silent_ok, silent_used, silent_through, result_asks, through_asks}
 use Rattle.sound_tables.proofs.Means.{gives_value, constant_in, base_is, base_in, part_is, element_is}
 use Rattle.sound_tables.proofs.Means.{moved_is, deref_is}
-use Rattle.concrete_values.specs.Pointers.{base, part, size_of}
-use Rattle.transfer_rows.specs.StateForms.{only_numbers}
-use Rattle.transfer_rows.specs.Actions.{constant, copied, negated, complemented, operated}
-use Rattle.transfer_rows.specs.Actions.{compared as compared_row, converted as converted_row, part as part_row}
-use Rattle.transfer_rows.specs.Actions.{element as element_row, moved as moved_row}
-use Rattle.edge_actions.specs.Edges.{constant_value, base_value, followed}
-use Rattle.edge_actions.specs.Layouts.{numbers_between}
+use Rattle.program_shape.specs.concrete_values.Pointers.{base, part, size_of}
+use Rattle.program_reports.specs.transfer_rows.StateForms.{only_numbers}
+use Rattle.program_reports.specs.transfer_rows.Actions.{constant, copied, negated, complemented, operated}
+use Rattle.program_reports.specs.transfer_rows.Actions.{compared as compared_row, converted as converted_row}
+use Rattle.program_reports.specs.transfer_rows.Actions.{part as part_row}
+use Rattle.program_reports.specs.transfer_rows.Actions.{element as element_row, moved as moved_row}
+use Rattle.program_reports.specs.edge_actions.Edges.{constant_value, base_value, followed}
+use Rattle.program_reports.specs.edge_actions.Layouts.{numbers_between}
 use Rattle.std.specs.Prelude.{if◌then◌else◌}
 use Rattle.sound_tables.proofs.Means.{int_le_from}
 use Rattle.sound_tables.proofs.TestMeanings.{compared_is, usable_passes, within_self}

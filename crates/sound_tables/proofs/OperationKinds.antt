@@ -1,23 +1,23 @@
 -- Which operation is of which kind, where it leads somewhere, and what it uses.
 use Rattle.std.specs.Prelude.{◌≡◌, ◌⊎◌, ℕ, ◌<◌, Bool, true, false, not, List, [], ◌∷◌}
 use Rattle.std.proofs.Common.{refl, sym, ap, ◌∙◌, inl, inr}
-use Rattle.tm_terms.specs.declared.places.Place.{Place}
-use Rattle.tm_typed.specs.declared.types.Scalar.{Scalar}
-use Rattle.tm_typed.specs.declared.expressions.Unary.TheVariants.{Negate, Complement}
-use Rattle.tm_laid.specs.Layouts.{LaidTree}
-use Rattle.flow_graph.specs.declared.operations.Into.{Into}
-use Rattle.flow_graph.specs.declared.operations.Test.{Test}
-use Rattle.flow_graph.specs.declared.operations.Test.TheVariants as Tests
-use Rattle.flow_graph.specs.declared.operations.Operation.{Operation as GraphOperation}
-use Rattle.flow_graph.specs.declared.operations.Operation.TheVariants as Op
-use Rattle.flow_graph.specs.Operations.{used, tested}
-use Rattle.flow_graph.specs.Graphs.{Among}
-use Rattle.mutex_configs.specs.Sets.{has, leads_nowhere, IsOfSixteen}
-use Rattle.pointer_dom.specs.Values.{Values}
-use Rattle.transfer_rows.specs.Actions.{Spot, loads_any}
-use Rattle.transfer_rows.specs.Meanings.{IsOperand, IsFiltered}
-use Rattle.edge_actions.specs.Edges.{action_of, filter_of}
-use Rattle.tm_soundness.specs.Shape.{calculation, load, load_any, store, clear, unlock, yields, probe}
+use Rattle.program_shape.specs.tm_terms.declared.places.Place.{Place}
+use Rattle.program_shape.specs.tm_typed.declared.types.Scalar.{Scalar}
+use Rattle.program_shape.specs.tm_typed.declared.expressions.Unary.TheVariants.{Negate, Complement}
+use Rattle.program_shape.specs.tm_laid.Layouts.{LaidTree}
+use Rattle.program_shape.specs.flow_graph.declared.operations.Into.{Into}
+use Rattle.program_shape.specs.flow_graph.declared.operations.Test.{Test}
+use Rattle.program_shape.specs.flow_graph.declared.operations.Test.TheVariants as Tests
+use Rattle.program_shape.specs.flow_graph.declared.operations.Operation.{Operation as GraphOperation}
+use Rattle.program_shape.specs.flow_graph.declared.operations.Operation.TheVariants as Op
+use Rattle.program_shape.specs.flow_graph.Operations.{used, tested}
+use Rattle.program_shape.specs.flow_graph.Graphs.{Among}
+use Rattle.program_shape.specs.mutex_configs.Sets.{has, leads_nowhere, IsOfSixteen}
+use Rattle.program_reports.specs.pointer_dom.Values.{Values}
+use Rattle.program_reports.specs.transfer_rows.Actions.{Spot, loads_any}
+use Rattle.program_reports.specs.transfer_rows.Meanings.{IsOperand, IsFiltered}
+use Rattle.program_reports.specs.edge_actions.Edges.{action_of, filter_of}
+use Rattle.program_shape.specs.tm_soundness.Shape.{calculation, load, load_any, store, clear, unlock, yields, probe}
 use Rattle.program_shape.specs.Shape.{operation_of}
 use Rattle.sound_tables.specs.Meanings.{IsUsed}
 use Rattle.sound_tables.proofs.SetsAfter.{IsQuiet}

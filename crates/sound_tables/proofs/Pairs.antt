@@ -6,33 +6,33 @@ use Rattle.std.specs.Prelude.{Option, Some, None, IfSome}
 use Rattle.std.proofs.Common.{refl, sym, ap, subst, ◌∙◌, inl, inr, arith}
 use Rattle.std.proofs.lemmas.Bool.{and_from, and_left, and_right, eq-eqb, ne_eqb, cases_eq}
 use Rattle.std.proofs.lemmas.List.{get_or-map, length-map}
-use Rattle.concrete_values.specs.declared.values.Value.{Value}
-use Rattle.pointer_dom.specs.Pointer.{ScalarValue}
-use Rattle.pointer_dom.specs.Values.{IsValueIn, no_value}
-use Rattle.interfere_set.specs.Stores.{Interferences, IsStoreBelow, rounded_store}
-use Rattle.interfere_set.specs.laws.StoreLaws.{store_closure}
-use Rattle.transfer_rows.specs.StateForms.{State}
-use Rattle.transfer_rows.specs.Actions.{Action, Around, stores as a_store, unlocks}
+use Rattle.program_shape.specs.concrete_values.declared.values.Value.{Value}
+use Rattle.program_reports.specs.pointer_dom.Pointer.{ScalarValue}
+use Rattle.program_reports.specs.pointer_dom.Values.{IsValueIn, no_value}
+use Rattle.program_reports.specs.interfere_set.Stores.{Interferences, IsStoreBelow, rounded_store}
+use Rattle.program_reports.specs.interfere_set.laws.StoreLaws.{store_closure}
+use Rattle.program_reports.specs.transfer_rows.StateForms.{State}
+use Rattle.program_reports.specs.transfer_rows.Actions.{Action, Around, stores as a_store, unlocks}
 use Rattle.std.specs.FinMap.{get}
-use Rattle.interfere_set.specs.Stores.{no_interference, reader_of}
-use Rattle.transfer_rows.specs.Rows.{holds}
-use Rattle.transfer_rows.specs.Reports.{weak_of, sync_of, left_by}
-use Rattle.transfer_rows.specs.Contributions.{added, entry_at}
-use Rattle.transfer_rows.proofs.Contributing.{weak_added, sync_added}
-use Rattle.transfer_rows.proofs.CoverSteps.{none_has}
-use Rattle.least_tables.specs.declared.links.Link.{Link}
-use Rattle.least_tables.specs.Systems.{no_link, from_of}
-use Rattle.least_tables.specs.Solutions.{NodeTable, IsSolution}
-use Rattle.task_equations.specs.Bodies.{no_copy, copy_at}
-use Rattle.task_equations.specs.Equations.{equations_of, link_of, added_along, around_along}
-use Rattle.program_equations.specs.Programs.{ProgramBodies, body_at, HasSection, IsProgram}
-use Rattle.program_equations.specs.Systems.{states, FitsBody, task_entry, section_system}
-use Rattle.program_equations.specs.Solutions.{IsWholeSolution}
-use Rattle.program_equations.specs.laws.TaskEntries.{first_fits, task_entry_fits}
-use Rattle.program_equations.specs.laws.StoresFit.{nothing_fits}
-use Rattle.program_equations.specs.Entries.{first_state}
-use Rattle.tm_soundness.specs.Numbered.{TaskOf}
-use Rattle.tm_soundness.specs.Covers as covers
+use Rattle.program_reports.specs.interfere_set.Stores.{no_interference, reader_of}
+use Rattle.program_reports.specs.transfer_rows.Rows.{holds}
+use Rattle.program_reports.specs.transfer_rows.Reports.{weak_of, sync_of, left_by}
+use Rattle.program_reports.specs.transfer_rows.Contributions.{added, entry_at}
+use Rattle.program_reports.proofs.low.transfer_rows.Contributing.{weak_added, sync_added}
+use Rattle.program_reports.proofs.low.transfer_rows.CoverSteps.{none_has}
+use Rattle.program_reports.specs.least_tables.declared.links.Link.{Link}
+use Rattle.program_reports.specs.least_tables.Systems.{no_link, from_of}
+use Rattle.program_reports.specs.least_tables.Solutions.{NodeTable, IsSolution}
+use Rattle.program_reports.specs.task_equations.Bodies.{no_copy, copy_at}
+use Rattle.program_reports.specs.task_equations.Equations.{equations_of, link_of, added_along, around_along}
+use Rattle.program_reports.specs.program_equations.Programs.{ProgramBodies, body_at, HasSection, IsProgram}
+use Rattle.program_reports.specs.program_equations.Systems.{states, FitsBody, task_entry, section_system}
+use Rattle.program_reports.specs.program_equations.Solutions.{IsWholeSolution}
+use Rattle.program_reports.specs.program_equations.laws.TaskEntries.{first_fits, task_entry_fits}
+use Rattle.program_reports.specs.program_equations.laws.StoresFit.{nothing_fits}
+use Rattle.program_reports.specs.program_equations.Entries.{first_state}
+use Rattle.program_shape.specs.tm_soundness.Numbered.{TaskOf}
+use Rattle.program_shape.specs.tm_soundness.Covers as covers
 use Rattle.program_shape.specs.Shape.{Copy, number_of, shape_of, from_of as left_of}
 use Rattle.sound_tables.specs.Programs.{part_of, parts_of, section_alone}
 use Rattle.sound_tables.specs.Premises.{LaysCells, IsGraphOf}

@@ -4,19 +4,20 @@ use Rattle.std.proofs.Common.{refl, ap, subst, arith}
 use Rattle.std.specs.Int.{bit_at}
 use Rattle.std.specs.FinMap.{get}
 use Rattle.std.proofs.lemmas.Nat.Bits.{bit_at-lt, bit_at_or}
-use Rattle.tm_typed.specs.declared.types.Scalar.{Scalar}
-use Rattle.tm_laid.specs.Layouts.{LaidTree}
-use Rattle.pointer_dom.specs.Pointer.{ScalarValue}
-use Rattle.pointer_dom.specs.Values.{IsValueIn}
-use Rattle.pointer_dom.proofs.Meaning.{value_included}
-use Rattle.tm_lattice.specs.Tables.{IsBelow}
-use Rattle.cell_env.specs.Cells.{IsWithin}
-use Rattle.transfer_rows.specs.StateForms.{Temp, Cell, State, IsStateUnder, IsTempUnder, IsCellUnder, own_value, own_of}
-use Rattle.transfer_rows.specs.Accesses.{is_among}
-use Rattle.transfer_rows.specs.Meanings.{Valuation}
-use Rattle.transfer_rows.specs.Covering.{AreIn, IsCopyOf, IsPending, IsFresh, IsStored}
-use Rattle.transfer_rows.proofs.CoverSteps.{none_has}
-use Rattle.state_fits.specs.Fits.{FitsTemp, FitsCell, FitsPlace}
+use Rattle.program_shape.specs.tm_typed.declared.types.Scalar.{Scalar}
+use Rattle.program_shape.specs.tm_laid.Layouts.{LaidTree}
+use Rattle.program_reports.specs.pointer_dom.Pointer.{ScalarValue}
+use Rattle.program_reports.specs.pointer_dom.Values.{IsValueIn}
+use Rattle.program_reports.proofs.low.pointer_dom.Meaning.{value_included}
+use Rattle.program_shape.specs.tm_lattice.Tables.{IsBelow}
+use Rattle.program_reports.specs.cell_env.Cells.{IsWithin}
+use Rattle.program_reports.specs.transfer_rows.StateForms.{Temp, Cell, State, IsStateUnder, IsTempUnder, IsCellUnder}
+use Rattle.program_reports.specs.transfer_rows.StateForms.{own_value, own_of}
+use Rattle.program_reports.specs.transfer_rows.Accesses.{is_among}
+use Rattle.program_reports.specs.transfer_rows.Meanings.{Valuation}
+use Rattle.program_reports.specs.transfer_rows.Covering.{AreIn, IsCopyOf, IsPending, IsFresh, IsStored}
+use Rattle.program_reports.proofs.low.transfer_rows.CoverSteps.{none_has}
+use Rattle.program_reports.specs.state_fits.Fits.{FitsTemp, FitsCell, FitsPlace}
 
 same_some : {A : Type 0} (a b : A) → Some a ≡ Some b → a ≡ b
 same_some a b e = cc

@@ -1,11 +1,11 @@
 -- What each kind of operation does to held and found sets.
 use Rattle.std.specs.Prelude.{◌≡◌, ℕ, Bool, true, false}
 use Rattle.std.proofs.Common.{refl, ap}
-use Rattle.tm_terms.specs.declared.places.Place.{Place}
-use Rattle.flow_graph.specs.declared.operations.Operation.{Operation as GraphOperation}
-use Rattle.flow_graph.specs.declared.operations.Operation.TheVariants as Op
-use Rattle.mutex_configs.specs.Sets.{with_mutex, without_mutex, held_after, found_after}
-use Rattle.tm_soundness.specs.Shape.{Operation, lock, unlock, yields, probe}
+use Rattle.program_shape.specs.tm_terms.declared.places.Place.{Place}
+use Rattle.program_shape.specs.flow_graph.declared.operations.Operation.{Operation as GraphOperation}
+use Rattle.program_shape.specs.flow_graph.declared.operations.Operation.TheVariants as Op
+use Rattle.program_shape.specs.mutex_configs.Sets.{with_mutex, without_mutex, held_after, found_after}
+use Rattle.program_shape.specs.tm_soundness.Shape.{Operation, lock, unlock, yields, probe}
 use Rattle.program_shape.specs.Shape.{operation_of}
 
 -- kinds that leave the sets as they are

@@ -2,18 +2,18 @@
 use Rattle.std.specs.Prelude.{◌≡◌, ℕ, ◌<◌, cond, true, length, Some, None}
 use Rattle.std.proofs.Common.{refl, sym, ap, subst, ◌∙◌}
 use native.Mathlib.Decide.{dec_lt}
-use Rattle.edge_actions.proofs.Lists.{lt_test}
-use Rattle.tm_laid.specs.Layouts.{LaidTree, path_at, object_at, cell_at}
-use Rattle.concrete_steps.specs.Worlds.{is_part}
-use Rattle.flow_graph.specs.declared.graphs.Edge.{Edge}
-use Rattle.flow_graph.specs.declared.operations.Operation.{Operation as GraphOperation}
-use Rattle.flow_graph.specs.declared.operations.Operation.TheVariants as Op
-use Rattle.flow_graph.specs.Graphs.{IsSure}
-use Rattle.program_equations.specs.Programs.{ProgramBodies, body_at}
-use Rattle.tm_soundness.specs.Numbered.{TaskOf}
-use Rattle.tm_soundness.specs.Shape.{Shape, Operation, calculation, load, load_any, store, clear}
-use Rattle.tm_soundness.specs.Shape.{probe}
-use Rattle.tm_soundness.specs.Shaped.{IsShaped, Passes}
+use Rattle.program_reports.proofs.low.edge_actions.Lists.{lt_test}
+use Rattle.program_shape.specs.tm_laid.Layouts.{LaidTree, path_at, object_at, cell_at}
+use Rattle.program_shape.specs.concrete_steps.Worlds.{is_part}
+use Rattle.program_shape.specs.flow_graph.declared.graphs.Edge.{Edge}
+use Rattle.program_shape.specs.flow_graph.declared.operations.Operation.{Operation as GraphOperation}
+use Rattle.program_shape.specs.flow_graph.declared.operations.Operation.TheVariants as Op
+use Rattle.program_shape.specs.flow_graph.Graphs.{IsSure}
+use Rattle.program_reports.specs.program_equations.Programs.{ProgramBodies, body_at}
+use Rattle.program_shape.specs.tm_soundness.Numbered.{TaskOf}
+use Rattle.program_shape.specs.tm_soundness.Shape.{Shape, Operation, calculation, load, load_any, store, clear}
+use Rattle.program_shape.specs.tm_soundness.Shape.{probe}
+use Rattle.program_shape.specs.tm_soundness.Shaped.{IsShaped, Passes}
 use Rattle.program_shape.specs.Shape.{Has, IsOwned, IsPartOf, Clears, abstract_of_cell}
 use Rattle.program_shape.specs.Shape.{operation_of, shape_of, truth}
 use Rattle.sound_tables.specs.Programs.{part_of}

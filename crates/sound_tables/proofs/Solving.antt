@@ -4,62 +4,65 @@ use Rattle.std.specs.Prelude.{length, Option, Some, None, IfSome}
 use Rattle.std.proofs.Common.{refl, sym, ap, subst, ◌∙◌, inl, inr, ⊎_elim}
 use Rattle.std.specs.FinMap.{get}
 use Rattle.std.proofs.lemmas.Bool.{cases_Bool, false_from_ne_true}
-use Rattle.tm_cint.specs.declared.Class.{Class}
-use Rattle.tm_cint.specs.declared.Class.TheVariants as Classes
-use Rattle.tm_typed.specs.declared.types.Scalar.{Scalar}
-use Rattle.tm_laid.specs.Layouts.{cell_at, abstract_at}
-use Rattle.concrete_values.specs.declared.values.Value.{Value}
-use Rattle.concrete_values.specs.Values.{truth_value}
-use Rattle.flow_graph.specs.declared.operations.Operation.TheVariants as Op
-use Rattle.flow_graph.specs.Operations.{Temps, put_at}
-use Rattle.mutex_configs.specs.Sets.{has, leads_nowhere, IsOfSixteen}
-use Rattle.pointer_dom.specs.Pointer.{ScalarValue}
-use Rattle.pointer_dom.specs.Values.{IsValueIn}
-use Rattle.interfere_set.specs.Stores.{Interferences}
-use Rattle.transfer_rows.specs.StateForms.{Cell, State, value_of, own_of}
-use Rattle.transfer_rows.specs.Actions.{Action, Around, loads, loads_any, stores, clears, locks, unlocks, yields}
-use Rattle.transfer_rows.specs.Actions.{probes}
-use Rattle.transfer_rows.specs.Accesses.{is_among, targets_at}
-use Rattle.transfer_rows.specs.Rows.{after}
-use Rattle.transfer_rows.specs.Reports.{targets_of, IsListed}
-use Rattle.transfer_rows.specs.Meanings.{Valuation, put}
-use Rattle.transfer_rows.specs.Reports.{weak_of, sync_of}
-use Rattle.interfere_set.specs.Stores.{visible, handed}
-use Rattle.edge_actions.specs.Layouts.{open_value}
+use Rattle.program_shape.specs.tm_cint.declared.Class.{Class}
+use Rattle.program_shape.specs.tm_cint.declared.Class.TheVariants as Classes
+use Rattle.program_shape.specs.tm_typed.declared.types.Scalar.{Scalar}
+use Rattle.program_shape.specs.tm_laid.Layouts.{cell_at, abstract_at}
+use Rattle.program_shape.specs.concrete_values.declared.values.Value.{Value}
+use Rattle.program_shape.specs.concrete_values.Values.{truth_value}
+use Rattle.program_shape.specs.flow_graph.declared.operations.Operation.TheVariants as Op
+use Rattle.program_shape.specs.flow_graph.Operations.{Temps, put_at}
+use Rattle.program_shape.specs.mutex_configs.Sets.{has, leads_nowhere, IsOfSixteen}
+use Rattle.program_reports.specs.pointer_dom.Pointer.{ScalarValue}
+use Rattle.program_reports.specs.pointer_dom.Values.{IsValueIn}
+use Rattle.program_reports.specs.interfere_set.Stores.{Interferences}
+use Rattle.program_reports.specs.transfer_rows.StateForms.{Cell, State, value_of, own_of}
+use Rattle.program_reports.specs.transfer_rows.Actions.{Action, Around, loads, loads_any, stores, clears, locks}
+use Rattle.program_reports.specs.transfer_rows.Actions.{unlocks, yields}
+use Rattle.program_reports.specs.transfer_rows.Actions.{probes}
+use Rattle.program_reports.specs.transfer_rows.Accesses.{is_among, targets_at}
+use Rattle.program_reports.specs.transfer_rows.Rows.{after}
+use Rattle.program_reports.specs.transfer_rows.Reports.{targets_of, IsListed}
+use Rattle.program_reports.specs.transfer_rows.Meanings.{Valuation, put}
+use Rattle.program_reports.specs.transfer_rows.Reports.{weak_of, sync_of}
+use Rattle.program_reports.specs.interfere_set.Stores.{visible, handed}
+use Rattle.program_reports.specs.edge_actions.Layouts.{open_value}
 use Rattle.program_shape.specs.Shape.{HasType}
 use Rattle.sound_tables.proofs.MutexSets.{bit_of}
-use Rattle.tm_laid.specs.Layouts.{object_at}
-use Rattle.flow_graph.specs.Graphs.{IsOfObject}
-use Rattle.transfer_rows.specs.StateForms.{own_value}
-use Rattle.transfer_rows.proofs.CoverSteps.{none_has, none_some}
-use Rattle.transfer_rows.proofs.Covers.{clear_covers}
-use Rattle.edge_actions.specs.Layouts.{is_reachable}
-use Rattle.edge_actions.specs.Edges.{cleared_value}
+use Rattle.program_shape.specs.tm_laid.Layouts.{object_at}
+use Rattle.program_shape.specs.flow_graph.Graphs.{IsOfObject}
+use Rattle.program_reports.specs.transfer_rows.StateForms.{own_value}
+use Rattle.program_reports.proofs.low.transfer_rows.CoverSteps.{none_has, none_some}
+use Rattle.program_reports.proofs.low.transfer_rows.Covers.{clear_covers}
+use Rattle.program_reports.specs.edge_actions.Layouts.{is_reachable}
+use Rattle.program_reports.specs.edge_actions.Edges.{cleared_value}
 use Rattle.program_shape.specs.Shape.{IsPartOf, Clears}
 use Rattle.sound_tables.proofs.Shaped.{abstract_within}
 use Rattle.sound_tables.proofs.Openings.{read_open, cleared_in, cleared_out}
 use Rattle.sound_tables.proofs.Covering.{path_reaches}
 use Rattle.sound_tables.proofs.Covering.{usable_reaches, within_small, cell_pending}
-use Rattle.transfer_rows.specs.Covering.{AreIn, HasTemp, HasCell, AreLocalsIn, LeadsTo, IsCopyOf, IsPending, IsFresh}
-use Rattle.transfer_rows.specs.Covering.{IsStored}
-use Rattle.transfer_rows.specs.Covering as rows
-use Rattle.transfer_rows.proofs.CoverSteps.{in_temp}
-use Rattle.transfer_rows.proofs.Covers.{load_covers, load_any_covers, store_covers, target_found}
-use Rattle.transfer_rows.proofs.Covers.{lock_covers, unlock_covers, held_covers, free_covers, yield_covers}
-use Rattle.edge_actions.specs.Layouts.{is_shared_cell, is_smashed_cell, spots_of}
-use Rattle.least_tables.specs.Solutions.{NodeTable, IsSolution}
-use Rattle.state_fits.specs.Typed.{types_of}
-use Rattle.state_fits.specs.Fits.{IsSeenCell, FitsPlace}
-use Rattle.task_equations.specs.Bodies.{live_at}
-use Rattle.task_equations.specs.Equations.{equations_of, tests_pointer}
-use Rattle.program_equations.specs.Programs.{ProgramBodies, body_at, IsProgram}
-use Rattle.program_equations.specs.Systems.{states, FitsBody, FitsProgram}
-use Rattle.tm_soundness.specs.Numbered.{TaskOf}
-use Rattle.tm_soundness.specs.Shape.{Shape, calculation, load, load_any, store as a_store, clear, lock}
-use Rattle.tm_soundness.specs.Shape.{unlock, yields as a_yield, probe}
-use Rattle.tm_soundness.specs.Tables.{Tables}
-use Rattle.tm_soundness.specs.GraphWorlds.{IsAccess}
-use Rattle.tm_soundness.specs.Covers as covers
+use Rattle.program_reports.specs.transfer_rows.Covering.{AreIn, HasTemp, HasCell, AreLocalsIn, LeadsTo, IsCopyOf}
+use Rattle.program_reports.specs.transfer_rows.Covering.{IsPending, IsFresh}
+use Rattle.program_reports.specs.transfer_rows.Covering.{IsStored}
+use Rattle.program_reports.specs.transfer_rows.Covering as rows
+use Rattle.program_reports.proofs.low.transfer_rows.CoverSteps.{in_temp}
+use Rattle.program_reports.proofs.low.transfer_rows.Covers.{load_covers, load_any_covers, store_covers, target_found}
+use Rattle.program_reports.proofs.low.transfer_rows.Covers.{lock_covers, unlock_covers, held_covers, free_covers}
+use Rattle.program_reports.proofs.low.transfer_rows.Covers.{yield_covers}
+use Rattle.program_reports.specs.edge_actions.Layouts.{is_shared_cell, is_smashed_cell, spots_of}
+use Rattle.program_reports.specs.least_tables.Solutions.{NodeTable, IsSolution}
+use Rattle.program_reports.specs.state_fits.Typed.{types_of}
+use Rattle.program_reports.specs.state_fits.Fits.{IsSeenCell, FitsPlace}
+use Rattle.program_reports.specs.task_equations.Bodies.{live_at}
+use Rattle.program_reports.specs.task_equations.Equations.{equations_of, tests_pointer}
+use Rattle.program_reports.specs.program_equations.Programs.{ProgramBodies, body_at, IsProgram}
+use Rattle.program_reports.specs.program_equations.Systems.{states, FitsBody, FitsProgram}
+use Rattle.program_shape.specs.tm_soundness.Numbered.{TaskOf}
+use Rattle.program_shape.specs.tm_soundness.Shape.{Shape, calculation, load, load_any, store as a_store, clear, lock}
+use Rattle.program_shape.specs.tm_soundness.Shape.{unlock, yields as a_yield, probe}
+use Rattle.program_shape.specs.tm_soundness.Tables.{Tables}
+use Rattle.program_shape.specs.tm_soundness.GraphWorlds.{IsAccess}
+use Rattle.program_shape.specs.tm_soundness.Covers as covers
 use Rattle.program_shape.specs.Shape.{Copy, Has, IsShared, shape_of, from_of, to_of, operation_of}
 use Rattle.program_shape.specs.Shape.{abstract_of_cell, Does, Fails}
 use Rattle.sound_tables.specs.Programs.{part_of}

@@ -3,13 +3,13 @@ use Rattle.std.specs.Prelude.{◌≡◌, ◌⊎◌, ℕ, zero, suc, ◌<◌, ◌
 use Rattle.std.specs.Prelude.{length}
 use Rattle.std.proofs.Common.{refl, sym, ap, subst, ◌∙◌, inl, inr, arith}
 use Rattle.std.proofs.lemmas.Bool.{eq-eqb, cases_lt}
-use Rattle.tm_typed.specs.declared.types.Scalar.{Scalar}
-use Rattle.tm_typed.specs.declared.types.Scalar.TheVariants as Scalars
-use Rattle.tm_typed.specs.Types.{int_index}
-use Rattle.tm_laid.specs.Layouts.{LaidTree, object_at, cell_at, cell_of, abstract_of, is_same_scalar}
-use Rattle.transfer_rows.specs.Actions.{Spot}
-use Rattle.transfer_rows.specs.Meanings.{IsSpotOf}
-use Rattle.edge_actions.specs.Layouts.{is_reachable, spot_at, spots_in, spots_before, spots_of}
+use Rattle.program_shape.specs.tm_typed.declared.types.Scalar.{Scalar}
+use Rattle.program_shape.specs.tm_typed.declared.types.Scalar.TheVariants as Scalars
+use Rattle.program_shape.specs.tm_typed.Types.{int_index}
+use Rattle.program_shape.specs.tm_laid.Layouts.{LaidTree, object_at, cell_at, cell_of, abstract_of, is_same_scalar}
+use Rattle.program_reports.specs.transfer_rows.Actions.{Spot}
+use Rattle.program_reports.specs.transfer_rows.Meanings.{IsSpotOf}
+use Rattle.program_reports.specs.edge_actions.Layouts.{is_reachable, spot_at, spots_in, spots_before, spots_of}
 
 pub scalar_self : (s : Scalar) → is_same_scalar s s ≡ true
 scalar_self (Scalars.Int t) = eq-eqb (int_index t) (int_index t) refl

@@ -5,31 +5,32 @@ use Rattle.std.specs.Prelude.{not, Ok}
 use Rattle.std.proofs.Common.{refl, sym, ap, subst, ◌∙◌, inl, inr, arith}
 use Rattle.std.proofs.lemmas.Int.{ints}
 use Rattle.std.proofs.lemmas.Bool.{and_parts, and_from, not-true, not-false}
-use Rattle.strided_dom.specs.Progression.{single, Has}
-use Rattle.tm_cint.specs.declared.int_types.IntType.{IntType}
-use Rattle.tm_cint.specs.declared.operators.BinOp.{BinOp}
-use Rattle.tm_cint.specs.declared.operators.BinOp.TheVariants as Bins
-use Rattle.tm_cint.specs.IntTypes.{lo_of, hi_of}
-use Rattle.tm_cint.specs.Conversions.{truth, is_zero}
-use Rattle.tm_cint.specs.Operators.{outcome, is_same, IsComparison}
-use Rattle.tm_laid.specs.Layouts.{LaidTree}
-use Rattle.concrete_values.specs.declared.values.Pointer.{Pointer}
-use Rattle.concrete_values.specs.declared.values.Pointer.TheVariants as Pointers
-use Rattle.concrete_values.specs.declared.values.Value.{Value}
-use Rattle.concrete_values.specs.declared.values.Value.TheVariants.{Number, Pointer as APointer}
-use Rattle.concrete_values.specs.Values.{number_of, pointer_of, number_in, is_true, is_null, truth_value}
-use Rattle.concrete_values.specs.Operators.{number_result, right_number, binary, is_case}
-use Rattle.concrete_values.specs.Pointers.{is_compared, is_same_pointer, usable}
-use Rattle.flow_graph.specs.declared.operations.Test.TheVariants as Tests
-use Rattle.flow_graph.specs.Operations.{Temps, is_given_true, is_as}
-use Rattle.pointer_dom.specs.Pointer.{ScalarValue, null, number as a_number, pointer as a_pointer}
-use Rattle.pointer_dom.specs.Pointer as scalars
-use Rattle.transfer_rows.specs.Meanings.{NumbersCompare, PointersCompare, Passes, IsComparison as IsCompared}
-use Rattle.pointer_dom.specs.Equality.{IsEqualityOf}
-use Rattle.transfer_rows.specs.Actions.{temporary}
-use Rattle.edge_actions.specs.Edges.{filter_of}
-use Rattle.filters.specs.Partners.{Compares}
-use Rattle.temporary_types.specs.Sorts.{Sort, numbers, pointers, Within}
+use Rattle.program_shape.specs.strided_dom.Progression.{single, Has}
+use Rattle.program_shape.specs.tm_cint.declared.int_types.IntType.{IntType}
+use Rattle.program_shape.specs.tm_cint.declared.operators.BinOp.{BinOp}
+use Rattle.program_shape.specs.tm_cint.declared.operators.BinOp.TheVariants as Bins
+use Rattle.program_shape.specs.tm_cint.IntTypes.{lo_of, hi_of}
+use Rattle.program_shape.specs.tm_cint.Conversions.{truth, is_zero}
+use Rattle.program_shape.specs.tm_cint.Operators.{outcome, is_same, IsComparison}
+use Rattle.program_shape.specs.tm_laid.Layouts.{LaidTree}
+use Rattle.program_shape.specs.concrete_values.declared.values.Pointer.{Pointer}
+use Rattle.program_shape.specs.concrete_values.declared.values.Pointer.TheVariants as Pointers
+use Rattle.program_shape.specs.concrete_values.declared.values.Value.{Value}
+use Rattle.program_shape.specs.concrete_values.declared.values.Value.TheVariants.{Number, Pointer as APointer}
+use Rattle.program_shape.specs.concrete_values.Values.{number_of, pointer_of, number_in, is_true, is_null, truth_value}
+use Rattle.program_shape.specs.concrete_values.Operators.{number_result, right_number, binary, is_case}
+use Rattle.program_shape.specs.concrete_values.Pointers.{is_compared, is_same_pointer, usable}
+use Rattle.program_shape.specs.flow_graph.declared.operations.Test.TheVariants as Tests
+use Rattle.program_shape.specs.flow_graph.Operations.{Temps, is_given_true, is_as}
+use Rattle.program_reports.specs.pointer_dom.Pointer.{ScalarValue, null, number as a_number, pointer as a_pointer}
+use Rattle.program_reports.specs.pointer_dom.Pointer as scalars
+use Rattle.program_reports.specs.transfer_rows.Meanings.{NumbersCompare, PointersCompare, Passes}
+use Rattle.program_reports.specs.transfer_rows.Meanings.{IsComparison as IsCompared}
+use Rattle.program_reports.specs.pointer_dom.Equality.{IsEqualityOf}
+use Rattle.program_reports.specs.transfer_rows.Actions.{temporary}
+use Rattle.program_reports.specs.edge_actions.Edges.{filter_of}
+use Rattle.program_reports.specs.filters.Partners.{Compares}
+use Rattle.program_reports.specs.temporary_types.Sorts.{Sort, numbers, pointers, Within}
 use Rattle.sound_tables.specs.Memberships.{scalar_as, scalars_as, address_as}
 use Rattle.sound_tables.proofs.Operands.{IsOf}
 use Rattle.sound_tables.proofs.Doing.{number_is, true_false}

@@ -1,23 +1,23 @@
 -- What is said of the tables of an analysis.
 use Rattle.std.specs.Prelude.{◌≡◌, ℕ, ◌<◌, List, length, Option, Some}
-use Rattle.tm_cint.specs.declared.Class.{Class}
-use Rattle.tm_cint.specs.declared.Class.TheVariants.{Race}
-use Rattle.tm_terms.specs.declared.places.Place.{Place}
-use Rattle.least_tables.specs.Solutions.{NodeTable}
+use Rattle.program_shape.specs.tm_cint.declared.Class.{Class}
+use Rattle.program_shape.specs.tm_cint.declared.Class.TheVariants.{Race}
+use Rattle.program_shape.specs.tm_terms.declared.places.Place.{Place}
+use Rattle.program_reports.specs.least_tables.Solutions.{NodeTable}
 use Rattle.program_reports.specs.Reports.{IsAlarm}
-use Rattle.tm_soundness.specs.Reports.{IsRaceListed}
-use Rattle.interfere_set.specs.Stores.{Interferences}
-use Rattle.transfer_rows.specs.StateForms.{State}
-use Rattle.program_equations.specs.Programs.{ProgramBodies, HasSection, IsProgram}
-use Rattle.program_equations.specs.Solutions.{tables_of as lists_of, IsPair}
-use Rattle.tm_soundness.specs.Shaped.{IsShaped}
-use Rattle.tm_soundness.specs.Covers.{IsSolution, IsEntered}
-use Rattle.tm_soundness.specs.Section.{IsHandover}
-use Rattle.tm_soundness.specs.Shape.{Content}
-use Rattle.tm_soundness.specs.Numbered.{TaskOf}
-use Rattle.concrete_values.specs.declared.values.Value.{Value}
-use Rattle.concrete_values.specs.Values.{nothing}
-use Rattle.flow_graph.specs.Operations.{Temps}
+use Rattle.program_shape.specs.tm_soundness.Reports.{IsRaceListed}
+use Rattle.program_reports.specs.interfere_set.Stores.{Interferences}
+use Rattle.program_reports.specs.transfer_rows.StateForms.{State}
+use Rattle.program_reports.specs.program_equations.Programs.{ProgramBodies, HasSection, IsProgram}
+use Rattle.program_reports.specs.program_equations.Solutions.{tables_of as lists_of, IsPair}
+use Rattle.program_shape.specs.tm_soundness.Shaped.{IsShaped}
+use Rattle.program_shape.specs.tm_soundness.Covers.{IsSolution, IsEntered}
+use Rattle.program_shape.specs.tm_soundness.Section.{IsHandover}
+use Rattle.program_shape.specs.tm_soundness.Shape.{Content}
+use Rattle.program_shape.specs.tm_soundness.Numbered.{TaskOf}
+use Rattle.program_shape.specs.concrete_values.declared.values.Value.{Value}
+use Rattle.program_shape.specs.concrete_values.Values.{nothing}
+use Rattle.program_shape.specs.flow_graph.Operations.{Temps}
 use Rattle.program_shape.specs.Shape.{Copy, shape_of, section_of, place_at}
 use Rattle.sound_tables.specs.Programs.{parts_of, section_alone}
 use Rattle.sound_tables.specs.Premises.{LaysCells, IsGraphOf, AreRegular}

@@ -1,22 +1,23 @@
 -- What an operation does to temporaries, and with which class it may fail, as the rows of states read it.
 use Rattle.std.specs.Prelude.{◌≡◌, ◌⊎◌, ℕ, Bool, List}
-use Rattle.tm_cint.specs.declared.Class.{Class}
-use Rattle.tm_cint.specs.declared.Class.TheVariants.{Pointer as PointerClass}
-use Rattle.tm_laid.specs.Layouts.{LaidTree, object_at}
-use Rattle.flow_graph.specs.declared.graphs.Edge.{Edge}
-use Rattle.flow_graph.specs.Operations.{Temps}
-use Rattle.flow_graph.specs.Graphs.{Among}
-use Rattle.pointer_dom.specs.Pointer.{ScalarValue, pointer, invalid}
-use Rattle.pointer_dom.specs.Values.{IsValueIn}
-use Rattle.transfer_rows.specs.StateForms.{State}
-use Rattle.transfer_rows.specs.Actions.{Action, skips, gives, refines, loads, loads_any, stores, usable}
-use Rattle.transfer_rows.specs.Meanings.{Valuation, put, MayGive, Fails as MayFail, Passes, IsOperand, IsFiltered}
-use Rattle.transfer_rows.specs.Covering.{AreIn}
-use Rattle.state_fits.specs.Typed.{types_of}
-use Rattle.state_fits.specs.Fits.{FitsPlace}
-use Rattle.temporary_types.specs.Sorts.{Sort}
-use Rattle.task_equations.specs.Bodies.{live_at}
-use Rattle.program_equations.specs.Programs.{ProgramBodies, body_at}
+use Rattle.program_shape.specs.tm_cint.declared.Class.{Class}
+use Rattle.program_shape.specs.tm_cint.declared.Class.TheVariants.{Pointer as PointerClass}
+use Rattle.program_shape.specs.tm_laid.Layouts.{LaidTree, object_at}
+use Rattle.program_shape.specs.flow_graph.declared.graphs.Edge.{Edge}
+use Rattle.program_shape.specs.flow_graph.Operations.{Temps}
+use Rattle.program_shape.specs.flow_graph.Graphs.{Among}
+use Rattle.program_reports.specs.pointer_dom.Pointer.{ScalarValue, pointer, invalid}
+use Rattle.program_reports.specs.pointer_dom.Values.{IsValueIn}
+use Rattle.program_reports.specs.transfer_rows.StateForms.{State}
+use Rattle.program_reports.specs.transfer_rows.Actions.{Action, skips, gives, refines, loads, loads_any, stores, usable}
+use Rattle.program_reports.specs.transfer_rows.Meanings.{Valuation, put, MayGive, Fails as MayFail, Passes, IsOperand}
+use Rattle.program_reports.specs.transfer_rows.Meanings.{IsFiltered}
+use Rattle.program_reports.specs.transfer_rows.Covering.{AreIn}
+use Rattle.program_reports.specs.state_fits.Typed.{types_of}
+use Rattle.program_reports.specs.state_fits.Fits.{FitsPlace}
+use Rattle.program_reports.specs.temporary_types.Sorts.{Sort}
+use Rattle.program_reports.specs.task_equations.Bodies.{live_at}
+use Rattle.program_reports.specs.program_equations.Programs.{ProgramBodies, body_at}
 use Rattle.program_shape.specs.Shape.{Does, Fails}
 use Rattle.sound_tables.specs.Memberships.{scalars_as, action_at}
 

@@ -1,32 +1,32 @@
 -- What the tables and the store of an analysis hold, in terms of members.
 use Rattle.std.specs.Prelude.{◌≡◌, ℕ, Bool, true, position, Option, Some, None}
-use Rattle.concrete_values.specs.declared.values.Pointer.{Pointer}
-use Rattle.concrete_values.specs.declared.values.Pointer.TheVariants as Pointers
-use Rattle.concrete_values.specs.declared.values.Value.{Value}
-use Rattle.concrete_values.specs.declared.values.Value.TheVariants.{Number, Pointer as APointer}
-use Rattle.flow_graph.specs.declared.graphs.Edge.{Edge}
-use Rattle.flow_graph.specs.declared.operations.Operation.{Operation}
-use Rattle.flow_graph.specs.Operations.{Temps}
-use Rattle.mutex_configs.specs.declared.nodes.ConfiguredNode.{ConfiguredNode}
-use Rattle.mutex_configs.specs.Nodes.{is_same_node}
-use Rattle.pointer_dom.specs.Pointer.{ScalarValue, number, pointer, null, invalid, to}
-use Rattle.pointer_dom.specs.Values.{IsValueIn}
-use Rattle.interfere_set.specs.Stores.{Interferences, reader_of}
-use Rattle.transfer_rows.specs.StateForms.{State, own_of}
-use Rattle.transfer_rows.specs.Actions.{Action, Around}
-use Rattle.transfer_rows.specs.Accesses.{is_among}
-use Rattle.transfer_rows.specs.Contributions.{entry_at}
-use Rattle.transfer_rows.specs.Reports.{targets_of, IsListed}
-use Rattle.transfer_rows.specs.Meanings.{Valuation}
-use Rattle.transfer_rows.specs.Covering.{AreIn, HasCell, IsCopyOf, IsPending, IsFresh, IsStored}
-use Rattle.edge_actions.specs.Layouts.{is_shared_cell, is_smashed_cell}
-use Rattle.edge_actions.specs.Edges.{action_of}
-use Rattle.least_tables.specs.Solutions.{NodeTable}
-use Rattle.task_equations.specs.Bodies.{live_at}
-use Rattle.task_equations.specs.Equations.{tests_pointer}
-use Rattle.program_equations.specs.Programs.{ProgramBodies, body_at}
-use Rattle.tm_soundness.specs.Numbered.{TaskOf}
-use Rattle.tm_soundness.specs.Tables.{Tables}
+use Rattle.program_shape.specs.concrete_values.declared.values.Pointer.{Pointer}
+use Rattle.program_shape.specs.concrete_values.declared.values.Pointer.TheVariants as Pointers
+use Rattle.program_shape.specs.concrete_values.declared.values.Value.{Value}
+use Rattle.program_shape.specs.concrete_values.declared.values.Value.TheVariants.{Number, Pointer as APointer}
+use Rattle.program_shape.specs.flow_graph.declared.graphs.Edge.{Edge}
+use Rattle.program_shape.specs.flow_graph.declared.operations.Operation.{Operation}
+use Rattle.program_shape.specs.flow_graph.Operations.{Temps}
+use Rattle.program_shape.specs.mutex_configs.declared.nodes.ConfiguredNode.{ConfiguredNode}
+use Rattle.program_shape.specs.mutex_configs.Nodes.{is_same_node}
+use Rattle.program_reports.specs.pointer_dom.Pointer.{ScalarValue, number, pointer, null, invalid, to}
+use Rattle.program_reports.specs.pointer_dom.Values.{IsValueIn}
+use Rattle.program_reports.specs.interfere_set.Stores.{Interferences, reader_of}
+use Rattle.program_reports.specs.transfer_rows.StateForms.{State, own_of}
+use Rattle.program_reports.specs.transfer_rows.Actions.{Action, Around}
+use Rattle.program_reports.specs.transfer_rows.Accesses.{is_among}
+use Rattle.program_reports.specs.transfer_rows.Contributions.{entry_at}
+use Rattle.program_reports.specs.transfer_rows.Reports.{targets_of, IsListed}
+use Rattle.program_reports.specs.transfer_rows.Meanings.{Valuation}
+use Rattle.program_reports.specs.transfer_rows.Covering.{AreIn, HasCell, IsCopyOf, IsPending, IsFresh, IsStored}
+use Rattle.program_reports.specs.edge_actions.Layouts.{is_shared_cell, is_smashed_cell}
+use Rattle.program_reports.specs.edge_actions.Edges.{action_of}
+use Rattle.program_reports.specs.least_tables.Solutions.{NodeTable}
+use Rattle.program_reports.specs.task_equations.Bodies.{live_at}
+use Rattle.program_reports.specs.task_equations.Equations.{tests_pointer}
+use Rattle.program_reports.specs.program_equations.Programs.{ProgramBodies, body_at}
+use Rattle.program_shape.specs.tm_soundness.Numbered.{TaskOf}
+use Rattle.program_shape.specs.tm_soundness.Tables.{Tables}
 use Rattle.program_shape.specs.Shape.{Node, Copy, shape_of, from_of}
 use Rattle.sound_tables.specs.Programs.{part_of, parts_of, section_alone}
 

@@ -1,26 +1,26 @@
 -- What layouts and graphs keep, of which the soundness of tables is shown.
 use Rattle.std.specs.Prelude.{◌≡◌, ℕ, ◌<◌, ◌≤◌, ◌^◌, Bool, true, false, List, length, slice_get, Some}
-use Rattle.tm_cint.specs.declared.int_types.IntType.TheVariants as Ints
-use Rattle.tm_typed.specs.declared.expressions.Unary.TheVariants.{Complement}
-use Rattle.tm_laid.specs.Layouts.{LaidTree, path_at, object_at, cell_at, cell_of, abstract_at}
-use Rattle.concrete_values.specs.declared.values.Pointer.TheVariants as Pointers
-use Rattle.concrete_values.specs.declared.values.Value.{Value}
-use Rattle.concrete_values.specs.declared.values.Value.TheVariants.{Number, Pointer as APointer}
-use Rattle.concrete_steps.specs.Worlds.{is_part}
-use Rattle.flow_graph.specs.declared.graphs.Edge.{Edge}
-use Rattle.flow_graph.specs.declared.operations.Test.TheVariants as Tests
-use Rattle.flow_graph.specs.declared.operations.Operation.{Operation}
-use Rattle.flow_graph.specs.declared.operations.Operation.TheVariants as Op
-use Rattle.flow_graph.specs.Operations.{used}
-use Rattle.flow_graph.specs.Graphs.{Among, IsPlain, IsOfObject}
-use Rattle.transfer_rows.specs.Accesses.{is_among}
-use Rattle.mutex_configs.specs.Nodes.{AreNodes, all_copies}
-use Rattle.mutex_configs.specs.Sets.{IsOfSixteen}
-use Rattle.temporary_types.specs.Sorts.{Sort}
-use Rattle.temporary_types.specs.PointerMarks.{is_pointers}
-use Rattle.task_equations.specs.Bodies.{live_at}
-use Rattle.task_equations.specs.Equations.{tests_pointer}
-use Rattle.program_equations.specs.Programs.{ProgramBodies, body_at}
+use Rattle.program_shape.specs.tm_cint.declared.int_types.IntType.TheVariants as Ints
+use Rattle.program_shape.specs.tm_typed.declared.expressions.Unary.TheVariants.{Complement}
+use Rattle.program_shape.specs.tm_laid.Layouts.{LaidTree, path_at, object_at, cell_at, cell_of, abstract_at}
+use Rattle.program_shape.specs.concrete_values.declared.values.Pointer.TheVariants as Pointers
+use Rattle.program_shape.specs.concrete_values.declared.values.Value.{Value}
+use Rattle.program_shape.specs.concrete_values.declared.values.Value.TheVariants.{Number, Pointer as APointer}
+use Rattle.program_shape.specs.concrete_steps.Worlds.{is_part}
+use Rattle.program_shape.specs.flow_graph.declared.graphs.Edge.{Edge}
+use Rattle.program_shape.specs.flow_graph.declared.operations.Test.TheVariants as Tests
+use Rattle.program_shape.specs.flow_graph.declared.operations.Operation.{Operation}
+use Rattle.program_shape.specs.flow_graph.declared.operations.Operation.TheVariants as Op
+use Rattle.program_shape.specs.flow_graph.Operations.{used}
+use Rattle.program_shape.specs.flow_graph.Graphs.{Among, IsPlain, IsOfObject}
+use Rattle.program_reports.specs.transfer_rows.Accesses.{is_among}
+use Rattle.program_shape.specs.mutex_configs.Nodes.{AreNodes, all_copies}
+use Rattle.program_shape.specs.mutex_configs.Sets.{IsOfSixteen}
+use Rattle.program_reports.specs.temporary_types.Sorts.{Sort}
+use Rattle.program_reports.specs.temporary_types.PointerMarks.{is_pointers}
+use Rattle.program_reports.specs.task_equations.Bodies.{live_at}
+use Rattle.program_reports.specs.task_equations.Equations.{tests_pointer}
+use Rattle.program_reports.specs.program_equations.Programs.{ProgramBodies, body_at}
 
 -- ## Layouts
 

@@ -1,8 +1,8 @@
 -- Programs of bodies as the soundness theorem reads them.
 use Rattle.std.specs.Prelude.{ℕ, get_or}
-use Rattle.tm_soundness.specs.Numbered.{TaskOf}
+use Rattle.program_shape.specs.tm_soundness.Numbered.{TaskOf}
 use Rattle.program_shape.specs.Shape.{Parts, number_of, section_parts}
-use Rattle.program_equations.specs.Programs.{ProgramBodies, body_at}
+use Rattle.program_reports.specs.program_equations.Programs.{ProgramBodies, body_at}
 
 -- some bodies of a program, by their numbers, which run together with these priorities
 abbrev pub part_of : ProgramBodies → (n : ℕ) → (TaskOf n → ℕ) → (ℕ → ℕ) → Parts

@@ -1,12 +1,12 @@
 -- What stands in memory where tasks begin, and with which temporaries.
 use Rattle.std.specs.Prelude.{◌≡◌, ℕ, ◌<◌, ◌≤◌, length, slice_get, Some}
-use Rattle.tm_laid.specs.declared.objects.Initial.{Initial}
-use Rattle.tm_laid.specs.declared.objects.Initial.TheVariants as Initials
-use Rattle.tm_laid.specs.Layouts.{LaidTree, object_at, cell_at}
-use Rattle.concrete_values.specs.declared.values.Pointer.TheVariants as Pointers
-use Rattle.concrete_values.specs.declared.values.Value.{Value}
-use Rattle.concrete_values.specs.declared.values.Value.TheVariants.{Number, Pointer as APointer}
-use Rattle.tm_soundness.specs.Shape.{Content, given}
+use Rattle.program_shape.specs.tm_laid.declared.objects.Initial.{Initial}
+use Rattle.program_shape.specs.tm_laid.declared.objects.Initial.TheVariants as Initials
+use Rattle.program_shape.specs.tm_laid.Layouts.{LaidTree, object_at, cell_at}
+use Rattle.program_shape.specs.concrete_values.declared.values.Pointer.TheVariants as Pointers
+use Rattle.program_shape.specs.concrete_values.declared.values.Value.{Value}
+use Rattle.program_shape.specs.concrete_values.declared.values.Value.TheVariants.{Number, Pointer as APointer}
+use Rattle.program_shape.specs.tm_soundness.Shape.{Content, given}
 use Rattle.program_shape.specs.Shape.{IsShared, IsOwned, abstract_of_cell, cleared_as}
 
 abbrev pub initial_as : Initial → Value

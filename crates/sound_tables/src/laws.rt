@@ -1,5 +1,5 @@
 //! The laws. They speak of definitions alone: no call is made.
-ghost use Rattle.program_equations.specs.Programs.{ProgramBodies};
+ghost use Rattle.program_reports.specs.program_equations.Programs.{ProgramBodies};
 ghost use Rattle.sound_tables.specs.Laws.{ShapesAreLawful, PairsCover, ListedAreAlarms, TasksEnter, SectionsHandOver};
 ghost use Rattle.sound_tables.specs.Laws.{HoldsNothing, OperationsMean};
 

@@ -1,8 +1,8 @@
 -- The program of a source: its layout is that of a typed file, and it keeps what its equations ask.
 use Rattle.std.specs.Prelude.{ℕ, List, []}
-use Rattle.lowering_laws.specs.LaidFiles.{IsLaidFile}
+use Rattle.program_graphs.specs.lowering_laws.LaidFiles.{IsLaidFile}
 use Rattle.thresholds.specs.Thresholds.{numbers_of}
-use Rattle.program_equations.specs.Programs.{ProgramBodies, IsProgram}
+use Rattle.program_laws.specs.program_equations.Programs.{ProgramBodies, IsProgram}
 use Rattle.program_laws.proofs.LaidPrograms.{program_kept}
 use Rattle.source_programs.specs.Sources.{main_in, IsAccepted}
 

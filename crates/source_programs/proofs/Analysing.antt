@@ -4,13 +4,13 @@ use Rattle.std.proofs.Common.{sym, ap, subst}
 use Rattle.tm_terms.specs.declared.refusals.Fail.{Fail}
 use Rattle.tm_laid.specs.declared.layouts.Laid.{Laid}
 use Rattle.tm_laid.specs.Layouts.{LaidTree, laid_tree}
-use Rattle.call_graph.specs.Graphs.{lists}
-use Rattle.call_graph.specs.Orders.{IsWholeOrder}
-use Rattle.lowering_laws.specs.LaidFiles.{IsLaidFile}
+use Rattle.c_typing.specs.call_graph.Graphs.{lists}
+use Rattle.c_typing.specs.call_graph.Orders.{IsWholeOrder}
+use Rattle.program_graphs.specs.lowering_laws.LaidFiles.{IsLaidFile}
 use Rattle.mutex_configs.specs.declared.programs.Program.{Program}
 use Rattle.program_graphs.specs.Prepared.{answer_of, IsPrepared}
 use Rattle.thresholds.specs.Thresholds.{numbers_of, AreThresholds}
-use Rattle.program_systems.specs.Analysable.{IsAnalysable}
+use Rattle.program_laws.specs.program_systems.Analysable.{IsAnalysable}
 use Rattle.program_laws.proofs.AnalysablePrograms.{analysable}
 
 module _ (laid : Laid) (file : IsLaidFile (laid_tree laid))

@@ -5,15 +5,15 @@ use Rattle.std.proofs.Common.{sym, subst, ◌∙◌, arith}
 use Rattle.std.proofs.lemmas.List.{same_lists, get_or_default, get_or-map, length-map}
 use Rattle.std.proofs.lemmas.List.Elements.{All-contains, Contains-get_or}
 use Rattle.tm_laid.specs.Layouts.{LaidTree}
-use Rattle.flow_graph.specs.declared.graphs.Graph.{Graph}
-use Rattle.flow_graph.specs.Graphs.{Edges, IsHead, IsInRegion}
-use Rattle.graph_facts.specs.declared.regions.Head.{Head}
-use Rattle.graph_facts.specs.Live.{AreLive}
-use Rattle.graph_facts.specs.Heads.{IsHeadUpTo, nodes_of, AreHeads}
-use Rattle.region_cells.specs.Written.{AreAllWritten}
+use Rattle.mutex_configs.specs.flow_graph.declared.graphs.Graph.{Graph}
+use Rattle.mutex_configs.specs.flow_graph.Graphs.{Edges, IsHead, IsInRegion}
+use Rattle.mutex_configs.specs.graph_facts.declared.regions.Head.{Head}
+use Rattle.mutex_configs.specs.graph_facts.Live.{AreLive}
+use Rattle.mutex_configs.specs.graph_facts.Heads.{IsHeadUpTo, nodes_of, AreHeads}
+use Rattle.program_laws.specs.region_cells.Written.{AreAllWritten}
 use Rattle.mutex_configs.specs.declared.nodes.ConfiguredGraph.{ConfiguredGraph}
-use Rattle.task_equations.specs.Bodies.{Body}
-use Rattle.program_equations.specs.Programs.{ProgramBodies, IsBodyIn, IsNumbered}
+use Rattle.program_laws.specs.task_equations.Bodies.{Body}
+use Rattle.program_laws.specs.program_equations.Programs.{ProgramBodies, IsBodyIn, IsNumbered}
 use Rattle.source_programs.proofs.Lists.{lists_are_one, rising_pairs, rising_are_one}
 
 -- ## Live temporaries

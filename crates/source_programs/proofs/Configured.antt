@@ -8,11 +8,12 @@ use Rattle.indexmap.proofs.IndexTableLemmas.Probe.{pigeonhole}
 use Rattle.tm_terms.specs.declared.refusals.Limit.TheVariants as Limits
 use Rattle.tm_terms.specs.Limits.{limit_number}
 use Rattle.tm_laid.specs.Layouts.{LaidTree}
-use Rattle.flow_graph.specs.declared.graphs.Graph.{Graph}
-use Rattle.flow_graph.specs.Graphs.{Edges}
+use Rattle.mutex_configs.specs.flow_graph.declared.graphs.Graph.{Graph}
+use Rattle.mutex_configs.specs.flow_graph.Graphs.{Edges}
 use Rattle.mutex_configs.specs.declared.nodes.ConfiguredNode.{ConfiguredNode}
 use Rattle.mutex_configs.specs.declared.nodes.ConfiguredGraph.{ConfiguredGraph}
-use Rattle.mutex_configs.specs.Nodes.{IsBefore, AreNodes, HasMoreNodes, all_copies, IsConfigured, entry_node}
+use Rattle.mutex_configs.specs.Nodes.{IsBefore, AreNodes, HasMoreNodes, all_copies, IsConfigured}
+use Rattle.mutex_configs.specs.Nodes.{entry_node}
 use Rattle.mutex_configs.specs.Programs.{seen_cells, work_from, AreConfigured}
 use Rattle.source_programs.proofs.Lists.{lists_are_one}
 

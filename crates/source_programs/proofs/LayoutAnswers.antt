@@ -7,9 +7,9 @@ use Rattle.tm_terms.specs.declared.refusals.Limit.TheVariants as Limits
 use Rattle.tm_terms.specs.declared.refusals.Refusal.{Refusal}
 use Rattle.tm_terms.specs.Limits.{limit_number}
 use Rattle.tm_laid.specs.Layouts.{LaidTree}
-use Rattle.flow_graph.specs.declared.graphs.Graph.{Graph}
-use Rattle.flow_graph.specs.Graphs.{Edges}
-use Rattle.graph_builder.specs.Lowered.{AreGraphs, HasTooManyNodes}
+use Rattle.mutex_configs.specs.flow_graph.declared.graphs.Graph.{Graph}
+use Rattle.mutex_configs.specs.flow_graph.Graphs.{Edges}
+use Rattle.program_graphs.specs.graph_builder.Lowered.{AreGraphs, HasTooManyNodes}
 use Rattle.mutex_configs.specs.declared.nodes.ConfiguredGraph.{ConfiguredGraph}
 use Rattle.mutex_configs.specs.Nodes.{HasMoreNodes}
 use Rattle.mutex_configs.specs.Programs.{AreConfigured, IsAnswer, work_from}

@@ -9,26 +9,26 @@ use Rattle.tm_terms.specs.declared.tokens.Token.{Token}
 use Rattle.tm_terms.specs.Spelling.{Lexes}
 use Rattle.tm_trees.specs.FileTrees.{ItemTree}
 use Rattle.tm_trees.specs.Parsing.{deep, Parses, too_deep, spells, spells_none}
-use Rattle.tm_typed.specs.Files.{TypedFileTree, IsTyped}
+use Rattle.tm_laid.specs.tm_typed.Files.{TypedFileTree, IsTyped}
 use Rattle.tm_laid.specs.Layouts.{LaidTree, laid_out}
-use Rattle.flow_graph.specs.declared.graphs.Graph.{Graph}
-use Rattle.flow_graph.specs.Graphs.{Edges}
-use Rattle.graph_facts.specs.Live.{AreLive}
-use Rattle.graph_facts.specs.Heads.{AreHeads}
-use Rattle.graph_builder.specs.Lowered.{AreGraphs}
-use Rattle.region_cells.specs.Written.{AreAllWritten}
+use Rattle.mutex_configs.specs.flow_graph.declared.graphs.Graph.{Graph}
+use Rattle.mutex_configs.specs.flow_graph.Graphs.{Edges}
+use Rattle.mutex_configs.specs.graph_facts.Live.{AreLive}
+use Rattle.mutex_configs.specs.graph_facts.Heads.{AreHeads}
+use Rattle.program_graphs.specs.graph_builder.Lowered.{AreGraphs}
+use Rattle.program_laws.specs.region_cells.Written.{AreAllWritten}
 use Rattle.mutex_configs.specs.declared.nodes.ConfiguredGraph.{ConfiguredGraph}
 use Rattle.mutex_configs.specs.Programs.{AreConfigured}
 use Rattle.program_graphs.specs.Prepared.{Graphed, IsPrepared}
 use Rattle.thresholds.specs.Thresholds.{AreInOrder, AreThresholds, numbers_of}
-use Rattle.task_equations.specs.Bodies.{Body}
-use Rattle.program_equations.specs.Programs.{ProgramBodies, body_at, pointers_in, IsBodyIn, IsProgramOf}
+use Rattle.program_laws.specs.task_equations.Bodies.{Body}
+use Rattle.program_laws.specs.program_equations.Programs.{ProgramBodies, body_at, pointers_in, IsBodyIn, IsProgramOf}
 use Rattle.c_lexer.proofs.AnswerLemmas.{one_answer as one_lexing}
 use Rattle.c_lexer.proofs.TotalLemmas.{some_answer as some_lexing}
 use Rattle.c_parser.proofs.FileAnswers.{answered as some_file}
 use Rattle.c_parser.proofs.FileComplete.{file_complete}
-use Rattle.typing_laws.proofs.OneAnswer.{one_answer as one_typing}
-use Rattle.typing_laws.proofs.SomeAnswer.{some_answer as some_typing}
+use Rattle.c_typing.proofs.low.typing_laws.OneAnswer.{one_answer as one_typing}
+use Rattle.c_typing.proofs.low.typing_laws.SomeAnswer.{some_answer as some_typing}
 use Rattle.source_programs.specs.Sources.{longest_source, main_in, TypesAs, IsLaidSource, IsAccepted, source_limit}
 use Rattle.source_programs.specs.Sources.{IsRefused, too_long, not_lexed, not_parsed, not_typed, not_laid, not_prepared}
 use Rattle.source_programs.specs.Laws.{NoneIsBoth, OneProgram, AreSyntaxErrors, OneRefusal, SomeSource}

@@ -6,10 +6,10 @@ use Rattle.std.specs.HashSet.{HashSet}
 use Rattle.indexmap.specs.Layout.{hash_map, key_set}
 use denote.RawPtr.{null_ptr}
 use Rattle.tm_laid.specs.Layouts.{LaidTree}
-use Rattle.flow_graph.specs.declared.graphs.Graph.{Graph}
+use Rattle.mutex_configs.specs.flow_graph.declared.graphs.Graph.{Graph}
 use Rattle.mutex_configs.specs.declared.nodes.ConfiguredGraph.{ConfiguredGraph}
-use Rattle.task_equations.specs.Bodies.{Body}
-use Rattle.program_equations.specs.Programs.{ProgramBodies, body_at, no_body, IsProgramOf}
+use Rattle.program_laws.specs.task_equations.Bodies.{Body}
+use Rattle.program_laws.specs.program_equations.Programs.{ProgramBodies, body_at, no_body, IsProgramOf}
 use Rattle.source_programs.specs.Laws.{ProgramsAreOne}
 use Rattle.source_programs.proofs.Bodies.{body_is_one}
 use Rattle.source_programs.proofs.Configured.{some_graph}

@@ -14,22 +14,22 @@ use Rattle.tm_terms.specs.Spelling.{answer_of as lexed_answer}
 use Rattle.tm_trees.specs.FileTrees.{ItemTree}
 use Rattle.tm_trees.specs.Parsing.{Parses}
 use Rattle.tm_trees.specs.Parsing.{answer_of as parsed_answer}
-use Rattle.tm_typed.specs.declared.files.TypedFile.{TypedFile}
-use Rattle.tm_typed.specs.Files.{TypedFileTree, IsTyped}
-use Rattle.tm_typed.specs.TypedFiles.{typed_file_tree}
+use Rattle.tm_laid.specs.tm_typed.declared.files.TypedFile.{TypedFile}
+use Rattle.tm_laid.specs.tm_typed.Files.{TypedFileTree, IsTyped}
+use Rattle.tm_laid.specs.tm_typed.TypedFiles.{typed_file_tree}
 use Rattle.tm_laid.specs.declared.layouts.Laid.{Laid}
 use Rattle.tm_laid.specs.Layable.{IsLayable}
 use Rattle.tm_laid.specs.Layouts.{LaidTree, laid_tree, layout_of, unless_beyond, laid_out}
 use Rattle.tm_laid.specs.Layouts.{answer_of as laid_answer}
-use Rattle.call_graph.specs.Graphs.{lists}
-use Rattle.call_graph.specs.Orders.{IsWholeOrder}
-use Rattle.typed_file_laws.proofs.Layable.{comes, are_layable}
+use Rattle.c_typing.specs.call_graph.Graphs.{lists}
+use Rattle.c_typing.specs.call_graph.Orders.{IsWholeOrder}
+use Rattle.program_graphs.proofs.low.typed_file_laws.Layable.{comes, are_layable}
 use Rattle.c_typing.specs.Views.{answer_of as typed_answer}
-use Rattle.lowering_laws.specs.LaidFiles.{IsLaidFile}
+use Rattle.program_graphs.specs.lowering_laws.LaidFiles.{IsLaidFile}
 use Rattle.mutex_configs.specs.declared.programs.Program.{Program}
 use Rattle.program_graphs.specs.Prepared.{answer_of, IsPrepared}
 use Rattle.thresholds.specs.Thresholds.{numbers_of, AreThresholds}
-use Rattle.program_equations.specs.Programs.{ProgramBodies, IsProgramOf}
+use Rattle.program_laws.specs.program_equations.Programs.{ProgramBodies, IsProgramOf}
 use Rattle.source_programs.specs.Sources.{longest_source, main_in, TypesAs, IsLaidSource, IsAccepted, IsRefused}
 use Rattle.source_programs.specs.Sources.{IfRefused, source_limit}
 use Rattle.source_programs.specs.Sources.{too_long, not_lexed, not_parsed, not_typed, not_laid, not_prepared}

@@ -4,9 +4,9 @@ use Rattle.tm_terms.specs.declared.places.Place.{Place}
 use Rattle.tm_terms.specs.declared.refusals.Refusal.{Refusal}
 use Rattle.tm_trees.specs.Parsing.{syntax_error}
 use Rattle.tm_laid.specs.Layouts.{LaidTree}
-use Rattle.flow_graph.specs.declared.graphs.Graph.{Graph}
+use Rattle.mutex_configs.specs.flow_graph.declared.graphs.Graph.{Graph}
 use Rattle.mutex_configs.specs.declared.nodes.ConfiguredGraph.{ConfiguredGraph}
-use Rattle.program_equations.specs.Programs.{ProgramBodies, IsProgramOf}
+use Rattle.program_laws.specs.program_equations.Programs.{ProgramBodies, IsProgramOf}
 use Rattle.source_programs.specs.Sources.{IsLaidSource, IsAccepted, IsRefused}
 
 -- a layout, graphs, their configured graphs and thresholds are those of one program

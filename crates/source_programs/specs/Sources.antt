@@ -14,11 +14,11 @@ use Rattle.tm_terms.specs.Limits.{limit_number}
 use Rattle.tm_terms.specs.Spelling.{text_of, Lexes}
 use Rattle.tm_trees.specs.FileTrees.{ItemTree}
 use Rattle.tm_trees.specs.Parsing.{Parses}
-use Rattle.tm_typed.specs.Files.{TypedFileTree, IsTyped}
+use Rattle.tm_laid.specs.tm_typed.Files.{TypedFileTree, IsTyped}
 use Rattle.tm_laid.specs.Layouts.{LaidTree, laid_out}
 use Rattle.program_graphs.specs.Prepared.{Graphed, IsPrepared}
 use Rattle.thresholds.specs.Thresholds.{numbers_of, AreThresholds}
-use Rattle.program_equations.specs.Programs.{ProgramBodies, IsProgramOf}
+use Rattle.program_laws.specs.program_equations.Programs.{ProgramBodies, IsProgramOf}
 
 -- ## From bytes to a file
 

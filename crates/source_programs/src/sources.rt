@@ -5,11 +5,11 @@ ghost use Rattle.tm_terms.specs.Spelling.{Lexes};
 ghost use Rattle.tm_trees.specs.FileTrees.{file_tree};
 ghost use Rattle.tm_trees.specs.Parsing.{Parses};
 ghost use Rattle.tm_laid.specs.Layouts.{laid_tree};
-ghost use Rattle.lowering_laws.specs.LaidFiles.{IsLaidFile};
+ghost use Rattle.program_graphs.specs.lowering_laws.LaidFiles.{IsLaidFile};
 ghost use Rattle.program_graphs.specs.Prepared.{answer_of, IsPrepared};
 ghost use Rattle.thresholds.specs.Thresholds.{numbers_of, AreThresholds};
-ghost use Rattle.program_equations.specs.Programs.{ProgramBodies, IsProgramOf};
-ghost use Rattle.program_systems.specs.Analysable.{IsAnalysable};
+ghost use Rattle.program_laws.specs.program_equations.Programs.{ProgramBodies, IsProgramOf};
+ghost use Rattle.program_laws.specs.program_systems.Analysable.{IsAnalysable};
 ghost use Rattle.source_programs.specs.Sources.{longest_source, IsAccepted, source_limit, IsRefused, IfRefused};
 
 use crate::mains::main_in;

@@ -1,11 +1,11 @@
 -- Edges that fit: between places with their live temporaries.
 use Rattle.std.specs.Prelude.{◌≡◌, ℕ, true, List, Some}
-use Rattle.tm_laid.specs.Layouts.{LaidTree}
-use Rattle.flow_graph.specs.declared.operations.Operation.{Operation}
-use Rattle.flow_graph.specs.Operations.{given}
-use Rattle.cell_env.specs.Cells.{IsWithin}
-use Rattle.transfer_rows.specs.Actions.{Around}
-use Rattle.transfer_rows.specs.Accesses.{is_among}
+use Rattle.temporary_types.specs.tm_laid.Layouts.{LaidTree}
+use Rattle.temporary_types.specs.flow_graph.declared.operations.Operation.{Operation}
+use Rattle.temporary_types.specs.flow_graph.Operations.{given}
+use Rattle.edge_actions.specs.cell_env.Cells.{IsWithin}
+use Rattle.edge_actions.specs.transfer_rows.Actions.{Around}
+use Rattle.edge_actions.specs.transfer_rows.Accesses.{is_among}
 use Rattle.temporary_types.specs.Sorts.{Sort, FitsSorts}
 use Rattle.state_fits.specs.Typed.{SpotsAgree, NamesObjects}
 

@@ -1,14 +1,14 @@
 -- What fits a program: states at the places of a body, and stores.
 use Rattle.std.specs.Prelude.{◌≡◌, ℕ, ◌<◌, true, false, List, length, Option, Some, None}
 use Rattle.std.specs.FinMap.{get}
-use Rattle.tm_lattice.specs.Tables.{Table}
-use Rattle.tm_typed.specs.declared.types.Scalar.{Scalar}
-use Rattle.tm_laid.specs.Layouts.{LaidTree, abstract_at}
-use Rattle.pointer_dom.specs.Values.{Values}
-use Rattle.cell_env.specs.Cells.{IsWithin}
-use Rattle.interfere_set.specs.Stores.{Nested, Interferences, IsStore}
-use Rattle.transfer_rows.specs.StateForms.{Temp, Cell, State, IsStateForm}
-use Rattle.transfer_rows.specs.Accesses.{is_among}
+use Rattle.value_heights.specs.tm_lattice.Tables.{Table}
+use Rattle.temporary_types.specs.tm_typed.declared.types.Scalar.{Scalar}
+use Rattle.temporary_types.specs.tm_laid.Layouts.{LaidTree, abstract_at}
+use Rattle.value_heights.specs.pointer_dom.Values.{Values}
+use Rattle.edge_actions.specs.cell_env.Cells.{IsWithin}
+use Rattle.edge_actions.specs.interfere_set.Stores.{Nested, Interferences, IsStore}
+use Rattle.edge_actions.specs.transfer_rows.StateForms.{Temp, Cell, State, IsStateForm}
+use Rattle.edge_actions.specs.transfer_rows.Accesses.{is_among}
 use Rattle.typed_values.specs.Types.{IsOfType}
 use Rattle.edge_actions.specs.Layouts.{is_reachable, is_shared_cell}
 

@@ -1,12 +1,12 @@
 -- The greatest values and states of a program.
 use Rattle.std.specs.Prelude.{ℕ, zero, suc, ◌-◌, ◌^◌, true, false, pos, neg_ℤ, List, [], ◌∷◌, length, None}
 use Rattle.std.specs.FinMap.{empty as no_entry, insert}
-use Rattle.tm_lattice.specs.Tables.{Table}
-use Rattle.tm_laid.specs.Layouts.{LaidTree, object_at}
-use Rattle.pointer_dom.specs.OffsetSets.{OffsetSet}
-use Rattle.pointer_dom.specs.PointerSets.{Pointers}
-use Rattle.pointer_dom.specs.Values.{Values}
-use Rattle.transfer_rows.specs.StateForms.{Temp, Cell, State}
+use Rattle.value_heights.specs.tm_lattice.Tables.{Table}
+use Rattle.temporary_types.specs.tm_laid.Layouts.{LaidTree, object_at}
+use Rattle.value_heights.specs.pointer_dom.OffsetSets.{OffsetSet}
+use Rattle.value_heights.specs.pointer_dom.PointerSets.{Pointers}
+use Rattle.value_heights.specs.pointer_dom.Values.{Values}
+use Rattle.edge_actions.specs.transfer_rows.StateForms.{Temp, Cell, State}
 use Rattle.edge_actions.specs.Layouts.{numbers_between}
 
 -- ## Greatest values

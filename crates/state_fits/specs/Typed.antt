@@ -1,19 +1,19 @@
 -- What an operation names, and which cells an access reaches.
 use Rattle.std.specs.Prelude.{ℕ, ◌<◌, List, length, Option, Some, None, slice_get}
-use Rattle.tm_cint.specs.declared.int_types.IntType.TheVariants as Ints
-use Rattle.tm_typed.specs.declared.types.Scalar.{Scalar}
-use Rattle.tm_typed.specs.declared.types.Scalar.TheVariants as Scalars
-use Rattle.tm_laid.specs.Layouts.{LaidTree, abstract_at}
-use Rattle.transfer_rows.specs.Actions.{Spot}
-use Rattle.transfer_rows.specs.Meanings.{IsSpotOf}
+use Rattle.temporary_types.specs.tm_cint.declared.int_types.IntType.TheVariants as Ints
+use Rattle.temporary_types.specs.tm_typed.declared.types.Scalar.{Scalar}
+use Rattle.temporary_types.specs.tm_typed.declared.types.Scalar.TheVariants as Scalars
+use Rattle.temporary_types.specs.tm_laid.Layouts.{LaidTree, abstract_at}
+use Rattle.edge_actions.specs.transfer_rows.Actions.{Spot}
+use Rattle.edge_actions.specs.transfer_rows.Meanings.{IsSpotOf}
 use Rattle.edge_actions.specs.Layouts.{spots_of}
-use Rattle.concrete_values.specs.declared.values.Pointer.TheVariants.{Null, Invalid, To}
-use Rattle.concrete_values.specs.declared.values.Pointer.{Pointer as Address}
-use Rattle.concrete_values.specs.declared.values.Value.{Value}
-use Rattle.concrete_values.specs.declared.values.Value.TheVariants as Constant
+use Rattle.temporary_types.specs.concrete_values.declared.values.Pointer.TheVariants.{Null, Invalid, To}
+use Rattle.temporary_types.specs.concrete_values.declared.values.Pointer.{Pointer as Address}
+use Rattle.temporary_types.specs.concrete_values.declared.values.Value.{Value}
+use Rattle.temporary_types.specs.concrete_values.declared.values.Value.TheVariants as Constant
 use Rattle.typed_values.specs.Types.{HaveSameValues}
-use Rattle.flow_graph.specs.declared.operations.Operation.{Operation}
-use Rattle.flow_graph.specs.declared.operations.Operation.TheVariants as Op
+use Rattle.temporary_types.specs.flow_graph.declared.operations.Operation.{Operation}
+use Rattle.temporary_types.specs.flow_graph.declared.operations.Operation.TheVariants as Op
 use Rattle.temporary_types.specs.Sorts.{Sort, numbers, pointers}
 
 -- ## Types of temporaries

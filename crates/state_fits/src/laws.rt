@@ -1,15 +1,15 @@
 //! The laws of what fits. Each speaks of definitions alone, so its function does nothing.
 ghost use Rattle.std.specs.Prelude.{◌≡◌, ◌≤◌, ℕ, ℤ, Bool, List, Some};
-ghost use Rattle.tm_lattice.specs.Heights.{IsHeight};
-ghost use Rattle.tm_typed.specs.declared.types.Scalar.{Scalar};
-ghost use Rattle.tm_laid.specs.Layouts.{LaidTree};
-ghost use Rattle.flow_graph.specs.declared.operations.Operation.{Operation};
-ghost use Rattle.pointer_dom.specs.Values.{joined_values, rounded_values};
-ghost use Rattle.cell_env.specs.States.{joined_state, rounded_state_at, state_height};
-ghost use Rattle.interfere_set.specs.Stores.{Interferences};
-ghost use Rattle.transfer_rows.specs.StateForms.{State, IsStateForm, IsStateUnder};
-ghost use Rattle.transfer_rows.specs.Actions.{Around};
-ghost use Rattle.transfer_rows.specs.Rows.{after};
+ghost use Rattle.value_heights.specs.tm_lattice.Heights.{IsHeight};
+ghost use Rattle.temporary_types.specs.tm_typed.declared.types.Scalar.{Scalar};
+ghost use Rattle.temporary_types.specs.tm_laid.Layouts.{LaidTree};
+ghost use Rattle.temporary_types.specs.flow_graph.declared.operations.Operation.{Operation};
+ghost use Rattle.value_heights.specs.pointer_dom.Values.{joined_values, rounded_values};
+ghost use Rattle.edge_actions.specs.cell_env.States.{joined_state, rounded_state_at, state_height};
+ghost use Rattle.edge_actions.specs.interfere_set.Stores.{Interferences};
+ghost use Rattle.edge_actions.specs.transfer_rows.StateForms.{State, IsStateForm, IsStateUnder};
+ghost use Rattle.edge_actions.specs.transfer_rows.Actions.{Around};
+ghost use Rattle.edge_actions.specs.transfer_rows.Rows.{after};
 ghost use Rattle.edge_actions.specs.Edges.{action_of};
 ghost use Rattle.value_heights.specs.Heights.{value_height};
 ghost use Rattle.temporary_types.specs.Sorts.{Sort};

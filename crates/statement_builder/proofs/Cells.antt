@@ -8,9 +8,9 @@ use Rattle.tm_typed.specs.declared.types.Scalar.{Scalar}
 use Rattle.tm_typed.specs.declared.statements.LocalObject.{LocalObject}
 use Rattle.tm_typed.specs.TypedStatements.{GivenTree, local_tree}
 use Rattle.tm_laid.specs.Layouts.{LaidTree}
-use Rattle.concrete_steps.specs.NextAction.{scalar_at, is_given, rest_of}
-use Rattle.lowering.specs.Table.{is_alone}
-use Rattle.lowering.specs.Built.{Building}
+use Rattle.body_builder.specs.concrete_steps.NextAction.{scalar_at, is_given, rest_of}
+use Rattle.body_builder.specs.lowering.Table.{is_alone}
+use Rattle.body_builder.specs.lowering.Built.{Building}
 use Rattle.statement_builder.specs.reading.Locals.{cell_in, cells_in, local_in, locals_in}
 
 module _ (laid : LaidTree) (depth path : ℕ) where

@@ -9,10 +9,11 @@ use Rattle.tm_typed.specs.TypedStatements.{GivenTree, LocalInitialiserTree, Loca
 use Rattle.tm_laid.specs.Layouts.{LaidTree, object_of, object_at}
 use Rattle.flow_graph.specs.declared.operations.Into.TheVariants as Intos
 use Rattle.flow_graph.specs.declared.operations.Operation.TheVariants as Op
-use Rattle.concrete_steps.specs.NextAction.{scalar_at, is_given, rest_of}
-use Rattle.lowering.specs.Steps.{Steps, no_more}
-use Rattle.lowering.specs.Table.{cell_value, cell_code, is_alone, cells_stored, initialised, local_steps, locals_steps}
-use Rattle.lowering.specs.Built.{Building, AfterPart, AfterSteps, place, temp_of, code_piece, steps_piece}
+use Rattle.body_builder.specs.concrete_steps.NextAction.{scalar_at, is_given, rest_of}
+use Rattle.body_builder.specs.lowering.Steps.{Steps, no_more}
+use Rattle.body_builder.specs.lowering.Table.{cell_value, cell_code, is_alone, cells_stored, initialised, local_steps}
+use Rattle.body_builder.specs.lowering.Table.{locals_steps}
+use Rattle.body_builder.specs.lowering.Built.{Building, AfterPart, AfterSteps, place, temp_of, code_piece, steps_piece}
 use Rattle.body_builder.specs.Fragments.{calls_on}
 use Rattle.body_builder.specs.Placing.{Given, new_value}
 use Rattle.statement_builder.specs.reading.Locals.{value_in, part_in, cell_in, cells_in, initialised_in, local_in}

@@ -3,16 +3,17 @@ use Rattle.std.proofs.Common.{◌≡◌, ℕ, ◌+◌, ◌<◌, ◌≤◌, List,
 use Rattle.std.specs.declared.alloc.Global.{Global}
 use Rattle.std.specs.declared.vec.Vec.{Vec}
 use Rattle.std.proofs.lemmas.List.{drop_more, drop_all}
-use Rattle.tm_cint.specs.declared.int_types.IntType.{IntType}
+use Rattle.tm_terms.specs.tm_cint.declared.int_types.IntType.{IntType}
 use Rattle.tm_typed.specs.declared.statements.TypedStatement.{TypedStatement}
 use Rattle.tm_typed.specs.declared.statements.TypedStatement.TheVariants as Typed
 use Rattle.tm_typed.specs.declared.statements.TypedSwitchPart.{TypedSwitchPart}
 use Rattle.tm_typed.specs.TypedTrees.{RvalueTree}
-use Rattle.tm_typed.specs.TypedStatements.{TypedTree, TypedCases, selects, typed_tree, as_typed_trees, typed_case}
+use Rattle.tm_typed.specs.TypedStatements.{TypedTree, TypedCases, selects, typed_tree, as_typed_trees}
+use Rattle.tm_typed.specs.TypedStatements.{typed_case}
 use Rattle.tm_typed.specs.TypedStatements.{as_typed_cases}
 use Rattle.tm_typed.proofs.TypedStatementTrees.{typed_tree-block}
 use Rattle.tm_laid.specs.Layouts.{LaidTree}
-use Rattle.lowering.specs.Built as Built
+use Rattle.body_builder.specs.lowering.Built as Built
 use Rattle.statement_builder.specs.reading.Statements.{Worth, Lines, cut, inside, labels_left, has_default}
 use Rattle.statement_builder.specs.reading.Statements.{behind_tests, select_ends, tests_at, worth, statement_at}
 use Rattle.statement_builder.specs.reading.Statements.{statements_at, case_at, cases_at}

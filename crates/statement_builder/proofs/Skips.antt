@@ -3,7 +3,7 @@ use Rattle.std.proofs.Common.{◌≡◌, ℕ, ◌+◌, ◌<◌, ◌≤◌, List,
 use Rattle.std.proofs.lemmas.List.{append_assoc, append-nil, drop_more, drop_all}
 use Rattle.flow_graph.specs.declared.operations.Operation.TheVariants as Op
 use Rattle.flow_graph.specs.Graphs.{Edges}
-use Rattle.lowering.specs.Built.{Building, edge, skips}
+use Rattle.body_builder.specs.lowering.Built.{Building, edge, skips}
 use Rattle.body_builder.specs.Placing.{with_edge}
 use Rattle.statement_builder.specs.reading.Meeting.{with_edges}
 

@@ -3,17 +3,21 @@ use Rattle.std.proofs.Common.{◌≡◌, ℕ, List, [], ◌++◌, map, refl, sym
 use Rattle.std.specs.Prelude.{Some, None}
 use Rattle.std.proofs.lemmas.List.{append_assoc, append-nil}
 use Rattle.tm_typed.specs.TypedStatements.{TypedTree, evaluates, declares, runs_block, branches}
-use Rattle.tm_typed.specs.TypedStatements.{branches_else, loops_while, loops_do, loops_for, selects, breaks, continues}
-use Rattle.tm_typed.specs.TypedStatements.{returns, locks, unlocks, yields, TypedTrees, no_statements, and_statement}
-use Rattle.tm_typed.specs.TypedStatements.{a_label, a_default_label, a_labelled_step, TypedCases, no_typed_cases}
+use Rattle.tm_typed.specs.TypedStatements.{branches_else, loops_while, loops_do, loops_for, selects}
+use Rattle.tm_typed.specs.TypedStatements.{breaks, continues}
+use Rattle.tm_typed.specs.TypedStatements.{returns, locks, unlocks, yields, TypedTrees, no_statements}
+use Rattle.tm_typed.specs.TypedStatements.{and_statement}
+use Rattle.tm_typed.specs.TypedStatements.{a_label, a_default_label, a_labelled_step, TypedCases}
+use Rattle.tm_typed.specs.TypedStatements.{no_typed_cases}
 use Rattle.tm_typed.specs.TypedStatements.{and_typed_case}
 use Rattle.tm_laid.specs.Layouts.{LaidTree}
 use Rattle.flow_graph.specs.declared.operations.Operation.TheVariants as Op
-use Rattle.lowering.specs.Steps.{Plan, in_turn, loop_stepping}
-use Rattle.lowering.specs.Table.{plan, plans, parts, effect_steps, locals_steps, optional_fork}
-use Rattle.lowering.specs.Built as Built
-use Rattle.lowering.specs.Built.{Building, place, plan_piece, parts_piece, steps_piece, unless_default, back_to}
-use Rattle.lowering.specs.Built.{ToHead, Later, behind_first}
+use Rattle.body_builder.specs.lowering.Steps.{Plan, in_turn, loop_stepping}
+use Rattle.body_builder.specs.lowering.Table.{plan, plans, parts, effect_steps, locals_steps, optional_fork}
+use Rattle.body_builder.specs.lowering.Built as Built
+use Rattle.body_builder.specs.lowering.Built.{Building, place, plan_piece, parts_piece, steps_piece, unless_default}
+use Rattle.body_builder.specs.lowering.Built.{back_to}
+use Rattle.body_builder.specs.lowering.Built.{ToHead, Later, behind_first}
 use Rattle.body_builder.specs.Fragments.{calls_on}
 use Rattle.statement_builder.specs.declared.passed.Pending.{Pending}
 use Rattle.statement_builder.specs.declared.passed.Passed.{Passed}

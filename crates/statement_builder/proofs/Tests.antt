@@ -7,9 +7,9 @@ use Rattle.tm_typed.specs.declared.statements.TypedSwitchPart.{TypedSwitchPart}
 use Rattle.tm_typed.specs.declared.statements.TypedSwitchPart.TheVariants as Parts
 use Rattle.tm_typed.specs.TypedStatements.{as_typed_cases}
 use Rattle.tm_laid.specs.Layouts.{LaidTree}
-use Rattle.lowering.specs.Table.{parts}
+use Rattle.body_builder.specs.lowering.Table.{parts}
 use Rattle.flow_graph.specs.declared.operations.Test.TheVariants as Tests
-use Rattle.lowering.specs.Built.{Building, Labels, branch, goto, tests_piece}
+use Rattle.body_builder.specs.lowering.Built.{Building, Labels, branch, goto, tests_piece}
 use Rattle.body_builder.specs.declared.fragments.Found.{Found}
 use Rattle.body_builder.specs.Placing.{tested, Finds}
 

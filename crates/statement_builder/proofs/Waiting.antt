@@ -6,10 +6,11 @@ use Rattle.std.proofs.lemmas.List.{append_assoc, append-nil, drop_more, drop_all
 use Rattle.tm_typed.specs.TypedTrees.{RvalueTree}
 use Rattle.tm_laid.specs.Layouts.{LaidTree}
 use Rattle.flow_graph.specs.declared.operations.Operation.TheVariants as Op
-use Rattle.lowering.specs.Table.{codes}
-use Rattle.lowering.specs.Built as Built
-use Rattle.lowering.specs.Built.{Building, nodes_by, still_by, meet, continued_at, place_result, result_of, temp_of}
-use Rattle.lowering.specs.Built.{code_piece, ByReturn}
+use Rattle.body_builder.specs.lowering.Table.{codes}
+use Rattle.body_builder.specs.lowering.Built as Built
+use Rattle.body_builder.specs.lowering.Built.{Building, nodes_by, still_by, meet, continued_at, place_result, result_of}
+use Rattle.body_builder.specs.lowering.Built.{temp_of}
+use Rattle.body_builder.specs.lowering.Built.{code_piece, ByReturn}
 use Rattle.body_builder.specs.Fragments.{calls_on}
 use Rattle.statement_builder.specs.declared.passed.Pending.{Pending}
 use Rattle.statement_builder.specs.Waiting.{waiting}

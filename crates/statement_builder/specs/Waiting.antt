@@ -1,7 +1,7 @@
 -- What statements leave behind, as the definition of lowering has it.
 use Rattle.std.specs.Prelude.{◌≡◌, map}
-use Rattle.lowering.specs.Built as Built
-use Rattle.lowering.specs.Built.{Building}
+use Rattle.body_builder.specs.lowering.Built as Built
+use Rattle.body_builder.specs.lowering.Built.{Building}
 use Rattle.statement_builder.specs.declared.passed.Way.{Way}
 use Rattle.statement_builder.specs.declared.passed.Way.TheVariants as Ways
 use Rattle.statement_builder.specs.declared.passed.Pending.{Pending}

@@ -1,8 +1,8 @@
 //! The labels of a `switch`.
 ghost use Rattle.std.specs.Prelude.{◌≡◌, IfOk};
 ghost use Rattle.tm_typed.specs.TypedStatements.{as_typed_cases};
-ghost use Rattle.lowering.specs.Table.{parts};
-ghost use Rattle.lowering.specs.Built.{tests_piece};
+ghost use Rattle.body_builder.specs.lowering.Table.{parts};
+ghost use Rattle.body_builder.specs.lowering.Built.{tests_piece};
 ghost use Rattle.body_builder.specs.Fragments.{tree_in, so_far};
 
 use body_builder::{Fragment, Here};

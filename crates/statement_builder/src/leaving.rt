@@ -2,7 +2,7 @@
 ghost use Rattle.std.specs.Prelude.{◌≡◌, OnOk, IfOk};
 ghost use Rattle.tm_typed.specs.TypedStatements.{optional_rvalue_tree};
 ghost use Rattle.flow_graph.specs.declared.operations.Operation.TheVariants as Op;
-ghost use Rattle.lowering.specs.Built.{temp_of, nowhere, back_to, place_result, result_of};
+ghost use Rattle.body_builder.specs.lowering.Built.{temp_of, nowhere, back_to, place_result, result_of};
 ghost use Rattle.body_builder.specs.Fragments.{tree_in, so_far};
 ghost use Rattle.statement_builder.specs.Waiting.{way_of};
 ghost use Rattle.statement_builder.specs.reading.Statements.{reached, onward_of, left, goes_on, returned};

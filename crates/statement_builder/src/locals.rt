@@ -2,9 +2,9 @@
 ghost use Rattle.std.specs.Prelude.{◌≡◌, ℕ, IfOk, OnOk, map, []};
 ghost use Rattle.tm_typed.specs.TypedStatements.{given_tree, local_tree, local_initialiser_tree};
 ghost use Rattle.tm_laid.specs.Layouts.{object_at};
-ghost use Rattle.concrete_steps.specs.NextAction.{is_given, rest_of, scalar_at};
-ghost use Rattle.lowering.specs.Table.{is_scalar_object, is_alone, locals_steps};
-ghost use Rattle.lowering.specs.Built.{steps_piece};
+ghost use Rattle.body_builder.specs.concrete_steps.NextAction.{is_given, rest_of, scalar_at};
+ghost use Rattle.body_builder.specs.lowering.Table.{is_scalar_object, is_alone, locals_steps};
+ghost use Rattle.body_builder.specs.lowering.Built.{steps_piece};
 ghost use Rattle.body_builder.specs.Fragments.{tree_in, so_far, calls_on};
 ghost use Rattle.body_builder.specs.Placing.{Gives};
 ghost use Rattle.statement_builder.specs.reading.Locals.{nothing_in, value_in, part_in, cell_in, cells_in};

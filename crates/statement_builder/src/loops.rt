@@ -2,7 +2,7 @@
 ghost use Rattle.std.specs.Prelude.{◌≡◌, map, ◌++◌, ◌∷◌, [], OnOk, IfOk};
 ghost use Rattle.tm_typed.specs.TypedTrees.{rvalue_tree};
 ghost use Rattle.tm_typed.specs.TypedStatements.{optional_rvalue_tree};
-ghost use Rattle.lowering.specs.Built.{nodes_by, still_by, continued_at};
+ghost use Rattle.body_builder.specs.lowering.Built.{nodes_by, still_by, continued_at};
 ghost use Rattle.body_builder.specs.Fragments.{tree_in, so_far};
 ghost use Rattle.statement_builder.specs.Waiting.{way_of, waiting};
 ghost use Rattle.statement_builder.specs.reading.Statements.{reached, waits, is_way, stays, inside, continued};

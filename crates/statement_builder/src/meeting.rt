@@ -1,6 +1,6 @@
 //! Nodes where control comes together.
 ghost use Rattle.std.specs.Prelude.{◌≡◌, OnOk};
-ghost use Rattle.lowering.specs.Built.{skips, meet, nowhere, close_loop};
+ghost use Rattle.body_builder.specs.lowering.Built.{skips, meet, nowhere, close_loop};
 ghost use Rattle.body_builder.specs.Fragments.{tree_in, so_far};
 ghost use Rattle.statement_builder.specs.reading.Meeting.{with_edges};
 

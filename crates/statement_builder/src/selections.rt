@@ -1,7 +1,7 @@
 //! The parts of a `switch` begin and end.
 ghost use Rattle.std.specs.Prelude.{◌≡◌, OnOk, IfOk};
 ghost use Rattle.tm_typed.specs.TypedStatements.{typed_case, as_typed_cases};
-ghost use Rattle.lowering.specs.Built.{meet, first_of};
+ghost use Rattle.body_builder.specs.lowering.Built.{meet, first_of};
 ghost use Rattle.body_builder.specs.Fragments.{tree_in, so_far};
 ghost use Rattle.statement_builder.specs.reading.Statements.{reached, waits, tests_at, labelled_at, labels_left};
 ghost use Rattle.statement_builder.specs.reading.Statements.{is_default, has_default, behind_tests, select_ends};

@@ -1,8 +1,8 @@
 //! Statements are built.
 ghost use Rattle.std.specs.Prelude.{◌≡◌, None, true, OnOk, IfOk};
 ghost use Rattle.tm_typed.specs.TypedStatements.{typed_tree, as_typed_trees, typed_case, as_typed_cases};
-ghost use Rattle.lowering.specs.Table.{plans};
-ghost use Rattle.lowering.specs.Built.{plan_piece, Later};
+ghost use Rattle.body_builder.specs.lowering.Table.{plans};
+ghost use Rattle.body_builder.specs.lowering.Built.{plan_piece, Later};
 ghost use Rattle.body_builder.specs.Fragments.{tree_in, so_far, calls_on};
 ghost use Rattle.statement_builder.specs.Waiting.{IsPassed};
 ghost use Rattle.statement_builder.specs.reading.Statements.{reached, onward_of, statement_at, statements_at};

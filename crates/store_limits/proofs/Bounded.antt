@@ -3,21 +3,21 @@ use Rattle.std.specs.Prelude.{◌≡◌, ℕ, suc, ◌+◌, ◌*◌, ◌<◌, �
 use Rattle.std.proofs.Common.{inl, inr, arith, mul-le-mul_right, suc-mul}
 use Rattle.std.specs.Ordering.{nat_cmp}
 use Rattle.std.specs.FinMap.{is_sorted, get, entries, entries_sorted}
-use Rattle.tm_lattice.specs.Heights.{entries_height, table_height}
-use Rattle.tm_lattice.specs.Tables.{Table}
-use Rattle.tm_lattice.specs.laws.Keys.{AllAbove, AllAbove-rest, is_sorted-rest}
-use Rattle.tm_laid.specs.Layouts.{abstract_at}
-use Rattle.pointer_dom.specs.Values.{Values}
-use Rattle.cell_env.specs.Cells.{IsWithin}
-use Rattle.cell_env.specs.laws.Bits.{within_le}
-use Rattle.interfere_set.specs.Stores.{Nested, Interferences, store_height}
-use Rattle.interfere_set.specs.laws.Joins.{IsOf, of_entry}
-use Rattle.value_heights.specs.Heights.{value_height}
-use Rattle.value_heights.specs.laws.ValueHeights.{value_heights}
-use Rattle.typed_values.specs.Types.{IsOfType}
-use Rattle.state_fits.specs.Tops.{all_values}
-use Rattle.state_fits.specs.Fits.{FitsNested}
-use Rattle.state_fits.specs.laws.TopStates.{all_are, values_below}
+use Rattle.program_equations.specs.tm_lattice.Heights.{entries_height, table_height}
+use Rattle.program_equations.specs.tm_lattice.Tables.{Table}
+use Rattle.program_equations.specs.tm_lattice.laws.Keys.{AllAbove, AllAbove-rest, is_sorted-rest}
+use Rattle.program_equations.specs.tm_laid.Layouts.{abstract_at}
+use Rattle.program_equations.specs.pointer_dom.Values.{Values}
+use Rattle.program_equations.specs.cell_env.Cells.{IsWithin}
+use Rattle.program_equations.specs.cell_env.laws.Bits.{within_le}
+use Rattle.program_equations.specs.interfere_set.Stores.{Nested, Interferences, store_height}
+use Rattle.program_equations.specs.interfere_set.laws.Joins.{IsOf, of_entry}
+use Rattle.program_equations.specs.value_heights.Heights.{value_height}
+use Rattle.program_equations.specs.value_heights.laws.ValueHeights.{value_heights}
+use Rattle.program_equations.specs.typed_values.Types.{IsOfType}
+use Rattle.program_equations.specs.state_fits.Tops.{all_values}
+use Rattle.program_equations.specs.state_fits.Fits.{FitsNested}
+use Rattle.program_equations.specs.state_fits.laws.TopStates.{all_are, values_below}
 use Rattle.program_equations.specs.Programs.{ProgramBodies}
 use Rattle.program_equations.specs.Systems.{FitsProgram}
 use Rattle.program_equations.specs.laws.EntryStates.{typed_is}

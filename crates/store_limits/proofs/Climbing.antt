@@ -2,13 +2,14 @@
 use Rattle.std.specs.Prelude.{◌≡◌, ℕ, zero, ◌-◌, ◌<◌, ◌≤◌, List, [], ◌∷◌, refl}
 use Rattle.std.proofs.Common.{sym, subst, inl, inr, arith}
 use Rattle.std.proofs.lemmas.Bool.{cases_lt}
-use Rattle.tm_lattice.specs.Rounds.{IsHistory, IsPublished, IsClosed}
-use Rattle.tm_lattice.specs.Heights.{IsHeight}
-use Rattle.tm_lattice.proofs.Climb as climb
-use Rattle.interfere_set.specs.Stores.{Interferences, IsStore, IsStoreBelow, joined_store, rounded_store, store_height}
-use Rattle.interfere_set.specs.laws.StoreLaws.{store_order, store_join, store_closure, store_heights}
-use Rattle.value_heights.specs.Heights.{value_height}
-use Rattle.value_heights.specs.laws.ValueHeights.{value_heights}
+use Rattle.program_equations.specs.tm_lattice.Rounds.{IsHistory, IsPublished, IsClosed}
+use Rattle.program_equations.specs.tm_lattice.Heights.{IsHeight}
+use Rattle.program_equations.proofs.low.tm_lattice.Climb as climb
+use Rattle.program_equations.specs.interfere_set.Stores.{Interferences, IsStore, IsStoreBelow, joined_store}
+use Rattle.program_equations.specs.interfere_set.Stores.{rounded_store, store_height}
+use Rattle.program_equations.specs.interfere_set.laws.StoreLaws.{store_order, store_join, store_closure, store_heights}
+use Rattle.program_equations.specs.value_heights.Heights.{value_height}
+use Rattle.program_equations.specs.value_heights.laws.ValueHeights.{value_heights}
 use Rattle.program_equations.specs.Programs.{ProgramBodies, IsProgram}
 use Rattle.program_equations.specs.Systems.{stores, FitsProgram, pass_of}
 use Rattle.program_equations.specs.Solutions.{passing}

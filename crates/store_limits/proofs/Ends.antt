@@ -3,8 +3,8 @@
 use Rattle.std.specs.Prelude.{◌≡◌, ◌⊎◌, ℕ, zero, suc, ◌+◌, ◌<◌, ◌≤◌, List, [], ◌∷◌, refl}
 use Rattle.std.proofs.Common.{subst, inl, inr, arith}
 use Rattle.std.proofs.lemmas.Bool.{cases_lt}
-use Rattle.tm_lattice.specs.Rounds.{IsHistory}
-use Rattle.interfere_set.specs.Stores.{Interferences, no_interference}
+use Rattle.program_equations.specs.tm_lattice.Rounds.{IsHistory}
+use Rattle.program_equations.specs.interfere_set.Stores.{Interferences, no_interference}
 use Rattle.program_equations.specs.Programs.{ProgramBodies, IsProgram}
 use Rattle.program_equations.specs.Systems.{stores}
 use Rattle.program_equations.specs.Solutions.{passing}

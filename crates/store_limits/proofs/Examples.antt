@@ -5,12 +5,12 @@ use Rattle.std.specs.Cmp.{nat_cmp_total}
 use Rattle.std.specs.Ordering.{nat_cmp}
 use Rattle.std.specs.FinMap as map
 use Rattle.std.specs.FinMap.{entries, insert, put, len-entries, len-empty, entries-insert}
-use Rattle.strided_dom.specs.Progression.{single}
-use Rattle.tm_lattice.specs.Heights.{entries_height, table_height}
-use Rattle.pointer_dom.specs.Values.{Values}
-use Rattle.interfere_set.specs.Stores.{Interferences, no_interference, nested_entry, store_height}
-use Rattle.transfer_rows.specs.StateForms.{only_numbers}
-use Rattle.value_heights.specs.Heights.{number_count, offsets_height, value_height}
+use Rattle.program_equations.specs.strided_dom.Progression.{single}
+use Rattle.program_equations.specs.tm_lattice.Heights.{entries_height, table_height}
+use Rattle.program_equations.specs.pointer_dom.Values.{Values}
+use Rattle.program_equations.specs.interfere_set.Stores.{Interferences, no_interference, nested_entry, store_height}
+use Rattle.program_equations.specs.transfer_rows.StateForms.{only_numbers}
+use Rattle.program_equations.specs.value_heights.Heights.{number_count, offsets_height, value_height}
 use Rattle.store_limits.specs.Limits.{table_limit}
 
 -- ## Tables of no entry and of one

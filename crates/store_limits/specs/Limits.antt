@@ -1,11 +1,11 @@
 -- How high the stores of a program may stand, what an end of its passes is, and what it is to have a least solution.
 use Rattle.std.specs.Prelude.{ℕ, suc, ◌+◌, ◌*◌, List, ◌∷◌, length, Option}
-use Rattle.tm_lattice.specs.Rounds.{IsHistory, IsClosed}
-use Rattle.interfere_set.specs.Stores.{Interferences, joined_store, rounded_store}
-use Rattle.transfer_rows.specs.StateForms.{State}
-use Rattle.value_heights.specs.Heights.{value_height}
-use Rattle.least_tables.specs.Solutions.{NodeTable}
-use Rattle.state_fits.specs.Tops.{all_values}
+use Rattle.program_equations.specs.tm_lattice.Rounds.{IsHistory, IsClosed}
+use Rattle.program_equations.specs.interfere_set.Stores.{Interferences, joined_store, rounded_store}
+use Rattle.program_equations.specs.transfer_rows.StateForms.{State}
+use Rattle.program_equations.specs.value_heights.Heights.{value_height}
+use Rattle.program_equations.specs.least_tables.Solutions.{NodeTable}
+use Rattle.program_equations.specs.state_fits.Tops.{all_values}
 use Rattle.program_equations.specs.Programs.{ProgramBodies}
 use Rattle.program_equations.specs.Systems.{stores, pass_of}
 use Rattle.program_equations.specs.Solutions.{passing, IsWholeLeast}

@@ -1,8 +1,8 @@
 //! The laws. They speak of definitions alone: no call is made.
 ghost use Rattle.std.specs.Prelude.{◌≡◌, ◌<◌, ◌≤◌, ◌-◌, ℕ, List, [], ◌∷◌};
-ghost use Rattle.tm_lattice.specs.Rounds.{IsHistory, IsClosed};
-ghost use Rattle.interfere_set.specs.Stores.{Interferences, IsStoreBelow, no_interference, store_height};
-ghost use Rattle.value_heights.specs.Heights.{value_height};
+ghost use Rattle.program_equations.specs.tm_lattice.Rounds.{IsHistory, IsClosed};
+ghost use Rattle.program_equations.specs.interfere_set.Stores.{Interferences, IsStoreBelow, no_interference, store_height};
+ghost use Rattle.program_equations.specs.value_heights.Heights.{value_height};
 ghost use Rattle.program_equations.specs.Programs.{ProgramBodies, IsProgram};
 ghost use Rattle.program_equations.specs.Systems.{stores, FitsProgram};
 ghost use Rattle.program_equations.specs.Solutions.{passing};

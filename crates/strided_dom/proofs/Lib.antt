@@ -12,3 +12,4 @@ pub mod Commons
 pub mod Roundings
 pub mod Thresholds
 pub mod MarkLists
+pub mod low

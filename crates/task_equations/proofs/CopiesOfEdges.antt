@@ -5,9 +5,9 @@ use Rattle.std.proofs.Common.{sym, ap, subst, ◌∙◌, arith}
 use Rattle.std.proofs.lemmas.Bool.{eqb-true, cond_both}
 use Rattle.std.proofs.lemmas.List.Elements.{All-nil, All-append, All-map}
 use Rattle.std.proofs.lemmas.List.Quantifiers.{position-Some}
-use Rattle.flow_graph.specs.declared.graphs.Edge.{Edge}
-use Rattle.flow_graph.specs.declared.operations.Operation.{Operation}
-use Rattle.flow_graph.specs.Graphs.{Edges}
+use Rattle.mutex_configs.specs.flow_graph.declared.graphs.Edge.{Edge}
+use Rattle.mutex_configs.specs.flow_graph.declared.operations.Operation.{Operation}
+use Rattle.mutex_configs.specs.flow_graph.Graphs.{Edges}
 use Rattle.mutex_configs.specs.declared.nodes.ConfiguredNode.{ConfiguredNode}
 use Rattle.mutex_configs.specs.declared.nodes.EdgeCopy.{EdgeCopy}
 use Rattle.mutex_configs.specs.Sets.{answers_of, leads_nowhere, node_after}

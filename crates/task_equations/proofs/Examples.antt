@@ -4,29 +4,30 @@ use Rattle.std.proofs.Common.{sym, ap, subst, ◌∙◌, arith}
 use Rattle.std.specs.FinMap as map
 use Rattle.std.specs.FinMap.{get, insert}
 use Rattle.std.specs.Option.{option_map}
-use Rattle.strided_dom.specs.Progression.{single}
-use Rattle.tm_lattice.specs.Tables.{changed_table}
-use Rattle.tm_lattice.specs.laws.TableLaws.{get-insert_here, get-insert_there}
-use Rattle.tm_lattice.specs.laws.SelectedLaws.{changed_at, get-changed_table}
-use Rattle.tm_cint.specs.declared.int_types.IntType.TheVariants.{Int}
-use Rattle.tm_terms.specs.declared.places.Place.{Place}
-use Rattle.tm_typed.specs.declared.types.Scalar.TheVariants as Scalars
-use Rattle.tm_typed.specs.Files.{TypedFileTree}
-use Rattle.tm_laid.specs.declared.objects.LaidObject.{LaidObject}
-use Rattle.tm_laid.specs.Layouts.{LaidTree}
-use Rattle.flow_graph.specs.declared.operations.Into.TheVariants as Into
-use Rattle.flow_graph.specs.declared.operations.Operation.TheVariants as Op
+use Rattle.mutex_configs.specs.strided_dom.Progression.{single}
+use Rattle.least_tables.specs.tm_lattice.Tables.{changed_table}
+use Rattle.least_tables.specs.tm_lattice.laws.TableLaws.{get-insert_here, get-insert_there}
+use Rattle.least_tables.specs.tm_lattice.laws.SelectedLaws.{changed_at, get-changed_table}
+use Rattle.mutex_configs.specs.tm_cint.declared.int_types.IntType.TheVariants.{Int}
+use Rattle.mutex_configs.specs.tm_terms.declared.places.Place.{Place}
+use Rattle.mutex_configs.specs.tm_typed.declared.types.Scalar.TheVariants as Scalars
+use Rattle.mutex_configs.specs.tm_typed.Files.{TypedFileTree}
+use Rattle.mutex_configs.specs.tm_laid.declared.objects.LaidObject.{LaidObject}
+use Rattle.mutex_configs.specs.tm_laid.Layouts.{LaidTree}
+use Rattle.mutex_configs.specs.flow_graph.declared.operations.Into.TheVariants as Into
+use Rattle.mutex_configs.specs.flow_graph.declared.operations.Operation.TheVariants as Op
 use Rattle.mutex_configs.specs.declared.nodes.EdgeCopy.{EdgeCopy}
 use Rattle.mutex_configs.specs.Sets.{is_probe, leads_nowhere, held_after, found_after}
 use Rattle.mutex_configs.specs.Nodes.{entry_node, all_copies}
-use Rattle.pointer_dom.specs.PointerSets.{Pointers, pointer_to, offsets_or_none}
-use Rattle.pointer_dom.specs.Values.{Values}
-use Rattle.interfere_set.specs.Stores.{Interferences}
-use Rattle.transfer_rows.specs.StateForms.{Temp, Cell, State, only_numbers, only_pointers, temp_value, value_of}
-use Rattle.transfer_rows.specs.Actions.{Around, Spot}
-use Rattle.transfer_rows.specs.Accesses.{has_number, targets_at}
-use Rattle.transfer_rows.specs.Rows.{effect, after_store, arrived, stored_cell}
-use Rattle.edge_actions.specs.Layouts.{spots_of}
+use Rattle.state_fits.specs.pointer_dom.PointerSets.{Pointers, pointer_to, offsets_or_none}
+use Rattle.state_fits.specs.pointer_dom.Values.{Values}
+use Rattle.state_fits.specs.interfere_set.Stores.{Interferences}
+use Rattle.state_fits.specs.transfer_rows.StateForms.{Temp, Cell, State, only_numbers, only_pointers, temp_value}
+use Rattle.state_fits.specs.transfer_rows.StateForms.{value_of}
+use Rattle.state_fits.specs.transfer_rows.Actions.{Around, Spot}
+use Rattle.state_fits.specs.transfer_rows.Accesses.{has_number, targets_at}
+use Rattle.state_fits.specs.transfer_rows.Rows.{effect, after_store, arrived, stored_cell}
+use Rattle.state_fits.specs.edge_actions.Layouts.{spots_of}
 use Rattle.task_equations.specs.Bodies.{Body}
 use Rattle.task_equations.specs.Equations.{around_along, equations_of}
 

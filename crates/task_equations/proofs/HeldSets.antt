@@ -6,13 +6,13 @@ use Rattle.std.proofs.lemmas.Bool.{cases_lt}
 use Rattle.std.proofs.lemmas.Nat.{pow_below}
 use Rattle.std.proofs.lemmas.Nat.Bits.{bit_at_and, bit_at_or, bit_at_ones, bit_at_above, same_from_bits}
 use Rattle.std.proofs.lemmas.List.Elements.{All-contains}
-use Rattle.flow_graph.specs.declared.graphs.Edge.{Edge}
-use Rattle.flow_graph.specs.declared.operations.Operation.{Operation}
-use Rattle.flow_graph.specs.declared.operations.Operation.TheVariants as Op
-use Rattle.flow_graph.specs.Graphs.{Edges}
-use Rattle.graph_facts.proofs.Edges.{contains_among}
-use Rattle.cell_env.specs.Cells.{IsWithin}
-use Rattle.cell_env.specs.laws.Bits.{within_trans, within_least}
+use Rattle.mutex_configs.specs.flow_graph.declared.graphs.Edge.{Edge}
+use Rattle.mutex_configs.specs.flow_graph.declared.operations.Operation.{Operation}
+use Rattle.mutex_configs.specs.flow_graph.declared.operations.Operation.TheVariants as Op
+use Rattle.mutex_configs.specs.flow_graph.Graphs.{Edges}
+use Rattle.mutex_configs.proofs.low.graph_facts.Edges.{contains_among}
+use Rattle.state_fits.specs.cell_env.Cells.{IsWithin}
+use Rattle.state_fits.specs.cell_env.laws.Bits.{within_trans, within_least}
 use Rattle.mutex_configs.specs.declared.nodes.ConfiguredNode.{ConfiguredNode}
 use Rattle.mutex_configs.specs.Sets.{IsOfSixteen, held_after}
 use Rattle.mutex_configs.specs.Nodes.{IsReached, at_entry, along}

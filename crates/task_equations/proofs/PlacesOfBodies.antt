@@ -5,16 +5,16 @@ use Rattle.std.proofs.Common.{sym, ap, subst, ◌∙◌, inl, inr, arith}
 use Rattle.std.proofs.lemmas.Bool.{eqb-true, eq-eqb, ne_eqb, or_cases, true≢false}
 use Rattle.std.proofs.lemmas.List.Folds.{list_any_at}
 use Rattle.std.proofs.lemmas.List.Elements.{All-head, All-tail, All-weaker, All-contains}
-use Rattle.flow_graph.specs.declared.graphs.Edge.{Edge}
-use Rattle.flow_graph.specs.Operations.{given}
-use Rattle.flow_graph.specs.Graphs.{Edges, IsLive, by_flow}
-use Rattle.graph_facts.specs.declared.regions.Head.{Head}
-use Rattle.graph_facts.specs.Live.{AreLive}
-use Rattle.graph_facts.specs.Heads.{IsHeadUpTo}
-use Rattle.graph_facts.proofs.Edges.{among_at, contains_among, contains_more}
+use Rattle.mutex_configs.specs.flow_graph.declared.graphs.Edge.{Edge}
+use Rattle.mutex_configs.specs.flow_graph.Operations.{given}
+use Rattle.mutex_configs.specs.flow_graph.Graphs.{Edges, IsLive, by_flow}
+use Rattle.mutex_configs.specs.graph_facts.declared.regions.Head.{Head}
+use Rattle.mutex_configs.specs.graph_facts.Live.{AreLive}
+use Rattle.mutex_configs.specs.graph_facts.Heads.{IsHeadUpTo}
+use Rattle.mutex_configs.proofs.low.graph_facts.Edges.{among_at, contains_among, contains_more}
 use Rattle.mutex_configs.specs.declared.nodes.ConfiguredNode.{ConfiguredNode}
 use Rattle.mutex_configs.specs.Nodes.{AreNodes, IsBefore, at_entry, entry_node}
-use Rattle.transfer_rows.specs.Accesses.{is_among}
+use Rattle.state_fits.specs.transfer_rows.Accesses.{is_among}
 use Rattle.task_equations.specs.Bodies.{no_edge}
 use Rattle.task_equations.specs.Equations.{cells_rounded}
 

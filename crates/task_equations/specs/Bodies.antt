@@ -1,10 +1,10 @@
 -- What the equations of one body are made of.
 use Rattle.std.specs.Prelude.{ℕ, ℤ, List, [], get_or}
-use Rattle.tm_laid.specs.Layouts.{LaidTree}
-use Rattle.flow_graph.specs.declared.graphs.Edge.{Edge}
-use Rattle.flow_graph.specs.declared.operations.Operation.TheVariants as Op
-use Rattle.flow_graph.specs.Graphs.{Edges}
-use Rattle.graph_facts.specs.declared.regions.Head.{Head}
+use Rattle.mutex_configs.specs.tm_laid.Layouts.{LaidTree}
+use Rattle.mutex_configs.specs.flow_graph.declared.graphs.Edge.{Edge}
+use Rattle.mutex_configs.specs.flow_graph.declared.operations.Operation.TheVariants as Op
+use Rattle.mutex_configs.specs.flow_graph.Graphs.{Edges}
+use Rattle.mutex_configs.specs.graph_facts.declared.regions.Head.{Head}
 use Rattle.mutex_configs.specs.declared.nodes.ConfiguredNode.{ConfiguredNode}
 use Rattle.mutex_configs.specs.declared.nodes.EdgeCopy.{EdgeCopy}
 use Rattle.mutex_configs.specs.Nodes.{entry_node}

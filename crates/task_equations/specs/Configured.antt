@@ -1,12 +1,12 @@
 -- A body of a graph and its configured graph, and what its types and thresholds keep.
 use Rattle.std.specs.Prelude.{◌≡◌, ◌≢◌, ℕ, ◌<◌, List, length, get_or, All}
-use Rattle.flow_graph.specs.declared.graphs.Edge.{Edge}
-use Rattle.flow_graph.specs.declared.graphs.Graph.{Graph}
-use Rattle.graph_facts.specs.Live.{AreLive}
-use Rattle.graph_facts.specs.Heads.{AreHeads}
+use Rattle.mutex_configs.specs.flow_graph.declared.graphs.Edge.{Edge}
+use Rattle.mutex_configs.specs.flow_graph.declared.graphs.Graph.{Graph}
+use Rattle.mutex_configs.specs.graph_facts.Live.{AreLive}
+use Rattle.mutex_configs.specs.graph_facts.Heads.{AreHeads}
 use Rattle.mutex_configs.specs.declared.nodes.ConfiguredGraph.{ConfiguredGraph}
-use Rattle.typed_values.specs.Types.{HaveEnds}
-use Rattle.temporary_types.specs.Sorts.{Sort, FitsSorts}
+use Rattle.state_fits.specs.typed_values.Types.{HaveEnds}
+use Rattle.state_fits.specs.temporary_types.Sorts.{Sort, FitsSorts}
 use Rattle.state_fits.specs.Typed.{SpotsAgree, NamesObjects}
 use Rattle.task_equations.specs.Bodies.{Body, no_edge}
 

@@ -1,25 +1,25 @@
 -- The equations of a body over a store: nodes are the nodes of its configured graph, and links the copies of its edges.
 use Rattle.std.specs.Prelude.{ℕ, ℤ, ◌==◌, Bool, false, cond, List, [], ◌∷◌, length, map, is_some, unwrap_or}
 use Rattle.std.specs.Prelude.{Option, Some, None}
-use Rattle.flow_graph.specs.declared.operations.Test.TheVariants as Tests
-use Rattle.flow_graph.specs.declared.operations.Operation.{Operation}
-use Rattle.flow_graph.specs.declared.operations.Operation.TheVariants as Op
-use Rattle.graph_facts.specs.declared.regions.Head.{Head}
+use Rattle.mutex_configs.specs.flow_graph.declared.operations.Test.TheVariants as Tests
+use Rattle.mutex_configs.specs.flow_graph.declared.operations.Operation.{Operation}
+use Rattle.mutex_configs.specs.flow_graph.declared.operations.Operation.TheVariants as Op
+use Rattle.mutex_configs.specs.graph_facts.declared.regions.Head.{Head}
 use Rattle.mutex_configs.specs.declared.nodes.EdgeCopy.{EdgeCopy}
-use Rattle.pointer_dom.specs.Values.{rounded_values}
-use Rattle.cell_env.specs.States.{rounded_state_at, state_height}
-use Rattle.interfere_set.specs.Stores.{Interferences, reader_of}
-use Rattle.transfer_rows.specs.StateForms.{State}
-use Rattle.transfer_rows.specs.Actions.{Action, Around}
-use Rattle.transfer_rows.specs.Accesses.{is_among}
-use Rattle.transfer_rows.specs.Rows.{after}
-use Rattle.transfer_rows.specs.Contributions.{added}
-use Rattle.edge_actions.specs.Layouts.{is_shared_cell, is_smashed_cell}
-use Rattle.edge_actions.specs.Edges.{action_of}
+use Rattle.state_fits.specs.pointer_dom.Values.{rounded_values}
+use Rattle.state_fits.specs.cell_env.States.{rounded_state_at, state_height}
+use Rattle.state_fits.specs.interfere_set.Stores.{Interferences, reader_of}
+use Rattle.state_fits.specs.transfer_rows.StateForms.{State}
+use Rattle.state_fits.specs.transfer_rows.Actions.{Action, Around}
+use Rattle.state_fits.specs.transfer_rows.Accesses.{is_among}
+use Rattle.state_fits.specs.transfer_rows.Rows.{after}
+use Rattle.state_fits.specs.transfer_rows.Contributions.{added}
+use Rattle.state_fits.specs.edge_actions.Layouts.{is_shared_cell, is_smashed_cell}
+use Rattle.state_fits.specs.edge_actions.Edges.{action_of}
 use Rattle.least_tables.specs.declared.links.Link.{Link}
 use Rattle.least_tables.specs.Systems.{System}
 use Rattle.task_equations.specs.Bodies.{Body, edge_of, node_at, copy_at, live_at}
-use Rattle.value_heights.specs.Heights.{value_height}
+use Rattle.state_fits.specs.value_heights.Heights.{value_height}
 use Rattle.state_fits.specs.Tops.{top_state}
 
 -- ## Copies

@@ -1,12 +1,12 @@
 -- What a body keeps of which the equations are solved.
 use Rattle.std.specs.Prelude.{◌≡◌, ℕ, ◌<◌, true, List, length, get_or, Option, Some, None}
-use Rattle.flow_graph.specs.Operations.{given}
+use Rattle.mutex_configs.specs.flow_graph.Operations.{given}
 use Rattle.mutex_configs.specs.declared.nodes.EdgeCopy.{EdgeCopy}
-use Rattle.cell_env.specs.Cells.{IsWithin}
-use Rattle.transfer_rows.specs.StateForms.{State}
-use Rattle.transfer_rows.specs.Accesses.{is_among}
-use Rattle.typed_values.specs.Types.{HaveEnds}
-use Rattle.temporary_types.specs.Sorts.{Sort, FitsSorts}
+use Rattle.state_fits.specs.cell_env.Cells.{IsWithin}
+use Rattle.state_fits.specs.transfer_rows.StateForms.{State}
+use Rattle.state_fits.specs.transfer_rows.Accesses.{is_among}
+use Rattle.state_fits.specs.typed_values.Types.{HaveEnds}
+use Rattle.state_fits.specs.temporary_types.Sorts.{Sort, FitsSorts}
 use Rattle.state_fits.specs.Typed.{SpotsAgree, NamesObjects, types_of}
 use Rattle.state_fits.specs.Fits.{FitsPlace}
 use Rattle.task_equations.specs.Bodies.{Body, no_edge, edge_of, node_at, copy_at, live_at}

@@ -1,15 +1,15 @@
 //! The laws of the equations. They speak of definitions alone: no call is made.
 ghost use Rattle.std.specs.Prelude.{ℕ, List, Option, IfSome};
-ghost use Rattle.pointer_dom.specs.Values.{joined_values};
-ghost use Rattle.cell_env.specs.States.{joined_state};
-ghost use Rattle.interfere_set.specs.Stores.{Interferences};
-ghost use Rattle.transfer_rows.specs.StateForms.{State, IsStateForm, IsStateUnder};
-ghost use Rattle.flow_graph.specs.declared.graphs.Graph.{Graph};
+ghost use Rattle.state_fits.specs.pointer_dom.Values.{joined_values};
+ghost use Rattle.state_fits.specs.cell_env.States.{joined_state};
+ghost use Rattle.state_fits.specs.interfere_set.Stores.{Interferences};
+ghost use Rattle.state_fits.specs.transfer_rows.StateForms.{State, IsStateForm, IsStateUnder};
+ghost use Rattle.mutex_configs.specs.flow_graph.declared.graphs.Graph.{Graph};
 ghost use Rattle.mutex_configs.specs.declared.nodes.ConfiguredGraph.{ConfiguredGraph};
 ghost use Rattle.mutex_configs.specs.Graphs.{IsGraph};
 ghost use Rattle.mutex_configs.specs.Nodes.{IsConfigured};
 ghost use Rattle.least_tables.specs.Systems.{IsLawfulSystem};
-ghost use Rattle.temporary_types.specs.Sorts.{Sort};
+ghost use Rattle.state_fits.specs.temporary_types.Sorts.{Sort};
 ghost use Rattle.state_fits.specs.Fits.{FitsStore};
 ghost use Rattle.task_equations.specs.Bodies.{Body};
 ghost use Rattle.task_equations.specs.Equations.{equations_of};

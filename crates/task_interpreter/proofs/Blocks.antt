@@ -12,7 +12,9 @@ use Rattle.tm_typed.specs.declared.statements.TypedStatement.{TypedStatement}
 use Rattle.tm_typed.specs.declared.statements.TypedStatement.TheVariants as Typed
 use Rattle.tm_typed.specs.declared.statements.TypedSwitchPart.{TypedSwitchPart}
 use Rattle.tm_typed.specs.TypedTrees.{rvalue_tree, as_rvalues}
-use Rattle.tm_typed.specs.TypedStatements.{TypedCase, TypedCases, no_typed_cases, and_typed_case, a_label, a_default_label, a_labelled_step, local_tree, typed_tree, typed_case, as_typed_trees, as_typed_cases}
+use Rattle.tm_typed.specs.TypedStatements.{TypedCase, TypedCases, no_typed_cases, and_typed_case, a_label}
+use Rattle.tm_typed.specs.TypedStatements.{a_default_label, a_labelled_step, local_tree, typed_tree}
+use Rattle.tm_typed.specs.TypedStatements.{typed_case, as_typed_trees, as_typed_cases}
 use Rattle.std.proofs.lemmas.List.{at_drop_more}
 use Rattle.task_interpreter.proofs.Steps.{run_ok, run_err}
 use Rattle.tm_typed.proofs.CallTrees.{rvalue_tree-call}

@@ -2,10 +2,14 @@
 use Rattle.std.proofs.Common.{◌≡◌, ℕ, ◌+◌, ◌<◌, refl, ap, sym, subst, ◌∙◌, true, false, Option, Some, None, Ok, Err, option_copied, arith, Bor}
 use Rattle.std.specs.Prelude.{option_map}
 use Rattle.tm_typed.specs.declared.expressions.Rvalue.{Rvalue}
-use Rattle.tm_typed.specs.TypedTrees.{RvalueTree, a_constant, a_folded, a_null, a_load, an_address, a_structure}
-use Rattle.tm_typed.specs.TypedTrees.{the_same, a_unary, a_binary, a_comparison_of_pointers, a_move, a_not, an_and}
-use Rattle.tm_typed.specs.TypedTrees.{an_or, a_choice, an_assignment, a_compound, a_compound_move, a_unit_step}
-use Rattle.tm_typed.specs.TypedTrees.{a_pointer_step, a_function_call, an_input_value, a_probe, a_comma, a_conversion}
+use Rattle.tm_typed.specs.TypedTrees.{RvalueTree, a_constant, a_folded, a_null, a_load, an_address}
+use Rattle.tm_typed.specs.TypedTrees.{a_structure}
+use Rattle.tm_typed.specs.TypedTrees.{the_same, a_unary, a_binary, a_comparison_of_pointers, a_move, a_not}
+use Rattle.tm_typed.specs.TypedTrees.{an_and}
+use Rattle.tm_typed.specs.TypedTrees.{an_or, a_choice, an_assignment, a_compound, a_compound_move}
+use Rattle.tm_typed.specs.TypedTrees.{a_unit_step}
+use Rattle.tm_typed.specs.TypedTrees.{a_pointer_step, a_function_call, an_input_value, a_probe, a_comma}
+use Rattle.tm_typed.specs.TypedTrees.{a_conversion}
 use Rattle.tm_typed.specs.TypedTrees.{a_discard, rvalue_tree}
 use Rattle.concrete_values.specs.declared.actions.Next.{Next}
 use Rattle.task_interpreter.specs.declared.answers.Gave.{Gave}

@@ -12,15 +12,23 @@ use Rattle.tm_typed.specs.declared.types.Scalar.{Scalar}
 use Rattle.tm_typed.specs.declared.types.Scalar.TheVariants as Scalars
 use Rattle.tm_typed.specs.declared.expressions.Step.{Step}
 use Rattle.tm_typed.specs.declared.scopes.ObjectNumber.TheVariants.{Local}
-use Rattle.tm_typed.specs.TypedTrees.{RvalueTree, a_constant, a_folded, a_null, a_load, an_address, a_structure}
-use Rattle.tm_typed.specs.TypedTrees.{the_same, a_unary, a_binary, a_comparison_of_pointers, a_move, a_not, an_and}
-use Rattle.tm_typed.specs.TypedTrees.{an_or, a_choice, an_assignment, a_compound, a_compound_move, a_unit_step}
-use Rattle.tm_typed.specs.TypedTrees.{a_pointer_step, a_function_call, an_input_value, a_probe, a_comma, a_conversion}
-use Rattle.tm_typed.specs.TypedTrees.{a_discard, LvalueTree, an_object, an_element, a_pointed_element, a_pointed}
+use Rattle.tm_typed.specs.TypedTrees.{RvalueTree, a_constant, a_folded, a_null, a_load, an_address}
+use Rattle.tm_typed.specs.TypedTrees.{a_structure}
+use Rattle.tm_typed.specs.TypedTrees.{the_same, a_unary, a_binary, a_comparison_of_pointers, a_move, a_not}
+use Rattle.tm_typed.specs.TypedTrees.{an_and}
+use Rattle.tm_typed.specs.TypedTrees.{an_or, a_choice, an_assignment, a_compound, a_compound_move}
+use Rattle.tm_typed.specs.TypedTrees.{a_unit_step}
+use Rattle.tm_typed.specs.TypedTrees.{a_pointer_step, a_function_call, an_input_value, a_probe, a_comma}
+use Rattle.tm_typed.specs.TypedTrees.{a_conversion}
+use Rattle.tm_typed.specs.TypedTrees.{a_discard, LvalueTree, an_object, an_element, a_pointed_element}
+use Rattle.tm_typed.specs.TypedTrees.{a_pointed}
 use Rattle.tm_typed.specs.TypedTrees.{an_arrow, a_part, lvalue_place, RvalueTrees, no_rvalues, and_rvalue}
-use Rattle.tm_typed.specs.TypedStatements.{GivenTree, LocalInitialiserTree, LocalTree, TypedTree, evaluates, declares}
-use Rattle.tm_typed.specs.TypedStatements.{runs_block, branches, branches_else, loops_while, loops_do, loops_for}
-use Rattle.tm_typed.specs.TypedStatements.{selects, breaks, continues, returns, locks, unlocks, yields, TypedTrees}
+use Rattle.tm_typed.specs.TypedStatements.{GivenTree, LocalInitialiserTree, LocalTree, TypedTree, evaluates}
+use Rattle.tm_typed.specs.TypedStatements.{declares}
+use Rattle.tm_typed.specs.TypedStatements.{runs_block, branches, branches_else, loops_while, loops_do}
+use Rattle.tm_typed.specs.TypedStatements.{loops_for}
+use Rattle.tm_typed.specs.TypedStatements.{selects, breaks, continues, returns, locks, unlocks, yields}
+use Rattle.tm_typed.specs.TypedStatements.{TypedTrees}
 use Rattle.tm_typed.specs.TypedStatements.{no_statements, and_statement, a_label, a_default_label}
 use Rattle.tm_typed.specs.TypedStatements.{a_labelled_step, TypedCases, no_typed_cases, and_typed_case}
 use Rattle.tm_typed.specs.Functions.{TypedBodyTree}
@@ -32,7 +40,8 @@ use Rattle.concrete_values.specs.declared.actions.Next.{Next}
 use Rattle.concrete_values.specs.declared.actions.Next.TheVariants as Acts
 use Rattle.concrete_values.specs.Values.{truth_value, is_true}
 use Rattle.concrete_values.specs.Operators.{binary, unary, is_case}
-use Rattle.concrete_values.specs.Pointers.{base, part, element, moved, dereferenced, usable, compared, is_compared}
+use Rattle.concrete_values.specs.Pointers.{base, part, element, moved, dereferenced, usable, compared}
+use Rattle.concrete_values.specs.Pointers.{is_compared}
 use Rattle.concrete_values.specs.Actions.{load_at, store_at, clear_at, answer_of}
 use Rattle.concrete_steps.specs.Places.{result_type, gives_pointer, rvalue_place}
 use Rattle.concrete_steps.specs.NextAction.{After, last, fit_then, act_then, result_then, Use, as_value, as_branch, tested, value_used, truth_used, scalar_at, compound_result, step_operator, step_value, Here, stored_then, expr_then, address_then, arguments_then, unused_then, condition_then, is_given, cell_then, rest_of, cells_then, initialiser_then, local_then, locals_then, Exits, loop_then, loop_over as loop_over_then, returned_then, inside, stmt_then, block_then, cases_then, case_then, default_then, passed_then, fallen_then, function_at, exits_of, here_with, code_then, body_then, next}

@@ -1,3 +1,4 @@
 mod MarkSteps
 pub mod Telling
 mod Tried
+pub mod low

@@ -1,10 +1,10 @@
 -- The definitions tried on three edges, and on numbers that do not fit.
 use Rattle.std.proofs.Common.{◌≡◌, refl, ℕ, true, false, [], ◌∷◌}
 use Rattle.std.proofs.lemmas.Bool.{false≢true}
-use Rattle.tm_cint.specs.declared.int_types.IntType.TheVariants as Ints
-use Rattle.tm_terms.specs.declared.places.Place.{Place}
+use Rattle.tm_typed.specs.tm_cint.declared.int_types.IntType.TheVariants as Ints
+use Rattle.tm_typed.specs.tm_terms.declared.places.Place.{Place}
 use Rattle.tm_typed.specs.declared.types.Scalar.TheVariants as Scalars
-use Rattle.tm_laid.specs.Layouts.{LaidTree}
+use Rattle.concrete_values.specs.tm_laid.Layouts.{LaidTree}
 use Rattle.flow_graph.specs.declared.operations.Into.TheVariants as Intos
 use Rattle.flow_graph.specs.declared.operations.Operation.{Operation}
 use Rattle.flow_graph.specs.declared.operations.Operation.TheVariants as Op

@@ -1,15 +1,15 @@
 -- What temporaries hold: numbers of an integer type, or pointers. An operation fits them where each temporary that it
 -- uses holds what the operation works on, and the one that it gives can hold all that it gives.
 use Rattle.std.specs.Prelude.{◌≡◌, ℕ, ◌<◌, true, List, slice_get, length, Option, Some, None, All}
-use Rattle.tm_cint.specs.declared.int_types.IntType.{IntType}
-use Rattle.tm_cint.specs.declared.int_types.IntType.TheVariants as Ints
-use Rattle.tm_cint.specs.declared.operators.BinOp.{BinOp}
-use Rattle.tm_cint.specs.declared.operators.BinOp.TheVariants as Bins
-use Rattle.tm_cint.specs.IntTypes.{IsIn}
-use Rattle.tm_cint.specs.Conversions.{represents_all}
+use Rattle.tm_typed.specs.tm_cint.declared.int_types.IntType.{IntType}
+use Rattle.tm_typed.specs.tm_cint.declared.int_types.IntType.TheVariants as Ints
+use Rattle.tm_typed.specs.tm_cint.declared.operators.BinOp.{BinOp}
+use Rattle.tm_typed.specs.tm_cint.declared.operators.BinOp.TheVariants as Bins
+use Rattle.tm_typed.specs.tm_cint.IntTypes.{IsIn}
+use Rattle.tm_typed.specs.tm_cint.Conversions.{represents_all}
 use Rattle.tm_typed.specs.declared.types.Scalar.{Scalar}
 use Rattle.tm_typed.specs.declared.types.Scalar.TheVariants as Scalars
-use Rattle.tm_laid.specs.Layouts.{LaidTree}
+use Rattle.concrete_values.specs.tm_laid.Layouts.{LaidTree}
 use Rattle.concrete_values.specs.declared.values.Value.{Value}
 use Rattle.concrete_values.specs.declared.values.Value.TheVariants.{Number, Pointer}
 use Rattle.flow_graph.specs.declared.operations.Test.{Test}

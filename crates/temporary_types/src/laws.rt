@@ -1,6 +1,6 @@
 //! What the marks of temporaries tell, the contract of a function that does nothing.
 ghost use Rattle.std.specs.Prelude.{ℕ, ◌≤◌, List, length};
-ghost use Rattle.tm_laid.specs.Layouts.{LaidTree};
+ghost use Rattle.concrete_values.specs.tm_laid.Layouts.{LaidTree};
 ghost use Rattle.flow_graph.specs.Graphs.{Edges};
 ghost use Rattle.temporary_types.specs.Sorts.{Sort, AreSorts};
 ghost use Rattle.temporary_types.specs.PointerMarks.{pointer_marks, IsGivenIn, AreCopiesOfGiven, Tells};

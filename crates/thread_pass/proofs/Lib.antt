@@ -5,3 +5,4 @@ mod TaskTables
 mod StartTables
 mod WholePrograms
 mod SameBodies
+pub mod low

@@ -5,7 +5,7 @@ use Rattle.std.proofs.lemmas.Bool.{cases_lt}
 use Rattle.std.proofs.lemmas.List.{get_or_default}
 use Rattle.flow_graph.specs.declared.graphs.Graph.{Graph}
 use Rattle.mutex_configs.specs.declared.nodes.ConfiguredGraph.{ConfiguredGraph}
-use Rattle.body_systems.specs.Facts.{Facts}
+use Rattle.program_systems.specs.body_systems.Facts.{Facts}
 use Rattle.program_systems.specs.ProgramFacts.{read_body, read_bodies}
 use Rattle.program_systems.proofs.Bodies.{read_count, read_at}
 

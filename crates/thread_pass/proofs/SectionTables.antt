@@ -2,16 +2,16 @@
 use Rattle.std.specs.Prelude.{◌≡◌, ℕ, ◌<◌, ◌≤◌, List, [], length, Option, Some}
 use Rattle.std.proofs.Common.{sym, ap, subst, ◌∙◌, arith}
 use Rattle.interfere_set.specs.Stores.{Interferences, no_interference}
-use Rattle.transfer_rows.specs.StateForms.{State}
+use Rattle.program_equality.specs.transfer_rows.StateForms.{State}
 use Rattle.mutex_configs.specs.declared.programs.Program.{Program}
 use Rattle.least_tables.specs.Solutions.{at, IsLeastSolution}
-use Rattle.task_equations.specs.Bodies.{Body}
-use Rattle.task_equations.specs.Equations.{equations_of}
-use Rattle.program_equations.specs.Programs.{ProgramBodies, body_at, HasSection}
-use Rattle.program_equations.specs.Entries.{first_state}
-use Rattle.program_equations.specs.Systems.{states, FitsBody, FitsProgram}
-use Rattle.program_equations.specs.laws.StoresFit.{nothing_fits}
-use Rattle.program_equations.specs.laws.TaskEntries.{first_fits}
+use Rattle.program_equality.specs.task_equations.Bodies.{Body}
+use Rattle.program_equality.specs.task_equations.Equations.{equations_of}
+use Rattle.program_equality.specs.program_equations.Programs.{ProgramBodies, body_at, HasSection}
+use Rattle.program_equality.specs.program_equations.Entries.{first_state}
+use Rattle.program_equality.specs.program_equations.Systems.{states, FitsBody, FitsProgram}
+use Rattle.program_equality.specs.program_equations.laws.StoresFit.{nothing_fits}
+use Rattle.program_equality.specs.program_equations.laws.TaskEntries.{first_fits}
 use Rattle.program_systems.specs.Analysable.{IsAnalysable}
 use Rattle.program_systems.specs.ProgramFacts.{AllFacts, program_with, AreProgramFacts}
 use Rattle.program_systems.proofs.Bodies.{body_count, is_program}

@@ -5,26 +5,30 @@ use Rattle.std.proofs.Common.{sym, ap, subst, ◌∙◌}
 use Rattle.std.proofs.lemmas.Bool.{false≢true}
 use Rattle.interfere_set.specs.Stores.{Interferences, no_interference, joined_store}
 use Rattle.interfere_set.specs.laws.StoreLaws.{store_order, store_join, store_closure}
-use Rattle.transfer_rows.specs.StateForms.{State}
-use Rattle.state_fits.specs.laws.PlacesFit.{states_order, states_join}
+use Rattle.program_equality.specs.transfer_rows.StateForms.{State}
+use Rattle.program_equality.specs.state_fits.laws.PlacesFit.{states_order, states_join}
 use Rattle.least_tables.specs.Systems.{IsLawfulSystem}
-use Rattle.least_tables.specs.Solutions.{NodeTable, at, IsNodewiseBelow, IsStarted, IsClosedTable, IsLeastAbove}
+use Rattle.least_tables.specs.Solutions.{NodeTable, at, IsNodewiseBelow, IsStarted, IsClosedTable}
+use Rattle.least_tables.specs.Solutions.{IsLeastAbove}
 use Rattle.least_tables.specs.Solutions.{IsLeastSolution}
 use Rattle.least_tables.specs.Passes.{added_below}
 use Rattle.least_tables.specs.laws.WholeLeast as least
 use Rattle.least_tables.specs.laws.Closing as closing
-use Rattle.task_equations.specs.Bodies.{Body, copy_at}
-use Rattle.task_equations.specs.Equations.{equations_of, link_of, added_along}
-use Rattle.program_equations.specs.Programs.{ProgramBodies, body_at, IsProgram}
-use Rattle.program_equations.specs.Systems.{states, stores, FitsBody, FitsProgram, task_entry, task_system}
-use Rattle.program_equations.specs.Systems.{least_section, least_local, pass_of, IsSection, IsSectionBelow}
-use Rattle.program_equations.specs.Solutions.{node_count, links_in, after_in, entry_in, outward_in, heads_in, suits_in}
-use Rattle.program_equations.specs.Solutions.{height_of, limit_in, added_in, passing}
-use Rattle.program_equations.specs.laws.StoresFit.{bottom}
-use Rattle.program_equations.specs.laws.Lawful.{program_is_lawful}
-use Rattle.program_equations.specs.laws.Passing.{fitting}
-use Rattle.program_equations.specs.laws.Sections.{section_is_least}
-use Rattle.program_equations.specs.laws.Tables.{pass_is_one}
+use Rattle.program_equality.specs.task_equations.Bodies.{Body, copy_at}
+use Rattle.program_equality.specs.task_equations.Equations.{equations_of, link_of, added_along}
+use Rattle.program_equality.specs.program_equations.Programs.{ProgramBodies, body_at, IsProgram}
+use Rattle.program_equality.specs.program_equations.Systems.{states, stores, FitsBody, FitsProgram, task_entry}
+use Rattle.program_equality.specs.program_equations.Systems.{task_system}
+use Rattle.program_equality.specs.program_equations.Systems.{least_section, least_local, pass_of, IsSection}
+use Rattle.program_equality.specs.program_equations.Systems.{IsSectionBelow}
+use Rattle.program_equality.specs.program_equations.Solutions.{node_count, links_in, after_in, entry_in, outward_in}
+use Rattle.program_equality.specs.program_equations.Solutions.{heads_in, suits_in}
+use Rattle.program_equality.specs.program_equations.Solutions.{height_of, limit_in, added_in, passing}
+use Rattle.program_equality.specs.program_equations.laws.StoresFit.{bottom}
+use Rattle.program_equality.specs.program_equations.laws.Lawful.{program_is_lawful}
+use Rattle.program_equality.specs.program_equations.laws.Passing.{fitting}
+use Rattle.program_equality.specs.program_equations.laws.Sections.{section_is_least}
+use Rattle.program_equality.specs.program_equations.laws.Tables.{pass_is_one}
 use Rattle.thread_pass.specs.Analyses.{IsStartTable}
 
 -- where all edges are pending, none is met yet

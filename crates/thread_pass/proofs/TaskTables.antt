@@ -2,17 +2,17 @@
 use Rattle.std.specs.Prelude.{◌≡◌, ℕ, ◌<◌, List, length, map, Option, IfSome}
 use Rattle.std.proofs.Common.{sym, ap, subst, ◌∙◌, arith}
 use Rattle.interfere_set.specs.Stores.{Interferences, no_interference, joined_store}
-use Rattle.transfer_rows.specs.StateForms.{State}
+use Rattle.program_equality.specs.transfer_rows.StateForms.{State}
 use Rattle.least_tables.specs.Solutions.{at, least_of, IsLeastSolution}
 use Rattle.least_tables.specs.Passes.{added_below}
-use Rattle.task_equations.specs.Bodies.{Body, copy_at}
-use Rattle.task_equations.specs.Equations.{equations_of, link_of, added_along}
-use Rattle.program_equations.specs.Programs.{ProgramBodies, body_at, IsProgram}
-use Rattle.program_equations.specs.Systems.{states, FitsBody, FitsProgram, task_entry, least_section}
-use Rattle.program_equations.specs.Systems.{pass_of}
-use Rattle.program_equations.specs.laws.Sections.{section_is, section_is_least, entry_is_one}
-use Rattle.program_equations.specs.laws.TaskEntries.{task_entry_fits}
-use Rattle.program_equations.specs.laws.Tables.{least_pass_is}
+use Rattle.program_equality.specs.task_equations.Bodies.{Body, copy_at}
+use Rattle.program_equality.specs.task_equations.Equations.{equations_of, link_of, added_along}
+use Rattle.program_equality.specs.program_equations.Programs.{ProgramBodies, body_at, IsProgram}
+use Rattle.program_equality.specs.program_equations.Systems.{states, FitsBody, FitsProgram, task_entry, least_section}
+use Rattle.program_equality.specs.program_equations.Systems.{pass_of}
+use Rattle.program_equality.specs.program_equations.laws.Sections.{section_is, section_is_least, entry_is_one}
+use Rattle.program_equality.specs.program_equations.laws.TaskEntries.{task_entry_fits}
+use Rattle.program_equality.specs.program_equations.laws.Tables.{least_pass_is}
 use Rattle.thread_pass.specs.Analyses.{IsSectionTable, IsLeastTable}
 
 module _ (p : ProgramBodies) (is : IsProgram p) where

@@ -3,15 +3,17 @@ use Rattle.std.specs.Prelude.{List, ◌∷◌}
 use Rattle.tm_lattice.specs.Rounds.{IsHistory, IsClosed}
 use Rattle.interfere_set.specs.Stores.{Interferences}
 use Rattle.interfere_set.specs.laws.StoreLaws.{store_order, store_join, store_closure}
-use Rattle.state_fits.specs.laws.PlacesFit.{states_order, states_join}
+use Rattle.program_equality.specs.state_fits.laws.PlacesFit.{states_order, states_join}
 use Rattle.least_tables.specs.laws.WholeLeast as least
-use Rattle.program_equations.specs.Programs.{ProgramBodies, IsProgram}
-use Rattle.program_equations.specs.Systems.{states, stores, IsSection, IsSectionBelow, least_section, least_local}
-use Rattle.program_equations.specs.Solutions.{node_count, links_in, after_in, entry_in, outward_in, heads_in, suits_in}
-use Rattle.program_equations.specs.Solutions.{height_of, limit_in, added_in, passing, IsWholeLeast}
-use Rattle.program_equations.specs.laws.StoresFit.{bottom}
-use Rattle.program_equations.specs.laws.Lawful.{program_is_lawful}
-use Rattle.program_equations.specs.laws.Passing.{fitting}
+use Rattle.program_equality.specs.program_equations.Programs.{ProgramBodies, IsProgram}
+use Rattle.program_equality.specs.program_equations.Systems.{states, stores, IsSection, IsSectionBelow, least_section}
+use Rattle.program_equality.specs.program_equations.Systems.{least_local}
+use Rattle.program_equality.specs.program_equations.Solutions.{node_count, links_in, after_in, entry_in, outward_in}
+use Rattle.program_equality.specs.program_equations.Solutions.{heads_in, suits_in}
+use Rattle.program_equality.specs.program_equations.Solutions.{height_of, limit_in, added_in, passing, IsWholeLeast}
+use Rattle.program_equality.specs.program_equations.laws.StoresFit.{bottom}
+use Rattle.program_equality.specs.program_equations.laws.Lawful.{program_is_lawful}
+use Rattle.program_equality.specs.program_equations.laws.Passing.{fitting}
 
 pub closed_is_least : (p : ProgramBodies) (store : Interferences) (earlier : List Interferences) → IsProgram p
     → IsHistory stores passing p (store ∷ earlier) → IsClosed stores passing p store

@@ -1,12 +1,13 @@
 -- Programs whose initial section is analysed.
 use Rattle.std.specs.Prelude.{◌≡◌, ℕ, ◌<◌, List, [], length, get_or, Option, None}
-use Rattle.transfer_rows.specs.StateForms.{State}
+use Rattle.program_equality.specs.transfer_rows.StateForms.{State}
 use Rattle.interfere_set.specs.Stores.{Interferences, IsStoreBelow}
 use Rattle.mutex_configs.specs.declared.programs.Program.{Program}
 use Rattle.least_tables.specs.Solutions.{at, IsLeastSolution}
-use Rattle.program_equations.specs.Programs.{ProgramBodies, body_at, HasSection}
-use Rattle.program_equations.specs.Systems.{states, FitsBody, FitsProgram, section_system, task_system, task_entry}
-use Rattle.program_equations.specs.Systems.{least_section}
+use Rattle.program_equality.specs.program_equations.Programs.{ProgramBodies, body_at, HasSection}
+use Rattle.program_equality.specs.program_equations.Systems.{states, FitsBody, FitsProgram, section_system, task_system}
+use Rattle.program_equality.specs.program_equations.Systems.{task_entry}
+use Rattle.program_equality.specs.program_equations.Systems.{least_section}
 use Rattle.program_systems.specs.Analysable.{IsAnalysable}
 use Rattle.program_systems.specs.ProgramFacts.{AllFacts, AreProgramFacts, program_with}
 

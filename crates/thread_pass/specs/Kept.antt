@@ -1,8 +1,8 @@
 -- What a pass keeps for the next pass of its task.
 use Rattle.std.specs.Prelude.{ℕ, List, Option}
-use Rattle.transfer_rows.specs.StateForms.{State}
+use Rattle.program_equality.specs.transfer_rows.StateForms.{State}
 use Rattle.interfere_set.specs.Stores.{Interferences}
-use Rattle.program_equations.specs.Programs.{ProgramBodies}
+use Rattle.program_equality.specs.program_equations.Programs.{ProgramBodies}
 use Rattle.thread_pass.specs.Analyses.{IsLeastTable}
 
 -- a table, and the store over which it was found

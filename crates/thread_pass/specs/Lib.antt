@@ -1,4 +1,10 @@
 -- What an analysis keeps (Analyses), and what a pass keeps for the next one (Kept).
+-- The crates below, passed on to those above.
+pub use Rattle.program_equality.specs.program_equations
+pub use Rattle.program_systems.specs as program_systems
+pub use Rattle.program_equality.specs.state_fits
+pub use Rattle.flow_graph.specs.tm_laid
+pub use Rattle.program_equality.specs.transfer_rows
 pub mod Analyses
 pub mod Kept
 pub mod laws

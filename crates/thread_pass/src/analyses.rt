@@ -1,19 +1,20 @@
 //! Programs with their initial section analysed.
 ghost use Rattle.std.specs.Prelude.{◌≡◌, ◌↔◌, ◌<◌, ◌^◌, length, IfOk, MatchOption};
-ghost use Rattle.tm_laid.specs.Layouts.{laid_tree};
-ghost use Rattle.program_equations.specs.Programs.{HasSection, IsProgramOf};
+ghost use Rattle.flow_graph.specs.tm_laid.Layouts.{laid_tree};
+ghost use Rattle.program_equality.specs.program_equations.Programs.{HasSection, IsProgramOf};
 ghost use Rattle.program_systems.specs.Analysable.{IsAnalysable};
 ghost use Rattle.program_systems.specs.ReadPrograms.{program_of};
 ghost use Rattle.program_systems.specs.ProgramFacts.{AreProgramFacts, read_with, program_with};
 ghost use Rattle.thread_pass.specs.Analyses.{IsSectionTable};
 
-use body_systems::{BodyState, BodySystem};
 use cell_env::State;
 use interfere_set::Store;
 use least_tables::least_table;
 use mutex_configs::Program;
 use pointer_dom::AbsValue;
-use program_systems::{ProgramFacts, body_over_store, section_entry, task_entries};
+use program_systems::{
+    BodyState, BodySystem, ProgramFacts, body_over_store, section_entry, task_entries,
+};
 use std::alloc::Global;
 use std::marker::Model;
 use tm_lattice::NoMemory;
@@ -26,7 +27,7 @@ pub struct SectionTable {
 
 impl Model for SectionTable {
     ghost use Rattle.std.specs.Prelude.{List, Option};
-    ghost use Rattle.transfer_rows.specs.StateForms.{State};
+    ghost use Rattle.program_equality.specs.transfer_rows.StateForms.{State};
     ghost use Rattle.thread_pass.specs.laws.Codes.{table_code};
 
     ghost Value = { List (Option State) };

@@ -1,19 +1,18 @@
 //! Whether two analyses are of one program.
 ghost use Rattle.std.specs.Prelude.{◌≡◌, ◌↔◌, IsTrue};
-ghost use Rattle.temporary_types.specs.PointerMarks.{pointer_marks};
-ghost use Rattle.program_equations.specs.Programs.{temporaries_in};
+ghost use Rattle.program_equality.specs.temporary_types.PointerMarks.{pointer_marks};
+ghost use Rattle.program_equality.specs.program_equations.Programs.{temporaries_in};
 ghost use Rattle.program_systems.specs.Analysable.{IsAnalysable};
 ghost use Rattle.program_systems.specs.ProgramFacts.{AreProgramFacts, read_body, read_with};
 
 use crate::analyses::Analysis;
-use body_systems::BodyFacts;
 use flow_graph::Graph;
 use mutex_configs::{ConfiguredGraph, Program};
 use program_equality::{
     are_same_copies, are_same_edges, are_same_heads, are_same_lists, are_same_marks,
     are_same_nodes, are_same_priorities, is_same_layout,
 };
-use program_systems::ProgramFacts;
+use program_systems::{BodyFacts, ProgramFacts};
 
 /// A body of a program, with what is computed once of it.
 #[derive(Clone, Copy)]

@@ -2,8 +2,8 @@
 ghost use Rattle.std.specs.Prelude.{◌≡◌};
 ghost use Rattle.std.specs.Arc.{arc_value};
 
-use body_systems::BodyState;
 use interfere_set::Store;
+use program_systems::BodyState;
 use std::marker::Model;
 use std::sync::Arc;
 

@@ -1,6 +1,6 @@
 //! The pass of a task over a store.
 ghost use Rattle.std.specs.Prelude.{◌≡◌, ◌<◌, IfOk};
-ghost use Rattle.program_equations.specs.Systems.{FitsProgram, pass_of};
+ghost use Rattle.program_equality.specs.program_equations.Systems.{FitsProgram, pass_of};
 ghost use Rattle.program_systems.specs.ReadPrograms.{program_of};
 ghost use Rattle.thread_pass.specs.Analyses.{IsLeastTable, IsStartTable};
 
@@ -8,10 +8,9 @@ use crate::analyses::Analysis;
 use crate::contributions::joined_contributions;
 use crate::equality::is_same_program;
 use crate::kept::Kept;
-use body_systems::{BodyState, BodySystem};
 use interfere_set::Store;
 use least_tables::{Equations, Pass, least_pass, settle};
-use program_systems::body_over_store;
+use program_systems::{BodyState, BodySystem, body_over_store};
 use std::alloc::Global;
 use std::sync::Arc;
 use strided_dom::Marks;
@@ -62,10 +61,10 @@ pub fn local_from(
 
 impl Passer for Analysis {
     ghost use Rattle.interfere_set.specs.Stores.{no_interference};
-    ghost use Rattle.program_equations.specs.Programs.{IsProgram};
-    ghost use Rattle.program_equations.specs.Systems.{FitsProgram, pass_of};
-    ghost use Rattle.program_equations.specs.laws.Passing.{fitting, passes_rise};
-    ghost use Rattle.program_equations.specs.laws.StoresFit.{bottom};
+    ghost use Rattle.program_equality.specs.program_equations.Programs.{IsProgram};
+    ghost use Rattle.program_equality.specs.program_equations.Systems.{FitsProgram, pass_of};
+    ghost use Rattle.program_equality.specs.program_equations.laws.Passing.{fitting, passes_rise};
+    ghost use Rattle.program_equality.specs.program_equations.laws.StoresFit.{bottom};
     ghost use Rattle.program_systems.specs.ReadPrograms.{program_of};
 
     type Store = Store;

@@ -2,20 +2,20 @@
 ghost use Rattle.std.specs.Prelude.{◌∷◌, List};
 ghost use Rattle.tm_lattice.specs.Rounds.{IsHistory, IsClosed};
 ghost use Rattle.interfere_set.specs.Stores.{Interferences};
-ghost use Rattle.program_equations.specs.Programs.{ProgramBodies, IsProgram};
-ghost use Rattle.program_equations.specs.Systems.{stores, least_section, least_local};
-ghost use Rattle.program_equations.specs.Solutions.{passing, IsWholeLeast};
+ghost use Rattle.program_equality.specs.program_equations.Programs.{ProgramBodies, IsProgram};
+ghost use Rattle.program_equality.specs.program_equations.Systems.{stores, least_section, least_local};
+ghost use Rattle.program_equality.specs.program_equations.Solutions.{passing, IsWholeLeast};
 
 use crate::analyses::{Analysis, SectionTable};
-use body_systems::BodyState;
 use least_tables::Analysed;
+use program_systems::BodyState;
 
 impl Analysed for Analysis {
-    ghost use Rattle.program_equations.specs.Solutions.{node_count, links_in, after_in, entry_in, outward_in, heads_in};
-    ghost use Rattle.program_equations.specs.Solutions.{suits_in, limit_in, added_in};
+    ghost use Rattle.program_equality.specs.program_equations.Solutions.{node_count, links_in, after_in, entry_in, outward_in, heads_in};
+    ghost use Rattle.program_equality.specs.program_equations.Solutions.{suits_in, limit_in, added_in};
     ghost use Rattle.cell_env.specs.States.{state_height};
-    ghost use Rattle.value_heights.specs.Heights.{value_height};
-    ghost use Rattle.program_equations.specs.Systems.{IsSection, IsSectionBelow, least_section, least_local};
+    ghost use Rattle.program_equality.specs.value_heights.Heights.{value_height};
+    ghost use Rattle.program_equality.specs.program_equations.Systems.{IsSection, IsSectionBelow, least_section, least_local};
     ghost use Rattle.thread_pass.specs.laws.WholeLawful.{whole_is_lawful};
     ghost use Rattle.program_systems.specs.ReadPrograms.{program_of};
 

@@ -1,3 +1,4 @@
 pub mod Ranges
 pub mod Values
 pub mod Wide
+pub mod low

@@ -1,5 +1,7 @@
 -- What C's integers are: the types (IntTypes), the conversions among them (Conversions), and the operators with their
 -- errors (Operators).
+-- The crates below, passed on to those above.
+pub use Rattle.tm_numbers.specs as tm_numbers
 pub mod IntTypes
 pub mod Conversions
 pub mod Operators

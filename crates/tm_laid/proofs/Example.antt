@@ -6,10 +6,10 @@
 --   __task(1) void t(void) { f(1); g(3); }  __task(2) void u(void) { struct P q; f(2); }
 --   int main(void) { g(0); return 0; }
 use Rattle.std.proofs.Common.{◌≡◌, refl, ℕ, Bool, true, false, List, [], ◌∷◌, ◌++◌, map, length, get_or, Some, None}
-use Rattle.tm_cint.specs.declared.int_types.IntType.TheVariants as Ints
-use Rattle.tm_terms.specs.declared.places.Place.{Place}
-use Rattle.tm_terms.specs.declared.tokens.Name.{Name}
-use Rattle.tm_terms.specs.declared.refusals.Limit.TheVariants as Limits
+use Rattle.tm_typed.specs.tm_cint.declared.int_types.IntType.TheVariants as Ints
+use Rattle.tm_typed.specs.tm_terms.declared.places.Place.{Place}
+use Rattle.tm_typed.specs.tm_terms.declared.tokens.Name.{Name}
+use Rattle.tm_typed.specs.tm_terms.declared.refusals.Limit.TheVariants as Limits
 use Rattle.tm_typed.specs.declared.types.Qualified.{Qualified}
 use Rattle.tm_typed.specs.declared.types.CType.{CType}
 use Rattle.tm_typed.specs.declared.types.CType.TheVariants as Types

@@ -3,3 +3,4 @@
 mod Example
 pub mod Columns
 pub mod TypeDepth
+pub mod low

@@ -1,13 +1,13 @@
 -- The layout of a typed file, what later layers read of it, and the limits of what is laid out.
 use Rattle.std.specs.Prelude.{ℕ, ◌+◌, Bool, true, false, ◌&&◌, nat_le, nat_lt, ◌==◌, List, [], ◌∷◌, ◌++◌, length, map}
 use Rattle.std.specs.Prelude.{drop, take, get_or, find, Option, Some, None, is_none, Result, Ok, Err}
-use Rattle.tm_terms.specs.declared.refusals.Fail.{Fail}
-use Rattle.tm_terms.specs.declared.refusals.Fail.TheVariants as Fails
-use Rattle.tm_terms.specs.declared.refusals.Kind.TheVariants as Kinds
-use Rattle.tm_terms.specs.declared.refusals.Limit.{Limit}
-use Rattle.tm_terms.specs.declared.refusals.Limit.TheVariants as Limits
-use Rattle.tm_terms.specs.declared.refusals.Refusal.{Refusal}
-use Rattle.tm_terms.specs.Limits.{limit_number}
+use Rattle.tm_typed.specs.tm_terms.declared.refusals.Fail.{Fail}
+use Rattle.tm_typed.specs.tm_terms.declared.refusals.Fail.TheVariants as Fails
+use Rattle.tm_typed.specs.tm_terms.declared.refusals.Kind.TheVariants as Kinds
+use Rattle.tm_typed.specs.tm_terms.declared.refusals.Limit.{Limit}
+use Rattle.tm_typed.specs.tm_terms.declared.refusals.Limit.TheVariants as Limits
+use Rattle.tm_typed.specs.tm_terms.declared.refusals.Refusal.{Refusal}
+use Rattle.tm_typed.specs.tm_terms.Limits.{limit_number}
 use Rattle.tm_typed.specs.declared.types.Scalar.{Scalar}
 use Rattle.tm_typed.specs.declared.types.Scalar.TheVariants as Scalars
 use Rattle.tm_typed.specs.declared.scopes.ObjectNumber.{ObjectNumber}

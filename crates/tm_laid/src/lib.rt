@@ -14,3 +14,4 @@ pub use cells::{AbstractCell, LaidCell};
 pub use layouts::Laid;
 pub use objects::{DeclaredObject, Initial, LaidObject};
 pub use paths::{CallPath, Caller};
+pub use tm_typed::{Place, Scalar, Unary};

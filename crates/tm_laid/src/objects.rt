@@ -1,6 +1,5 @@
 //! Objects.
-use tm_terms::{Name, Place};
-use tm_typed::Qualified;
+use tm_typed::{Name, Place, Qualified};
 
 /// The declaration of an object on its path, before it has cells.
 #[derive(Clone, Copy)]

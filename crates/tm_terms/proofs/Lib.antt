@@ -1,1 +1,2 @@
 pub mod ExprCalls
+pub mod low

@@ -1,3 +1,6 @@
+-- The crates below, passed on to those above.
+pub use Rattle.tm_cint.specs as tm_cint
+pub use Rattle.tm_lattice.specs as tm_lattice
 pub mod Alarms
 pub mod ExprSpelling
 pub mod ExprTrees

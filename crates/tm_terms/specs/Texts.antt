@@ -7,7 +7,7 @@ use Rattle.tm_terms.specs.declared.places.Place.{Place}
 use Rattle.tm_terms.specs.declared.refusals.Kind.{Kind}
 use Rattle.tm_terms.specs.declared.refusals.Kind.TheVariants.{Lexical, Unsupported, Deep, Syntax, Undeclared}
 use Rattle.tm_terms.specs.declared.refusals.Kind.TheVariants.{Redeclared, Mismatch, NotConstant, NotLvalue, NoBody}
-use Rattle.tm_terms.specs.declared.refusals.Kind.TheVariants.{Recursive, BadTask, Limit as KindLimit, Unbuilt}
+use Rattle.tm_terms.specs.declared.refusals.Kind.TheVariants.{Recursive, BadTask, Limit as KindLimit}
 use Rattle.tm_terms.specs.declared.refusals.Limit.{Limit}
 use Rattle.tm_terms.specs.declared.refusals.Limit.TheVariants.{Source, Tokens, Tasks, Mutexes, Paths, Cells, Abstract}
 use Rattle.tm_terms.specs.declared.refusals.Limit.TheVariants.{Nodes, Work}
@@ -63,7 +63,6 @@ kind_text NoBody = codes "NoBody"
 kind_text Recursive = codes "Recursive"
 kind_text BadTask = codes "BadTask"
 kind_text KindLimit = codes "Limit"
-kind_text Unbuilt = codes "Unbuilt"
 
 -- the word of a limit
 abbrev pub limit_text : Limit → List ℕ

@@ -20,6 +20,7 @@ pub use exprs::{Access, Binary, Expr, Infix, Level, Postfix, Prefix};
 pub use places::Place;
 pub use refusals::{Fail, Kind, Limit, Refusal};
 pub use texts::{class_word, plain, refusal_line, usage_line};
+pub use tm_cint::{BinOp, IntType};
 pub use tokens::{IntConstant, Longs, Name, Piece, Shape, Sign, Token, Word};
 pub use types_named::{
     Basic, Names, PointerWord, Qualifier, Spec, SpecWord, Storage, TagKind, TypeName,

@@ -17,8 +17,6 @@ pub enum Kind {
     Recursive,
     BadTask,
     Limit,
-    /// A form that is not built yet; it comes after every other refusal.
-    Unbuilt,
 }
 
 /// What a limit counts.

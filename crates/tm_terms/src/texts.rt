@@ -45,7 +45,6 @@ fn kind_word(kind: Kind) -> &'static str
         Kind::Recursive => "Recursive",
         Kind::BadTask => "BadTask",
         Kind::Limit => "Limit",
-        Kind::Unbuilt => "Unbuilt",
     }
 }
 

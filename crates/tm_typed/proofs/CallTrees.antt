@@ -2,7 +2,7 @@
 use Rattle.std.proofs.Common.{◌≡◌, refl, ap, ◌∙◌, ℕ}
 use Rattle.std.specs.declared.alloc.Global.{Global}
 use Rattle.std.specs.declared.vec.Vec.{Vec}
-use Rattle.tm_terms.specs.declared.places.Place.{Place}
+use Rattle.tm_trees.specs.tm_terms.declared.places.Place.{Place}
 use Rattle.tm_typed.specs.declared.expressions.Rvalue.{Rvalue, Row_of-Rvalue, end_of-Rvalue, more_of-Rvalue, items-the_row-Rvalue, items_hidden-the_row-Rvalue-0}
 use Rattle.tm_typed.specs.declared.expressions.Lvalue.TheBlock.{hidden-the_row-Rvalue-0}
 use Rattle.tm_typed.specs.declared.expressions.Rvalue.TheVariants as Rvalues

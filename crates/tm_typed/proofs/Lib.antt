@@ -1,2 +1,3 @@
 pub mod CallTrees
 pub mod TypedStatementTrees
+pub mod low

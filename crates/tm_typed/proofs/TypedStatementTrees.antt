@@ -3,7 +3,7 @@ use Rattle.std.proofs.Common.{◌≡◌, refl, ap, ◌∙◌}
 use Rattle.std.specs.declared.alloc.Global.{Global}
 use Rattle.std.specs.declared.vec.Vec.{Vec}
 use Rattle.std.specs.Prelude.{Box}
-use Rattle.tm_cint.specs.declared.int_types.IntType.{IntType}
+use Rattle.tm_trees.specs.tm_cint.declared.int_types.IntType.{IntType}
 use Rattle.tm_typed.specs.declared.expressions.Rvalue.{Rvalue}
 use Rattle.tm_typed.specs.declared.statements.TypedSwitchPart.{TypedSwitchPart}
 use Rattle.tm_typed.specs.declared.statements.TypedStatement.{TypedStatement, Row_of-TypedStatement, end_of-TypedStatement, more_of-TypedStatement, Row_of-TypedSwitchPart, end_of-TypedSwitchPart, more_of-TypedSwitchPart}

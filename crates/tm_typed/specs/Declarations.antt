@@ -1,13 +1,13 @@
 -- Whole declarations (C99 6.7, 6.9.2): typedefs, and objects at file scope and in blocks.
 use Rattle.std.specs.Prelude.{ℕ, suc, Bool, true, false, cond, ◌&&◌, ◌||◌, not, ◌==◌, is_some, List, [], ◌∷◌, ◌++◌, length, map, slice_set, Option, Some, None, option_map, Result, Ok}
-use Rattle.tm_terms.specs.declared.places.Place.{Place}
-use Rattle.tm_terms.specs.declared.tokens.Name.{Name}
-use Rattle.tm_terms.specs.declared.refusals.Kind.TheVariants as Kinds
-use Rattle.tm_terms.specs.declared.refusals.Refusal.{Refusal}
-use Rattle.tm_terms.specs.declared.types_named.Storage.{Storage}
-use Rattle.tm_terms.specs.declared.types_named.Storage.TheVariants as Storages
-use Rattle.tm_terms.specs.Names.{is_same_name}
-use Rattle.tm_terms.specs.ExprTrees.{place_of}
+use Rattle.tm_trees.specs.tm_terms.declared.places.Place.{Place}
+use Rattle.tm_trees.specs.tm_terms.declared.tokens.Name.{Name}
+use Rattle.tm_trees.specs.tm_terms.declared.refusals.Kind.TheVariants as Kinds
+use Rattle.tm_trees.specs.tm_terms.declared.refusals.Refusal.{Refusal}
+use Rattle.tm_trees.specs.tm_terms.declared.types_named.Storage.{Storage}
+use Rattle.tm_trees.specs.tm_terms.declared.types_named.Storage.TheVariants as Storages
+use Rattle.tm_trees.specs.tm_terms.Names.{is_same_name}
+use Rattle.tm_trees.specs.tm_terms.ExprTrees.{place_of}
 use Rattle.tm_trees.specs.DeclarationTrees.{declared_name, SpecifierTrees, no_specifiers, and_specifier, a_plain, DeclarationTree, ValueTree, an_expression, a_list, ValueTrees, no_values, and_value, InitialiserTree, InitDeclaratorTree}
 use Rattle.tm_typed.specs.declared.types.Qualified.{Qualified}
 use Rattle.tm_typed.specs.declared.types.CType.TheVariants as Types
@@ -24,9 +24,9 @@ use Rattle.tm_typed.specs.declared.specifiers.Shape.{Shape}
 use Rattle.tm_typed.specs.Scopes.{Scope, last_declared, named, named_here, tagged_here, is_same_type}
 use Rattle.tm_typed.specs.TypeRows.{number_in, with_type, is_same_bool}
 use Rattle.tm_typed.specs.TypedStatements.{GivenTree, LocalInitialiserTree, LocalTree}
-use Rattle.tm_terms.specs.declared.types_named.SpecWord.{SpecWord}
-use Rattle.tm_terms.specs.declared.types_named.SpecWord.TheVariants as Specs
-use Rattle.tm_terms.specs.declared.types_named.TagKind.TheVariants as Tags
+use Rattle.tm_trees.specs.tm_terms.declared.types_named.SpecWord.{SpecWord}
+use Rattle.tm_trees.specs.tm_terms.declared.types_named.SpecWord.TheVariants as Specs
+use Rattle.tm_trees.specs.tm_terms.declared.types_named.TagKind.TheVariants as Tags
 use Rattle.tm_trees.specs.declared.declarations.Tag.{Tag}
 use Rattle.tm_typed.specs.States.{State, Static, static, static_type, with_name}
 use Rattle.tm_typed.specs.Evaluation.{typed_in}

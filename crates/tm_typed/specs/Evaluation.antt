@@ -1,7 +1,7 @@
 -- Expressions in a state: their typing, and what they leave behind for later layers.
 use Rattle.std.specs.Prelude.{◌+◌, ℤ, ◌++◌, Option, Some, None, Result, Ok}
-use Rattle.tm_terms.specs.declared.refusals.Refusal.{Refusal}
-use Rattle.tm_terms.specs.ExprTrees.{Tree}
+use Rattle.tm_trees.specs.tm_terms.declared.refusals.Refusal.{Refusal}
+use Rattle.tm_trees.specs.tm_terms.ExprTrees.{Tree}
 use Rattle.tm_typed.specs.declared.operands.Fold.{Fold}
 use Rattle.tm_typed.specs.declared.operands.Fold.TheVariants as Folds
 use Rattle.tm_typed.specs.Scopes.{Scope}

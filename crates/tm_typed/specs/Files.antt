@@ -1,10 +1,10 @@
 -- The typing of files: their items in the order of the text; then uses of what has no definition; then recursion.
 use Rattle.std.specs.Prelude.{◌≡◌, ℕ, zero, ℤ, pos, ◌⊎◌, Bool, true, false, not, ◌||◌, cond, is_some, is_none, nat_le, List, [], ◌∷◌, ◌++◌, length, get_or, slice_set, find, option_map, Option, Some, None, Result, Ok, Err}
-use Rattle.tm_terms.specs.declared.places.Place.{Place}
-use Rattle.tm_terms.specs.declared.tokens.Name.{Name}
-use Rattle.tm_terms.specs.declared.refusals.Kind.TheVariants as Kinds
-use Rattle.tm_terms.specs.declared.refusals.Refusal.{Refusal}
-use Rattle.tm_terms.specs.ExprTrees.{Tree}
+use Rattle.tm_trees.specs.tm_terms.declared.places.Place.{Place}
+use Rattle.tm_trees.specs.tm_terms.declared.tokens.Name.{Name}
+use Rattle.tm_trees.specs.tm_terms.declared.refusals.Kind.TheVariants as Kinds
+use Rattle.tm_trees.specs.tm_terms.declared.refusals.Refusal.{Refusal}
+use Rattle.tm_trees.specs.tm_terms.ExprTrees.{Tree}
 use Rattle.tm_trees.specs.FileTrees.{PartTrees, FunctionTree, ItemTree, a_declaration, a_function, an_empty_item, a_mutex, a_task}
 use Rattle.tm_typed.specs.declared.types.TypeEntry.{TypeEntry}
 use Rattle.tm_typed.specs.declared.scopes.Named.{Named}

@@ -1,14 +1,14 @@
 -- Functions and tasks (C99 6.7.5.3, 6.9.1): their parameters, their declarations, and their bodies.
 use Rattle.std.specs.Prelude.{ℕ, ℤ, pos, ◌+◌, Bool, true, false, not, ◌&&◌, ◌||◌, cond, is_some, nat_le, List, [], ◌∷◌, ◌++◌, length, map, take, drop, get_or, slice_get, slice_set, Option, Some, None, Result, Ok}
 use Rattle.std.specs.List.{filter_map}
-use Rattle.tm_cint.specs.declared.int_types.IntType.{IntType}
-use Rattle.tm_terms.specs.declared.places.Place.{Place}
-use Rattle.tm_terms.specs.declared.tokens.Name.{Name}
-use Rattle.tm_terms.specs.declared.types_named.PointerWord.{PointerWord}
-use Rattle.tm_terms.specs.declared.types_named.Storage.{Storage}
-use Rattle.tm_terms.specs.declared.refusals.Kind.TheVariants as Kinds
-use Rattle.tm_terms.specs.declared.refusals.Refusal.{Refusal}
-use Rattle.tm_terms.specs.ExprTrees.{Tree}
+use Rattle.tm_trees.specs.tm_cint.declared.int_types.IntType.{IntType}
+use Rattle.tm_trees.specs.tm_terms.declared.places.Place.{Place}
+use Rattle.tm_trees.specs.tm_terms.declared.tokens.Name.{Name}
+use Rattle.tm_trees.specs.tm_terms.declared.types_named.PointerWord.{PointerWord}
+use Rattle.tm_trees.specs.tm_terms.declared.types_named.Storage.{Storage}
+use Rattle.tm_trees.specs.tm_terms.declared.refusals.Kind.TheVariants as Kinds
+use Rattle.tm_trees.specs.tm_terms.declared.refusals.Refusal.{Refusal}
+use Rattle.tm_trees.specs.tm_terms.ExprTrees.{Tree}
 use Rattle.tm_trees.specs.DeclarationTrees.{DeclaratorTree, declared_name, SpecifierTrees, no_specifiers, and_specifier, counts_as}
 use Rattle.tm_trees.specs.FileTrees.{PartTrees, ParameterTree, a_named_parameter, an_unnamed_parameter, ParametersTree, only_void, some_parameters, FunctionTree}
 use Rattle.tm_typed.specs.declared.types.Qualified.{Qualified}

@@ -1,5 +1,10 @@
 -- What typing is. Expressions: types and their table (Types), what names mean (Scopes), typed trees (TypedTrees), refusals and their order (Refusals), what the rules know of operands
 -- (Operands), the rules construct by construct (Rules), the recursion (Typing), and what later layers may rely on (WellTyped).
+-- The crates below, passed on to those above.
+pub use Rattle.tm_trees.specs.tm_cint
+pub use Rattle.tm_trees.specs.tm_lattice
+pub use Rattle.tm_trees.specs.tm_terms
+pub use Rattle.tm_trees.specs as tm_trees
 pub mod Types
 pub mod Scopes
 pub mod TypedTrees

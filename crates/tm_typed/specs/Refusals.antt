@@ -1,10 +1,10 @@
 -- Refusals and their order: a construct is refused by the first row of its rules that it meets, and its parts come before it, from left to right.
 use Rattle.std.specs.Prelude.{◌≡◌, Bool, cond, Option, Some, None, Result, Ok, Err}
-use Rattle.tm_terms.specs.declared.places.Place.{Place}
-use Rattle.tm_terms.specs.declared.refusals.Kind.{Kind}
-use Rattle.tm_terms.specs.declared.refusals.Refusal.{Refusal}
-use Rattle.tm_terms.specs.declared.refusals.Fail.{Fail}
-use Rattle.tm_terms.specs.declared.refusals.Fail.TheVariants as Fails
+use Rattle.tm_trees.specs.tm_terms.declared.places.Place.{Place}
+use Rattle.tm_trees.specs.tm_terms.declared.refusals.Kind.{Kind}
+use Rattle.tm_trees.specs.tm_terms.declared.refusals.Refusal.{Refusal}
+use Rattle.tm_trees.specs.tm_terms.declared.refusals.Fail.{Fail}
+use Rattle.tm_trees.specs.tm_terms.declared.refusals.Fail.TheVariants as Fails
 
 -- a refusal of this kind at this place
 abbrev pub refused : {A : Type 0} → Kind → Place → Result A Refusal

@@ -1,21 +1,21 @@
 -- The rules of expressions, construct by construct: which row a construct meets whose parts are typed, or else its typed form. Rows are looked at in the order in which they stand.
 use Rattle.std.specs.Prelude.{ℕ, ℤ, pos, negsuc, ◌-ℤ◌, Bool, true, false, cond, not, ◌&&◌, ◌||◌, int_le, List, [], ◌∷◌, slice_get, find, Option, Some, None, Result, Ok, Err}
-use Rattle.tm_cint.specs.declared.int_types.IntType.{IntType}
-use Rattle.tm_cint.specs.declared.int_types.IntType.TheVariants as Ints
-use Rattle.tm_cint.specs.declared.operators.BinOp.{BinOp}
-use Rattle.tm_cint.specs.declared.operators.BinOp.TheVariants as Ops
-use Rattle.tm_cint.specs.declared.Class.{Class}
-use Rattle.tm_cint.specs.IntTypes.{is_in}
-use Rattle.tm_cint.specs.Conversions.{promoted_type, usual_type, converted_value, is_zero, truth}
-use Rattle.tm_cint.specs.Operators.{outcome, IsRightOperand}
-use Rattle.tm_terms.specs.declared.places.Place.{Place}
-use Rattle.tm_terms.specs.declared.tokens.Name.{Name}
-use Rattle.tm_terms.specs.declared.tokens.IntConstant.{IntConstant}
-use Rattle.tm_terms.specs.declared.tokens.Longs.{Longs}
-use Rattle.tm_terms.specs.declared.tokens.Longs.TheVariants as Suffix
-use Rattle.tm_terms.specs.declared.refusals.Kind.{Kind}
-use Rattle.tm_terms.specs.declared.refusals.Kind.TheVariants as Kinds
-use Rattle.tm_terms.specs.declared.refusals.Refusal.{Refusal}
+use Rattle.tm_trees.specs.tm_cint.declared.int_types.IntType.{IntType}
+use Rattle.tm_trees.specs.tm_cint.declared.int_types.IntType.TheVariants as Ints
+use Rattle.tm_trees.specs.tm_cint.declared.operators.BinOp.{BinOp}
+use Rattle.tm_trees.specs.tm_cint.declared.operators.BinOp.TheVariants as Ops
+use Rattle.tm_trees.specs.tm_cint.declared.Class.{Class}
+use Rattle.tm_trees.specs.tm_cint.IntTypes.{is_in}
+use Rattle.tm_trees.specs.tm_cint.Conversions.{promoted_type, usual_type, converted_value, is_zero, truth}
+use Rattle.tm_trees.specs.tm_cint.Operators.{outcome, IsRightOperand}
+use Rattle.tm_trees.specs.tm_terms.declared.places.Place.{Place}
+use Rattle.tm_trees.specs.tm_terms.declared.tokens.Name.{Name}
+use Rattle.tm_trees.specs.tm_terms.declared.tokens.IntConstant.{IntConstant}
+use Rattle.tm_trees.specs.tm_terms.declared.tokens.Longs.{Longs}
+use Rattle.tm_trees.specs.tm_terms.declared.tokens.Longs.TheVariants as Suffix
+use Rattle.tm_trees.specs.tm_terms.declared.refusals.Kind.{Kind}
+use Rattle.tm_trees.specs.tm_terms.declared.refusals.Kind.TheVariants as Kinds
+use Rattle.tm_trees.specs.tm_terms.declared.refusals.Refusal.{Refusal}
 use Rattle.tm_typed.specs.declared.types.Qualified.{Qualified}
 use Rattle.tm_typed.specs.declared.types.CType.{CType}
 use Rattle.tm_typed.specs.declared.types.CType.TheVariants as Types

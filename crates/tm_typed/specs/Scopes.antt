@@ -1,7 +1,7 @@
 -- What is visible at a place of the text (C99 6.2.1 to 6.2.3), and the tables of types, structures and functions.
 use Rattle.std.specs.Prelude.{ℕ, Bool, true, false, cond, ◌==◌, drop, List, [], ◌∷◌, Option, Some, None, option_map, get_or}
-use Rattle.tm_terms.specs.declared.tokens.Name.{Name}
-use Rattle.tm_terms.specs.Names.{is_same_name}
+use Rattle.tm_trees.specs.tm_terms.declared.tokens.Name.{Name}
+use Rattle.tm_trees.specs.tm_terms.Names.{is_same_name}
 use Rattle.tm_typed.specs.declared.types.CType.{CType}
 use Rattle.tm_typed.specs.declared.types.CType.TheVariants as Types
 use Rattle.tm_typed.specs.declared.types.TypeEntry.{TypeEntry}

@@ -1,18 +1,18 @@
 -- Specifiers (C99 6.7.1 to 6.7.3): what the words of a list say together, and which type they name.
 use Rattle.std.specs.Prelude.{ℕ, zero, suc, ◌+◌, Bool, true, false, cond, ◌||◌, [], ◌∷◌, ◌++◌, length, Option, Some, None, Result, Ok}
-use Rattle.tm_cint.specs.declared.int_types.IntType.{IntType}
-use Rattle.tm_cint.specs.declared.int_types.IntType.TheVariants as Ints
-use Rattle.tm_terms.specs.declared.places.Place.{Place}
-use Rattle.tm_terms.specs.declared.tokens.Name.{Name}
-use Rattle.tm_terms.specs.declared.refusals.Kind.TheVariants as Kinds
-use Rattle.tm_terms.specs.declared.refusals.Refusal.{Refusal}
-use Rattle.tm_terms.specs.declared.types_named.SpecWord.{SpecWord}
-use Rattle.tm_terms.specs.declared.types_named.SpecWord.TheVariants as Specs
-use Rattle.tm_terms.specs.declared.types_named.Qualifier.{Qualifier}
-use Rattle.tm_terms.specs.declared.types_named.Qualifier.TheVariants as Qualifiers
-use Rattle.tm_terms.specs.declared.types_named.Basic.{Basic}
-use Rattle.tm_terms.specs.declared.types_named.Basic.TheVariants as Basics
-use Rattle.tm_terms.specs.declared.types_named.TagKind.TheVariants as Tags
+use Rattle.tm_trees.specs.tm_cint.declared.int_types.IntType.{IntType}
+use Rattle.tm_trees.specs.tm_cint.declared.int_types.IntType.TheVariants as Ints
+use Rattle.tm_trees.specs.tm_terms.declared.places.Place.{Place}
+use Rattle.tm_trees.specs.tm_terms.declared.tokens.Name.{Name}
+use Rattle.tm_trees.specs.tm_terms.declared.refusals.Kind.TheVariants as Kinds
+use Rattle.tm_trees.specs.tm_terms.declared.refusals.Refusal.{Refusal}
+use Rattle.tm_trees.specs.tm_terms.declared.types_named.SpecWord.{SpecWord}
+use Rattle.tm_trees.specs.tm_terms.declared.types_named.SpecWord.TheVariants as Specs
+use Rattle.tm_trees.specs.tm_terms.declared.types_named.Qualifier.{Qualifier}
+use Rattle.tm_trees.specs.tm_terms.declared.types_named.Qualifier.TheVariants as Qualifiers
+use Rattle.tm_trees.specs.tm_terms.declared.types_named.Basic.{Basic}
+use Rattle.tm_trees.specs.tm_terms.declared.types_named.Basic.TheVariants as Basics
+use Rattle.tm_trees.specs.tm_terms.declared.types_named.TagKind.TheVariants as Tags
 use Rattle.tm_typed.specs.declared.types.Qualified.{Qualified}
 use Rattle.tm_typed.specs.declared.types.CType.TheVariants as Types
 use Rattle.tm_typed.specs.declared.scopes.Named.{Named}

@@ -2,11 +2,11 @@
 use Rattle.std.specs.Prelude.{ℕ, ℤ, Bool, true, false, not, ◌||◌, List, [], ◌∷◌, ◌++◌, Option, Some, None, Result, Ok}
 use Rattle.std.specs.List.{list_any}
 use Rattle.std.specs.Ordering.{int_eq}
-use Rattle.tm_cint.specs.declared.int_types.IntType.{IntType}
-use Rattle.tm_cint.specs.Conversions.{promoted_type, converted_value}
-use Rattle.tm_terms.specs.declared.places.Place.{Place}
-use Rattle.tm_terms.specs.declared.refusals.Kind.TheVariants as Kinds
-use Rattle.tm_terms.specs.declared.refusals.Refusal.{Refusal}
+use Rattle.tm_trees.specs.tm_cint.declared.int_types.IntType.{IntType}
+use Rattle.tm_trees.specs.tm_cint.Conversions.{promoted_type, converted_value}
+use Rattle.tm_trees.specs.tm_terms.declared.places.Place.{Place}
+use Rattle.tm_trees.specs.tm_terms.declared.refusals.Kind.TheVariants as Kinds
+use Rattle.tm_trees.specs.tm_terms.declared.refusals.Refusal.{Refusal}
 use Rattle.tm_typed.specs.declared.scopes.Named.{Named}
 use Rattle.tm_typed.specs.declared.scopes.Named.TheVariants as Names
 use Rattle.tm_typed.specs.declared.operands.Sort.{Sort}

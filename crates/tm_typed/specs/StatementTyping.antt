@@ -1,9 +1,9 @@
 -- The typing of statements: the parts of each in the order of the text, and its condition before all others.
 use Rattle.std.specs.Prelude.{ℤ, false, List, [], ◌∷◌, ◌++◌, Option, Some, None, Result, Ok}
-use Rattle.tm_cint.specs.declared.int_types.IntType.{IntType}
-use Rattle.tm_terms.specs.declared.places.Place.{Place}
-use Rattle.tm_terms.specs.declared.refusals.Refusal.{Refusal}
-use Rattle.tm_terms.specs.ExprTrees.{Tree, place_of}
+use Rattle.tm_trees.specs.tm_cint.declared.int_types.IntType.{IntType}
+use Rattle.tm_trees.specs.tm_terms.declared.places.Place.{Place}
+use Rattle.tm_trees.specs.tm_terms.declared.refusals.Refusal.{Refusal}
+use Rattle.tm_trees.specs.tm_terms.ExprTrees.{Tree, place_of}
 use Rattle.tm_trees.specs.FileTrees.{ForFirstTree, by_expression, by_declaration, StatementTree, a_block, a_value, an_if, an_if_else, a_while, a_do, a_for, a_switch, a_break, a_continue, a_return, a_lock, an_unlock, a_yield, PartTree, a_local, a_step, PartTrees, no_parts, and_part, CaseTree, a_case, a_default, a_case_step, CaseTrees, no_cases, and_case}
 use Rattle.tm_typed.specs.Scopes.{named}
 use Rattle.tm_typed.specs.TypedTrees.{RvalueTree}

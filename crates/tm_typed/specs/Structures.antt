@@ -1,15 +1,15 @@
 -- Structures and enumerations (C99 6.7.2.1, 6.7.2.2), and so specifiers with everything that stands in their braces.
 use Rattle.std.specs.Prelude.{ℕ, ◌+◌, ◌-◌, ◌%◌, max, ℤ, pos, ◌+ℤ◌, Bool, true, cond, ◌||◌, not, is_some, List, [], ◌∷◌, ◌++◌, length, map, slice_set, Option, Some, None, Result, Ok}
 use Rattle.std.specs.List.{list_any}
-use Rattle.tm_cint.specs.declared.int_types.IntType.TheVariants as Ints
-use Rattle.tm_cint.specs.IntTypes.{is_in}
-use Rattle.tm_terms.specs.declared.places.Place.{Place}
-use Rattle.tm_terms.specs.declared.tokens.Name.{Name}
-use Rattle.tm_terms.specs.declared.refusals.Kind.TheVariants as Kinds
-use Rattle.tm_terms.specs.declared.refusals.Refusal.{Refusal}
-use Rattle.tm_terms.specs.declared.types_named.Spec.{Spec}
-use Rattle.tm_terms.specs.Names.{is_same_name}
-use Rattle.tm_terms.specs.ExprTrees.{Tree, place_of}
+use Rattle.tm_trees.specs.tm_cint.declared.int_types.IntType.TheVariants as Ints
+use Rattle.tm_trees.specs.tm_cint.IntTypes.{is_in}
+use Rattle.tm_trees.specs.tm_terms.declared.places.Place.{Place}
+use Rattle.tm_trees.specs.tm_terms.declared.tokens.Name.{Name}
+use Rattle.tm_trees.specs.tm_terms.declared.refusals.Kind.TheVariants as Kinds
+use Rattle.tm_trees.specs.tm_terms.declared.refusals.Refusal.{Refusal}
+use Rattle.tm_trees.specs.tm_terms.declared.types_named.Spec.{Spec}
+use Rattle.tm_trees.specs.tm_terms.Names.{is_same_name}
+use Rattle.tm_trees.specs.tm_terms.ExprTrees.{Tree, place_of}
 use Rattle.tm_trees.specs.declared.declarations.Tag.{Tag}
 use Rattle.tm_trees.specs.DeclarationTrees.{DeclaratorTree, a_declared_name, a_nested, declared_name, EnumeratorTree, SpecifierTree, a_plain, a_struct, an_enum, SpecifierTrees, no_specifiers, and_specifier, MemberTrees, no_members, and_members}
 use Rattle.tm_typed.specs.declared.types.Qualified.{Qualified}

@@ -1,9 +1,9 @@
 -- Typed expressions as plain trees, apart from boxes and vectors.
 use Rattle.std.specs.Prelude.{ℕ, ℤ, Bool, List, [], ◌∷◌, Box}
 use Rattle.std.specs.declared.alloc.Global.{Global}
-use Rattle.tm_terms.specs.declared.places.Place.{Place}
-use Rattle.tm_cint.specs.declared.int_types.IntType.{IntType}
-use Rattle.tm_cint.specs.declared.operators.BinOp.{BinOp}
+use Rattle.tm_trees.specs.tm_terms.declared.places.Place.{Place}
+use Rattle.tm_trees.specs.tm_cint.declared.int_types.IntType.{IntType}
+use Rattle.tm_trees.specs.tm_cint.declared.operators.BinOp.{BinOp}
 use Rattle.tm_typed.specs.declared.scopes.ObjectNumber.{ObjectNumber}
 use Rattle.tm_typed.specs.declared.types.Qualified.{Qualified}
 use Rattle.tm_typed.specs.declared.types.Scalar.{Scalar}

@@ -1,7 +1,7 @@
 -- The types that every file has: the table begins with them.
 use Rattle.std.specs.Prelude.{ℕ, ◌+◌, ◌==◌, Bool, false, List, [], ◌∷◌}
-use Rattle.tm_cint.specs.declared.int_types.IntType.{IntType}
-use Rattle.tm_cint.specs.declared.int_types.IntType.TheVariants as Ints
+use Rattle.tm_trees.specs.tm_cint.declared.int_types.IntType.{IntType}
+use Rattle.tm_trees.specs.tm_cint.declared.int_types.IntType.TheVariants as Ints
 use Rattle.tm_typed.specs.declared.types.CType.TheVariants as Types
 use Rattle.tm_typed.specs.declared.types.TypeEntry.{TypeEntry}
 

@@ -1,21 +1,24 @@
 -- The typing of expressions: each construct after its parts, the parts from left to right; what it meets of the rows is a matter of Rules.
 use Rattle.std.specs.Prelude.{ℕ, suc, ◌+◌, ℤ, true, false, List, [], ◌∷◌, Result, Ok}
-use Rattle.tm_cint.specs.declared.operators.BinOp.TheVariants as Ops
-use Rattle.tm_terms.specs.declared.places.Place.{Place}
-use Rattle.tm_terms.specs.declared.refusals.Kind.TheVariants as Kinds
-use Rattle.tm_terms.specs.declared.refusals.Refusal.{Refusal}
-use Rattle.tm_terms.specs.declared.exprs.Binary.{Binary}
-use Rattle.tm_terms.specs.declared.exprs.Binary.TheVariants as Binaries
-use Rattle.tm_terms.specs.declared.exprs.Infix.{Infix}
-use Rattle.tm_terms.specs.declared.exprs.Infix.TheVariants as Infixes
-use Rattle.tm_terms.specs.declared.exprs.Prefix.{Prefix}
-use Rattle.tm_terms.specs.declared.exprs.Prefix.TheVariants as Prefixes
-use Rattle.tm_terms.specs.declared.exprs.Postfix.{Postfix}
-use Rattle.tm_terms.specs.declared.exprs.Postfix.TheVariants as Postfixes
-use Rattle.tm_terms.specs.declared.exprs.Access.{Access}
-use Rattle.tm_terms.specs.declared.exprs.Access.TheVariants as Accesses
-use Rattle.tm_terms.specs.declared.tokens.Name.{Name}
-use Rattle.tm_terms.specs.ExprTrees.{TypeTree, Tree, a_name, an_integer, a_character, in_parentheses, an_input, an_islocked, a_call, a_prefix, a_sizeof_type, a_cast, an_infix, a_conditional, a_subscript, a_member, a_postfix, Arguments, no_arguments, and_argument}
+use Rattle.tm_trees.specs.tm_cint.declared.operators.BinOp.TheVariants as Ops
+use Rattle.tm_trees.specs.tm_terms.declared.places.Place.{Place}
+use Rattle.tm_trees.specs.tm_terms.declared.refusals.Kind.TheVariants as Kinds
+use Rattle.tm_trees.specs.tm_terms.declared.refusals.Refusal.{Refusal}
+use Rattle.tm_trees.specs.tm_terms.declared.exprs.Binary.{Binary}
+use Rattle.tm_trees.specs.tm_terms.declared.exprs.Binary.TheVariants as Binaries
+use Rattle.tm_trees.specs.tm_terms.declared.exprs.Infix.{Infix}
+use Rattle.tm_trees.specs.tm_terms.declared.exprs.Infix.TheVariants as Infixes
+use Rattle.tm_trees.specs.tm_terms.declared.exprs.Prefix.{Prefix}
+use Rattle.tm_trees.specs.tm_terms.declared.exprs.Prefix.TheVariants as Prefixes
+use Rattle.tm_trees.specs.tm_terms.declared.exprs.Postfix.{Postfix}
+use Rattle.tm_trees.specs.tm_terms.declared.exprs.Postfix.TheVariants as Postfixes
+use Rattle.tm_trees.specs.tm_terms.declared.exprs.Access.{Access}
+use Rattle.tm_trees.specs.tm_terms.declared.exprs.Access.TheVariants as Accesses
+use Rattle.tm_trees.specs.tm_terms.declared.tokens.Name.{Name}
+use Rattle.tm_trees.specs.tm_terms.ExprTrees.{TypeTree, Tree, a_name, an_integer, a_character, in_parentheses, an_input}
+use Rattle.tm_trees.specs.tm_terms.ExprTrees.{an_islocked, a_call, a_prefix, a_sizeof_type, a_cast, an_infix}
+use Rattle.tm_trees.specs.tm_terms.ExprTrees.{a_conditional, a_subscript, a_member, a_postfix, Arguments, no_arguments}
+use Rattle.tm_trees.specs.tm_terms.ExprTrees.{and_argument}
 use Rattle.tm_typed.specs.Scopes.{Scope, named}
 use Rattle.tm_typed.specs.TypedTrees.{Rated, OperandTree}
 use Rattle.tm_typed.specs.Refusals.{refused, then_with, row}

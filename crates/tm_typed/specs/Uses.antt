@@ -1,9 +1,12 @@
 -- What the evaluated parts of an expression use: functions by calls, and objects of static storage by their names. The operand of `sizeof` is not evaluated (C99 6.5.3.4).
 use Rattle.std.specs.Prelude.{List, [], ◌∷◌, ◌++◌, Option, Some, None}
-use Rattle.tm_terms.specs.declared.places.Place.{Place}
-use Rattle.tm_terms.specs.declared.exprs.Prefix.{Prefix}
-use Rattle.tm_terms.specs.declared.exprs.Prefix.TheVariants as Prefixes
-use Rattle.tm_terms.specs.ExprTrees.{Tree, a_name, an_integer, a_character, in_parentheses, an_input, an_islocked, a_call, a_prefix, a_sizeof_type, a_cast, an_infix, a_conditional, a_subscript, a_member, a_postfix, Arguments, no_arguments, and_argument}
+use Rattle.tm_trees.specs.tm_terms.declared.places.Place.{Place}
+use Rattle.tm_trees.specs.tm_terms.declared.exprs.Prefix.{Prefix}
+use Rattle.tm_trees.specs.tm_terms.declared.exprs.Prefix.TheVariants as Prefixes
+use Rattle.tm_trees.specs.tm_terms.ExprTrees.{Tree, a_name, an_integer, a_character, in_parentheses, an_input}
+use Rattle.tm_trees.specs.tm_terms.ExprTrees.{an_islocked, a_call, a_prefix, a_sizeof_type, a_cast, an_infix}
+use Rattle.tm_trees.specs.tm_terms.ExprTrees.{a_conditional, a_subscript, a_member, a_postfix, Arguments, no_arguments}
+use Rattle.tm_trees.specs.tm_terms.ExprTrees.{and_argument}
 use Rattle.tm_typed.specs.declared.scopes.Named.{Named}
 use Rattle.tm_typed.specs.declared.scopes.Named.TheVariants as Names
 use Rattle.tm_typed.specs.declared.scopes.ObjectNumber.TheVariants as Objects

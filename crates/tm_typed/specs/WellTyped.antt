@@ -1,12 +1,12 @@
 -- Well-formed typed expressions: what the layers above may rely on.
 use Rattle.std.specs.Prelude.{◌≡◌, ℕ, ℤ, pos, slice_get, length, ◌<◌, ◌≤◌, ◌++◌, Bool, true, List, [], ◌∷◌, Option, Some, None, Result, Ok, Err}
-use Rattle.tm_cint.specs.declared.int_types.IntType.{IntType}
-use Rattle.tm_cint.specs.declared.int_types.IntType.TheVariants as Ints
-use Rattle.tm_cint.specs.declared.operators.BinOp.{BinOp}
-use Rattle.tm_cint.specs.IntTypes.{IsIn}
-use Rattle.tm_cint.specs.Operators.{result_type}
-use Rattle.tm_terms.specs.declared.tokens.Name.{Name}
-use Rattle.tm_terms.specs.declared.refusals.Refusal.{Refusal}
+use Rattle.tm_trees.specs.tm_cint.declared.int_types.IntType.{IntType}
+use Rattle.tm_trees.specs.tm_cint.declared.int_types.IntType.TheVariants as Ints
+use Rattle.tm_trees.specs.tm_cint.declared.operators.BinOp.{BinOp}
+use Rattle.tm_trees.specs.tm_cint.IntTypes.{IsIn}
+use Rattle.tm_trees.specs.tm_cint.Operators.{result_type}
+use Rattle.tm_trees.specs.tm_terms.declared.tokens.Name.{Name}
+use Rattle.tm_trees.specs.tm_terms.declared.refusals.Refusal.{Refusal}
 use Rattle.tm_typed.specs.declared.types.Qualified.{Qualified}
 use Rattle.tm_typed.specs.declared.types.CType.TheVariants as Types
 use Rattle.tm_typed.specs.declared.types.TypeEntry.{TypeEntry}

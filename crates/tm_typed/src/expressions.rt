@@ -1,8 +1,7 @@
 //! Typed expressions. Conversions are nodes of their own, and nothing is left to find out of types.
 use crate::scopes::ObjectNumber;
 use crate::types::Scalar;
-use tm_cint::{BinOp, IntType};
-use tm_terms::Place;
+use tm_trees::{BinOp, IntType, Place};
 
 /// An operator on one integer (C99 6.5.3.3).
 #[derive(Clone, Copy, PartialEq, Eq)]

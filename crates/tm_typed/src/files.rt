@@ -2,7 +2,7 @@
 use crate::scopes::StructEntry;
 use crate::statements::TypedStatement;
 use crate::types::{Qualified, TypeEntry};
-use tm_terms::{Name, Place};
+use tm_trees::{Name, Place};
 
 /// What a cell of an object of static storage holds before the program runs.
 #[derive(Clone, Copy)]

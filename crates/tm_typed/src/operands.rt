@@ -4,8 +4,7 @@ ghost use Rattle.tm_typed.specs.Operands.{fold_of, is_condition, is_structure, i
 
 use crate::expressions::{Lvalue, Rvalue};
 use crate::types::{CType, Qualified};
-use tm_cint::IntType;
-use tm_terms::Place;
+use tm_trees::{IntType, Place};
 
 /// Whether an integer expression is folded.
 #[derive(Clone, Copy)]

@@ -1,6 +1,6 @@
 //! What names mean (C99 6.2.1 to 6.2.3).
 use crate::types::Qualified;
-use tm_terms::Name;
+use tm_trees::Name;
 
 /// An object by its number: among those of static storage, or among those of its function.
 #[derive(Clone, Copy, PartialEq, Eq)]

@@ -1,6 +1,6 @@
 //! What specifiers say (C99 6.7).
 use crate::types::Qualified;
-use tm_terms::Storage;
+use tm_trees::Storage;
 
 /// What the words of a list of specifiers say together, in whatever order they stand: a storage word, qualifiers, the
 /// words of C's own types, and the type that a declaration of the file names.

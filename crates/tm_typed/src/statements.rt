@@ -1,8 +1,7 @@
 //! Typed statements.
 use crate::expressions::Rvalue;
 use crate::types::Scalar;
-use tm_cint::IntType;
-use tm_terms::Place;
+use tm_trees::{IntType, Place};
 
 /// A cell of a local object that an initialiser gives, by its number in the object, with its type and its value.
 #[derive(Drop)]

@@ -2,7 +2,7 @@
 ghost use Rattle.std.specs.Prelude.{◌≡◌};
 ghost use Rattle.tm_typed.specs.Types.{int_index, is_same_int, bytes_of};
 
-use tm_cint::IntType;
+use tm_trees::IntType;
 
 /// A type by its number in the table, with the qualifiers of what has it (C99 6.7.3). The qualifiers of an array
 /// are those of its elements: they stand with whatever has the array, not with the type.

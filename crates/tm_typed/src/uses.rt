@@ -1,5 +1,5 @@
 //! Uses of functions and of objects of static storage.
-use tm_terms::Place;
+use tm_trees::Place;
 
 /// What an expression uses: a function that it calls, or an object of static storage that it names, by its number.
 #[derive(Clone, Copy, PartialEq, Eq)]

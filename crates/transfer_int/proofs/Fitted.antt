@@ -11,7 +11,8 @@ use Rattle.strided_dom.proofs.Members.{not_in_empty}
 use Rattle.interval_dom.specs.Interval.{Span}
 use Rattle.tm_numbers.specs.Divisors.{Divides}
 use Rattle.congruence_dom.specs.declared.classes.Cong.{Cong}
-use Rattle.tm_numbers.proofs.Divisibility.{divides_same, divides_add, divides_sub, divides_zero, divides_abs, divides_from_abs, from_natural}
+use Rattle.tm_numbers.proofs.Divisibility.{divides_same, divides_add, divides_sub, divides_zero}
+use Rattle.tm_numbers.proofs.Divisibility.{divides_abs, divides_from_abs, from_natural}
 use Rattle.tm_numbers.proofs.Integers.{mul_neg, sub_mul}
 use Rattle.tm_cint.specs.IntTypes.{IsIn, lo_of, hi_of, is_signed}
 use Rattle.tm_numbers.specs.Congruence.{IsCongruent}

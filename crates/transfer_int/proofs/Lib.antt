@@ -19,3 +19,4 @@ pub mod Reducing
 pub mod Shifting
 pub mod TableWords
 pub mod Complementing
+pub mod low

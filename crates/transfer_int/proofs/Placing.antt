@@ -11,7 +11,8 @@ use Rattle.strided_dom.proofs.Members.{not_in_empty, some_or_empty, spaced_from,
 use Rattle.tm_cint.specs.Conversions.{converted_value}
 use Rattle.tm_cint.proofs.Values.{wrapped-in, converted_value-turned}
 use Rattle.tm_numbers.specs.Divisors.{Divides}
-use Rattle.tm_numbers.proofs.Divisibility.{divides_same, divides_add, divides_sub, divides_times, divides_trans, divides_from_abs, to_natural, from_natural}
+use Rattle.tm_numbers.proofs.Divisibility.{divides_same, divides_add, divides_sub, divides_times}
+use Rattle.tm_numbers.proofs.Divisibility.{divides_trans, divides_from_abs, to_natural, from_natural}
 use Rattle.tm_numbers.proofs.Integers.{mul_neg}
 use Rattle.tm_cint.specs.IntTypes.{IsIn, width_of, lo_of, hi_of}
 use Rattle.tm_cint.specs.declared.int_types.IntType.{IntType}

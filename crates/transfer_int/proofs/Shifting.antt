@@ -17,7 +17,8 @@ use Rattle.tm_numbers.specs.Divisors.{Divides, int_gcd}
 use Rattle.congruence_dom.specs.Laws.{DividesAll}
 use Rattle.congruence_dom.specs.Rows as C
 use Rattle.congruence_dom.specs.declared.classes.Cong.{Cong}
-use Rattle.tm_numbers.proofs.Divisibility.{divides_same, divides_add, divides_sub, divides_trans, divides_product, divides_scaled}
+use Rattle.tm_numbers.proofs.Divisibility.{divides_same, divides_add, divides_sub, divides_trans}
+use Rattle.tm_numbers.proofs.Divisibility.{divides_product, divides_scaled}
 use Rattle.tm_numbers.proofs.Gcds.{is_greatest}
 use Rattle.tm_numbers.proofs.Integers.{sub_mul}
 use Rattle.congruence_dom.proofs.Quotients.{power_not_zero}

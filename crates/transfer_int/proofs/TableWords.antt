@@ -7,7 +7,8 @@ use Rattle.strided_dom.specs.Progression.{Progression, Has, IsExactly, first_of,
 use Rattle.strided_dom.proofs.Members.{some_from, has_last, has_next, spaced_from, cong_members}
 use Rattle.tm_numbers.specs.Divisors.{Divides, int_gcd}
 use Rattle.tm_numbers.proofs.Congruences.{divided}
-use Rattle.tm_numbers.proofs.Divisibility.{divides_same, divides_add, divides_sub, divides_times, divides_trans}
+use Rattle.tm_numbers.proofs.Divisibility.{divides_same, divides_add, divides_sub, divides_times}
+use Rattle.tm_numbers.proofs.Divisibility.{divides_trans}
 use Rattle.tm_numbers.proofs.Gcds.{is_greatest}
 use Rattle.tm_cint.specs.IntTypes.{IsIn, width_of, hi_of}
 use Rattle.tm_cint.specs.Conversions.{wrapped}

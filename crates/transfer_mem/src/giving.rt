@@ -3,9 +3,9 @@ ghost use Rattle.std.specs.Prelude.{◌≤◌, ◌≡◌, length, IfOk, MatchOpt
 ghost use Rattle.tm_typed.specs.TypedFiles.{typed_file_tree};
 ghost use Rattle.tm_laid.specs.Layable.{IsLayable};
 ghost use Rattle.tm_laid.specs.Layouts.{laid_tree};
-ghost use Rattle.transfer_int.specs.Operands.{AreValues};
-ghost use Rattle.transfer_rows.specs.StateForms.{State as TaskState, value_of};
-ghost use Rattle.transfer_rows.specs.Actions.{constant};
+ghost use Rattle.calculations.specs.transfer_int.Operands.{AreValues};
+ghost use Rattle.calculations.specs.transfer_rows.StateForms.{State as TaskState, value_of};
+ghost use Rattle.calculations.specs.transfer_rows.Actions.{constant};
 ghost use Rattle.calculations.specs.Given.{IsCalculated};
 ghost use Rattle.edge_actions.specs.Edges.{constant_value, base_value, unary_of};
 ghost use Rattle.transfer_mem.specs.Applicable.{IsConstant, IsOperable};

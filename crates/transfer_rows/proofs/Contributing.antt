@@ -5,10 +5,10 @@ use Rattle.std.specs.Ordering.{nat_cmp}
 use Rattle.std.proofs.lemmas.Bool.{cases_eq, false≢true, true≢false, eqb-true, eq-eqb, ne_eqb}
 use Rattle.std.specs.FinMap as tables
 use Rattle.std.specs.FinMap.{get, insert, len, keys, entries, find, get-empty, get-entries, empty_of_len, len-empty}
-use Rattle.tm_lattice.specs.Tables.{Table, IsTable, IsEntry, IsBelow, IsTableBelow}
-use Rattle.tm_lattice.specs.laws.Keys.{find-here, find-there}
-use Rattle.tm_lattice.specs.laws.TableLaws.{same_table, get-insert_here, get-insert_there}
-use Rattle.pointer_dom.specs.Values.{Values, IsValues, IsValuesBelow, no_value}
+use Rattle.cell_env.specs.tm_lattice.Tables.{Table, IsTable, IsEntry, IsBelow, IsTableBelow}
+use Rattle.cell_env.specs.tm_lattice.laws.Keys.{find-here, find-there}
+use Rattle.cell_env.specs.tm_lattice.laws.TableLaws.{same_table, get-insert_here, get-insert_there}
+use Rattle.interfere_set.specs.pointer_dom.Values.{Values, IsValues, IsValuesBelow, no_value}
 use Rattle.interfere_set.specs.Stores.{Nested, Interferences, HasNoEntry, IsNested, IsNestedBelow, IsStore, IsStoreBelow, value_or_none, left_in}
 use Rattle.interfere_set.specs.laws.Joins.{none_is}
 use Rattle.interfere_set.specs.laws.Hearing.{cond_is}

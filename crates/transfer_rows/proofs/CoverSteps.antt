@@ -8,14 +8,14 @@ use Rattle.std.specs.Ordering.{nat_cmp}
 use Rattle.std.specs.FinMap.{get, insert, retain_keys, get-empty}
 use Rattle.std.proofs.lemmas.Bool.{cases_eq, cases_Bool, false≢true, eq-eqb, ne_eqb, eqb-true, and_parts, or_cases}
 use Rattle.std.proofs.lemmas.Nat.Bits.{bit_at_and, bit_at_or, bit_at-lt}
-use Rattle.strided_dom.specs.Progression.{Has}
-use Rattle.strided_dom.proofs.Members.{not_in_empty}
-use Rattle.tm_lattice.specs.Tables.{Table, changed_table}
-use Rattle.tm_lattice.specs.laws.TableLaws.{get-insert_here, get-insert_there}
-use Rattle.tm_lattice.specs.laws.SelectedLaws.{changed_at, get-changed_table}
-use Rattle.pointer_dom.specs.Pointer.{ScalarValue, number, pointer, null, invalid, to}
-use Rattle.pointer_dom.specs.PointerSets.{offsets_or_none}
-use Rattle.pointer_dom.specs.Values.{Values, IsValueIn, no_value}
+use Rattle.interfere_set.specs.strided_dom.Progression.{Has}
+use Rattle.interfere_set.proofs.low.strided_dom.Members.{not_in_empty}
+use Rattle.cell_env.specs.tm_lattice.Tables.{Table, changed_table}
+use Rattle.cell_env.specs.tm_lattice.laws.TableLaws.{get-insert_here, get-insert_there}
+use Rattle.cell_env.specs.tm_lattice.laws.SelectedLaws.{changed_at, get-changed_table}
+use Rattle.interfere_set.specs.pointer_dom.Pointer.{ScalarValue, number, pointer, null, invalid, to}
+use Rattle.interfere_set.specs.pointer_dom.PointerSets.{offsets_or_none}
+use Rattle.interfere_set.specs.pointer_dom.Values.{Values, IsValueIn, no_value}
 use Rattle.transfer_rows.specs.StateForms.{Temp, Cell, State, is_no_value, temp_value, own_value, value_of, own_of}
 use Rattle.transfer_rows.specs.Actions.{Around}
 use Rattle.transfer_rows.specs.Rows.{dropped, kept_copy, without}

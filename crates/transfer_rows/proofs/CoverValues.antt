@@ -3,23 +3,24 @@
 use Rattle.std.specs.Prelude.{◌≡◌, ◌↔◌, ℕ, Bool, true, false, ℤ, pos, ◌+ℤ◌, ◌*ℤ◌, IsTrue, Option, Some, None, refl}
 use Rattle.std.proofs.Common.{sym, subst, inl, inr, arith}
 use Rattle.std.specs.FinMap.{get}
-use Rattle.strided_dom.specs.Progression.{single, Has}
-use Rattle.strided_dom.specs.Combinations.{IsProduct}
-use Rattle.strided_dom.proofs.Members.{not_in_empty}
+use Rattle.interfere_set.specs.strided_dom.Progression.{single, Has}
+use Rattle.interfere_set.specs.strided_dom.Combinations.{IsProduct}
+use Rattle.interfere_set.proofs.low.strided_dom.Members.{not_in_empty}
 use Rattle.tm_cint.specs.declared.Class.{Class}
 use Rattle.tm_cint.specs.declared.operators.BinOp.TheVariants.{Sub}
-use Rattle.transfer_int.specs.Values.{ones_of}
-use Rattle.transfer_int.proofs.Holding.{value_holds}
-use Rattle.transfer_int.proofs.Failing.{error_holds}
-use Rattle.transfer_int.proofs.Wrapping.{conversion_holds}
-use Rattle.transfer_int.proofs.Complementing.{complement_holds}
-use Rattle.pointer_dom.specs.Offset.{IsOffset}
-use Rattle.pointer_dom.specs.OffsetSets.{OffsetSet}
-use Rattle.pointer_dom.specs.Pointer.{Pointer, to, ScalarValue, number, pointer}
-use Rattle.pointer_dom.specs.PointerSets.{Pointers, IsPointer, offsets_at, offsets_or_none}
-use Rattle.pointer_dom.specs.Values.{IsValueIn}
-use Rattle.pointer_dom.specs.Advances.{IsAdvance, IsSafeAdvance, IsElementStep, directed}
-use Rattle.pointer_dom.proofs.OperationMeaning.{advance_holds, safe_null, safe_invalid, safe_stays, hull_holds}
+use Rattle.operator_values.specs.transfer_int.Values.{ones_of}
+use Rattle.operator_values.proofs.low.transfer_int.Holding.{value_holds}
+use Rattle.operator_values.proofs.low.transfer_int.Failing.{error_holds}
+use Rattle.operator_values.proofs.low.transfer_int.Wrapping.{conversion_holds}
+use Rattle.operator_values.proofs.low.transfer_int.Complementing.{complement_holds}
+use Rattle.interfere_set.specs.pointer_dom.Offset.{IsOffset}
+use Rattle.interfere_set.specs.pointer_dom.OffsetSets.{OffsetSet}
+use Rattle.interfere_set.specs.pointer_dom.Pointer.{Pointer, to, ScalarValue, number, pointer}
+use Rattle.interfere_set.specs.pointer_dom.PointerSets.{Pointers, IsPointer, offsets_at, offsets_or_none}
+use Rattle.interfere_set.specs.pointer_dom.Values.{IsValueIn}
+use Rattle.interfere_set.specs.pointer_dom.Advances.{IsAdvance, IsSafeAdvance, IsElementStep, directed}
+use Rattle.interfere_set.proofs.low.pointer_dom.OperationMeaning.{advance_holds, safe_null, safe_invalid, safe_stays}
+use Rattle.interfere_set.proofs.low.pointer_dom.OperationMeaning.{hull_holds}
 use Rattle.operator_values.specs.Integers.{operated_is, converted_is}
 use Rattle.operator_values.specs.SetsOfPointers as P
 use Rattle.operator_values.specs.SetsOfPointers.{offset_by_is, indexed_is, moved_is, IsReachable, dereferenced_is, equality_is}

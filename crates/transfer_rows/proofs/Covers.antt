@@ -5,17 +5,17 @@ use Rattle.std.specs.Int.{bit_at}
 use Rattle.std.specs.Option.{option_map}
 use Rattle.std.specs.FinMap.{get, insert}
 use Rattle.std.proofs.lemmas.Bool.{false≢true, eqb-true, eq-eqb, and_from, or_cases}
-use Rattle.strided_dom.specs.Progression.{single, Has}
-use Rattle.tm_lattice.specs.Tables.{Table, changed_table}
-use Rattle.pointer_dom.specs.Pointer.{ScalarValue, number, to}
-use Rattle.pointer_dom.specs.PointerSets.{Pointers, IsPointer}
-use Rattle.pointer_dom.specs.Values.{Values, IsValues, IsValueIn, no_value}
-use Rattle.pointer_dom.specs.laws.ValueLaws.{values_join}
-use Rattle.pointer_dom.proofs.Meaning.{value_included, in_value_join}
+use Rattle.interfere_set.specs.strided_dom.Progression.{single, Has}
+use Rattle.cell_env.specs.tm_lattice.Tables.{Table, changed_table}
+use Rattle.interfere_set.specs.pointer_dom.Pointer.{ScalarValue, number, to}
+use Rattle.interfere_set.specs.pointer_dom.PointerSets.{Pointers, IsPointer}
+use Rattle.interfere_set.specs.pointer_dom.Values.{Values, IsValues, IsValueIn, no_value}
+use Rattle.interfere_set.specs.pointer_dom.laws.ValueLaws.{values_join}
+use Rattle.interfere_set.proofs.low.pointer_dom.Meaning.{value_included, in_value_join}
 use Rattle.interfere_set.specs.Stores.{Interferences, IsStore, visible, handed}
 use Rattle.interfere_set.specs.laws.Joins.{none_is, IsOf, all_upper}
 use Rattle.interfere_set.specs.laws.Hearing.{visible_is, handed_is, cond_is, entry_value}
-use Rattle.tm_lattice.specs.Tables.{IsEntry}
+use Rattle.cell_env.specs.tm_lattice.Tables.{IsEntry}
 use Rattle.transfer_rows.specs.StateForms.{Temp, Cell, State, IsCellForm, IsStateForm, only_numbers, own_value, value_of, own_of}
 use Rattle.transfer_rows.specs.Actions.{Around, Spot, Calculation, skips, gives, loads, loads_any, stores, clears, locks, unlocks, yields, probes, Action}
 use Rattle.transfer_rows.specs.Calculations.{calculated}

@@ -7,20 +7,20 @@ use Rattle.std.proofs.lemmas.Int.{ints}
 use Rattle.std.proofs.lemmas.Bool.{cases_eq, false≢true}
 use Rattle.std.specs.FinMap as map
 use Rattle.std.specs.FinMap.{get, insert, get-empty}
-use Rattle.strided_dom.specs.Progression.{Progression, empty as no_number, single, row, Has}
+use Rattle.interfere_set.specs.strided_dom.Progression.{Progression, empty as no_number, single, row, Has}
 use Rattle.tm_cint.specs.IntTypes.{IsIn}
 use Rattle.tm_cint.specs.declared.int_types.IntType.TheVariants.{Int}
 use Rattle.tm_cint.specs.declared.operators.BinOp.TheVariants.{Eq}
-use Rattle.tm_lattice.specs.Tables.{IsTable, IsEntry}
-use Rattle.tm_lattice.specs.laws.TableLaws.{get-insert_here, get-insert_there}
-use Rattle.pointer_dom.specs.OffsetSets.{OffsetSet, IsOffsetSet, HasNoOffset}
-use Rattle.pointer_dom.specs.Pointer.{ScalarValue, number, pointer, to}
-use Rattle.pointer_dom.specs.PointerSets.{Pointers, offsets_or_none, no_pointer}
-use Rattle.pointer_dom.specs.Values.{Values, IsValues, IsValueIn, joined_values, no_value}
-use Rattle.pointer_dom.proofs.Meaning.{in_value_meet, value_below_from}
+use Rattle.cell_env.specs.tm_lattice.Tables.{IsTable, IsEntry}
+use Rattle.cell_env.specs.tm_lattice.laws.TableLaws.{get-insert_here, get-insert_there}
+use Rattle.interfere_set.specs.pointer_dom.OffsetSets.{OffsetSet, IsOffsetSet, HasNoOffset}
+use Rattle.interfere_set.specs.pointer_dom.Pointer.{ScalarValue, number, pointer, to}
+use Rattle.interfere_set.specs.pointer_dom.PointerSets.{Pointers, offsets_or_none, no_pointer}
+use Rattle.interfere_set.specs.pointer_dom.Values.{Values, IsValues, IsValueIn, joined_values, no_value}
+use Rattle.interfere_set.proofs.low.pointer_dom.Meaning.{in_value_meet, value_below_from}
 use Rattle.interfere_set.specs.Stores.{Interferences}
 use Rattle.interfere_set.specs.laws.Joins.{none_is}
-use Rattle.filters.specs.Partners.{Compares, HasPartner}
+use Rattle.operator_values.specs.filters.Partners.{Compares, HasPartner}
 use Rattle.operator_values.specs.Integers.{assumed_is}
 use Rattle.operator_values.specs.MetValues.{met_values, met_values_is, met_values_fit}
 use Rattle.transfer_rows.specs.StateForms.{Temp, Cell, State, IsTempForm, IsCellForm, is_no_value, only_numbers, only_pointers, temp_value, own_value, value_of, own_of}

@@ -2,10 +2,10 @@
 use Rattle.std.specs.Prelude.{◌≡◌, ℕ, Bool, true, false, cond, eqb, List, [], ◌∷◌, Option, Some, None, pos, refl}
 use Rattle.std.specs.FinMap.{get}
 use Rattle.std.specs.Option.{option_map}
-use Rattle.strided_dom.specs.Progression.{single}
-use Rattle.tm_lattice.specs.Tables.{IsEntry, IsTable, changed_table}
-use Rattle.pointer_dom.specs.Values.{Values, IsValues, no_value}
-use Rattle.pointer_dom.specs.laws.ValueLaws.{values_join}
+use Rattle.interfere_set.specs.strided_dom.Progression.{single}
+use Rattle.cell_env.specs.tm_lattice.Tables.{IsEntry, IsTable, changed_table}
+use Rattle.interfere_set.specs.pointer_dom.Values.{Values, IsValues, no_value}
+use Rattle.interfere_set.specs.pointer_dom.laws.ValueLaws.{values_join}
 use Rattle.interfere_set.specs.Stores.{Interferences, IsStore, visible, handed}
 use Rattle.interfere_set.specs.laws.Joins.{none_is, all_is}
 use Rattle.interfere_set.specs.laws.Hearing.{visible_is, handed_is, cond_is}

@@ -5,9 +5,9 @@ use Rattle.std.specs.Ordering.{int_eq}
 use Rattle.std.proofs.lemmas.Bool.{cases_eq, or_cases, false≢true}
 use Rattle.std.proofs.lemmas.Bool.Decides.{Decides-int_eq}
 use Rattle.std.proofs.lemmas.Int.{ints}
-use Rattle.strided_dom.specs.Progression.{Progression, empty, single, row, Has}
-use Rattle.pointer_dom.specs.Pointer.{to}
-use Rattle.pointer_dom.specs.PointerSets.{Pointers, IsPointer, offsets_at}
+use Rattle.interfere_set.specs.strided_dom.Progression.{Progression, empty, single, row, Has}
+use Rattle.interfere_set.specs.pointer_dom.Pointer.{to}
+use Rattle.interfere_set.specs.pointer_dom.PointerSets.{Pointers, IsPointer, offsets_at}
 use Rattle.transfer_rows.specs.Accesses.{has_step, has_number, leads}
 
 pub or_right : (a b : Bool) → b ≡ true → (a || b) ≡ true

@@ -3,7 +3,7 @@ pub mod CoverSteps
 pub mod CoverValues
 pub mod Covers
 pub mod Examples
-pub mod Filters
+pub mod FilterLaws
 pub mod Fitting
 pub mod Leading
 pub mod Monotone
@@ -12,3 +12,4 @@ pub mod RowsRise
 pub mod Steps
 pub mod TableChanges
 pub mod ValuesRise
+pub mod low

@@ -4,14 +4,14 @@ use Rattle.std.specs.Prelude.{◌∷◌, Option, Some, None, refl}
 use Rattle.std.proofs.Common.{sym, ap, subst, ◌∙◌, inl, inr}
 use Rattle.std.specs.FinMap.{get}
 use Rattle.std.proofs.lemmas.Bool.{and_parts, and_from, false≢true, true≢false}
-use Rattle.tm_lattice.specs.Tables.{IsEntry, IsBelow}
-use Rattle.pointer_dom.specs.Values.{Values, IsValues, IsValuesBelow, no_value}
-use Rattle.pointer_dom.specs.laws.PointerLaws.{pointers_order}
-use Rattle.pointer_dom.specs.laws.ValueLaws.{values_order, values_join}
-use Rattle.pointer_dom.proofs.Meaning.{meet_greatest, meet_below}
+use Rattle.cell_env.specs.tm_lattice.Tables.{IsEntry, IsBelow}
+use Rattle.interfere_set.specs.pointer_dom.Values.{Values, IsValues, IsValuesBelow, no_value}
+use Rattle.interfere_set.specs.pointer_dom.laws.PointerLaws.{pointers_order}
+use Rattle.interfere_set.specs.pointer_dom.laws.ValueLaws.{values_order, values_join}
+use Rattle.interfere_set.proofs.low.pointer_dom.Meaning.{meet_greatest, meet_below}
 use Rattle.cell_env.specs.Temps.{IsCopyBelow}
 use Rattle.cell_env.specs.laws.CellLaws as C
-use Rattle.tm_lattice.specs.LatticeLaws.{IsOrder}
+use Rattle.cell_env.specs.tm_lattice.LatticeLaws.{IsOrder}
 use Rattle.interfere_set.specs.Stores.{Interferences, IsStore, IsStoreBelow, visible, handed}
 use Rattle.interfere_set.specs.laws.Joins.{none_is, none_below, IsOf, all_is, all_upper, all_least}
 use Rattle.interfere_set.specs.laws.Hearing.{visible_is, visible_rises, handed_is, handed_rises, cond_is, entry_value}

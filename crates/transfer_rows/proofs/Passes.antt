@@ -3,10 +3,10 @@ use Rattle.std.specs.Prelude.{◌≡◌, ℕ, Option, Some, None, refl}
 use Rattle.std.proofs.Common.{subst}
 use Rattle.std.specs.Int.{bit_at}
 use Rattle.std.specs.FinMap.{get}
-use Rattle.tm_lattice.specs.Tables.{IsBelow}
-use Rattle.pointer_dom.specs.Pointer.{ScalarValue}
-use Rattle.pointer_dom.specs.Values.{Values, IsValueIn, IsValuesBelow}
-use Rattle.pointer_dom.proofs.Meaning.{value_included}
+use Rattle.cell_env.specs.tm_lattice.Tables.{IsBelow}
+use Rattle.interfere_set.specs.pointer_dom.Pointer.{ScalarValue}
+use Rattle.interfere_set.specs.pointer_dom.Values.{Values, IsValueIn, IsValuesBelow}
+use Rattle.interfere_set.proofs.low.pointer_dom.Meaning.{value_included}
 use Rattle.interfere_set.specs.Stores.{Interferences}
 use Rattle.transfer_rows.specs.StateForms.{Cell, State, IsTempUnder, IsCellUnder, IsStateUnder, own_value, own_of}
 use Rattle.transfer_rows.specs.Actions.{Around}

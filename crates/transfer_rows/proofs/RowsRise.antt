@@ -9,11 +9,11 @@ use Rattle.std.specs.Option.{option_map}
 use Rattle.std.proofs.lemmas.Bool.{and_parts, and_from, false≢true, eqb-true, eq-eqb}
 use Rattle.std.proofs.lemmas.Nat.{mod_below}
 use Rattle.std.proofs.lemmas.Nat.Bits.{bit_at_or}
-use Rattle.strided_dom.specs.Progression.{single}
+use Rattle.interfere_set.specs.strided_dom.Progression.{single}
 use Rattle.tm_cint.specs.declared.Class.{Class}
-use Rattle.tm_lattice.specs.Tables.{IsEntry, IsBelow}
-use Rattle.pointer_dom.specs.Values.{Values, IsValues, IsValuesBelow, no_value}
-use Rattle.pointer_dom.specs.laws.ValueLaws.{values_order}
+use Rattle.cell_env.specs.tm_lattice.Tables.{IsEntry, IsBelow}
+use Rattle.interfere_set.specs.pointer_dom.Values.{Values, IsValues, IsValuesBelow, no_value}
+use Rattle.interfere_set.specs.pointer_dom.laws.ValueLaws.{values_order}
 use Rattle.cell_env.specs.Cells.{IsWithin}
 use Rattle.interfere_set.specs.Stores.{Interferences, IsStore, IsStoreBelow}
 use Rattle.interfere_set.specs.laws.Joins.{none_is, none_below}

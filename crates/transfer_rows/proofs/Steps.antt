@@ -8,13 +8,13 @@ use Rattle.std.specs.Ordering.{nat_cmp}
 use Rattle.std.specs.FinMap.{len, empty_of_len, len-empty}
 use Rattle.std.proofs.lemmas.Bool.{and_parts, and_from, or_cases, not-true, false≢true, true≢false, eqb-true, eq-eqb}
 use Rattle.std.proofs.lemmas.Nat.Bits.{bit_at_and, bit_at_or, same_from_bits}
-use Rattle.strided_dom.specs.Progression.{Progression, empty as no_number, single, row}
-use Rattle.tm_lattice.specs.Tables.{Table, IsBelow, IsTableBelow}
-use Rattle.pointer_dom.specs.Pointer.{to}
-use Rattle.pointer_dom.specs.PointerSets.{Pointers, IsPointersBelow}
-use Rattle.pointer_dom.specs.Values.{Values, IsValues, IsValuesBelow, joined_values, no_value}
-use Rattle.pointer_dom.specs.laws.ValueLaws.{values_order, values_join}
-use Rattle.pointer_dom.proofs.Meaning.{included}
+use Rattle.interfere_set.specs.strided_dom.Progression.{Progression, empty as no_number, single, row}
+use Rattle.cell_env.specs.tm_lattice.Tables.{Table, IsBelow, IsTableBelow}
+use Rattle.interfere_set.specs.pointer_dom.Pointer.{to}
+use Rattle.interfere_set.specs.pointer_dom.PointerSets.{Pointers, IsPointersBelow}
+use Rattle.interfere_set.specs.pointer_dom.Values.{Values, IsValues, IsValuesBelow, joined_values, no_value}
+use Rattle.interfere_set.specs.pointer_dom.laws.ValueLaws.{values_order, values_join}
+use Rattle.interfere_set.proofs.low.pointer_dom.Meaning.{included}
 use Rattle.cell_env.specs.Cells.{IsWithin}
 use Rattle.cell_env.specs.Temps.{IsCopyBelow}
 use Rattle.cell_env.specs.laws.Bits.{within_left, within_right, within_trans, within_least}

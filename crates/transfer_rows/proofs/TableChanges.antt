@@ -3,9 +3,9 @@ use Rattle.std.specs.Prelude.{◌≡◌, ℕ, Bool, true, false, cond, Option, S
 use Rattle.std.proofs.Common.{sym, ap, subst, inl, inr}
 use Rattle.std.proofs.lemmas.Bool.{cases_eq}
 use Rattle.std.specs.FinMap.{get, insert, retain_keys, get-retain_keys, nat_cmp-IsAntisymmetric}
-use Rattle.tm_lattice.specs.Tables.{Table, IsEntry, IsTable, IsBelow, IsTableBelow, changed_table}
-use Rattle.tm_lattice.specs.laws.TableLaws.{get-insert_here, get-insert_there}
-use Rattle.tm_lattice.specs.laws.SelectedLaws.{changed_at, get-changed_table}
+use Rattle.cell_env.specs.tm_lattice.Tables.{Table, IsEntry, IsTable, IsBelow, IsTableBelow, changed_table}
+use Rattle.cell_env.specs.tm_lattice.laws.TableLaws.{get-insert_here, get-insert_there}
+use Rattle.cell_env.specs.tm_lattice.laws.SelectedLaws.{changed_at, get-changed_table}
 
 -- what stands at a key of a table that keeps some keys
 pub get-kept : {V : Type 0} (t : Table V) (test : ℕ → Bool) (key : ℕ) → get (retain_keys t test) key ≡ cond (test key) (get t key) None

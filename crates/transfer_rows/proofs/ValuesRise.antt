@@ -1,23 +1,23 @@
 -- Smaller operands give smaller values.
 use Rattle.std.proofs.Common.{◌≡◌, ◌↔◌, ℕ, Bool, true, false, IsTrue, ℤ, pos, refl, sym, ◌∙◌}
 use Rattle.std.proofs.lemmas.Bool.{false≢true}
-use Rattle.strided_dom.specs.Progression.{Progression, single, IsSubset}
-use Rattle.strided_dom.specs.Combinations.{IsProduct}
+use Rattle.interfere_set.specs.strided_dom.Progression.{Progression, single, IsSubset}
+use Rattle.interfere_set.specs.strided_dom.Combinations.{IsProduct}
 use Rattle.tm_cint.specs.declared.Class.{Class}
 use Rattle.tm_cint.specs.declared.int_types.IntType.{IntType}
 use Rattle.tm_cint.specs.declared.operators.BinOp.{BinOp}
 use Rattle.tm_cint.specs.declared.operators.BinOp.TheVariants.{Sub}
-use Rattle.transfer_int.proofs.Growing.{value_grows, fail_grows}
-use Rattle.transfer_int.proofs.Wrapping.{conversion_grows}
-use Rattle.transfer_int.specs.Values.{ones_of}
-use Rattle.pointer_dom.specs.PointerSets.{Pointers, IsPointers, IsPointersBelow, no_pointer}
-use Rattle.pointer_dom.specs.Advances.{IsElementStep, directed}
-use Rattle.pointer_dom.specs.Values.{Values, IsValues, IsValuesBelow}
-use Rattle.pointer_dom.specs.laws.PointerLaws.{pointers_order}
-use Rattle.pointer_dom.specs.laws.ValueLaws.{values_order}
-use Rattle.pointer_dom.proofs.Meaning.{included}
-use Rattle.pointer_dom.proofs.OperationMeaning.{advance_below, safe_below, hull_below, truth_below}
-use Rattle.filters.proofs.PointerLaws.{less_left}
+use Rattle.operator_values.proofs.low.transfer_int.Growing.{value_grows, fail_grows}
+use Rattle.operator_values.proofs.low.transfer_int.Wrapping.{conversion_grows}
+use Rattle.operator_values.specs.transfer_int.Values.{ones_of}
+use Rattle.interfere_set.specs.pointer_dom.PointerSets.{Pointers, IsPointers, IsPointersBelow, no_pointer}
+use Rattle.interfere_set.specs.pointer_dom.Advances.{IsElementStep, directed}
+use Rattle.interfere_set.specs.pointer_dom.Values.{Values, IsValues, IsValuesBelow}
+use Rattle.interfere_set.specs.pointer_dom.laws.PointerLaws.{pointers_order}
+use Rattle.interfere_set.specs.pointer_dom.laws.ValueLaws.{values_order}
+use Rattle.interfere_set.proofs.low.pointer_dom.Meaning.{included}
+use Rattle.interfere_set.proofs.low.pointer_dom.OperationMeaning.{advance_below, safe_below, hull_below, truth_below}
+use Rattle.operator_values.proofs.low.filters.PointerLaws.{less_left}
 use Rattle.interfere_set.specs.laws.Joins.{none_is}
 use Rattle.operator_values.specs.Integers as I
 use Rattle.operator_values.specs.Integers.{operated_is, converted_is, assumed_is}

@@ -3,8 +3,8 @@ use Rattle.std.specs.Prelude.{◌≡◌, ℕ, zero, suc, ◌+◌, ◌*◌, ℤ, 
 use Rattle.std.specs.Prelude.{List, [], ◌∷◌, Option, Some, None}
 use Rattle.std.specs.List.{list_any, list_all}
 use Rattle.std.specs.Ordering.{int_eq}
-use Rattle.strided_dom.specs.Progression.{Progression, empty, single, row}
-use Rattle.pointer_dom.specs.PointerSets.{Pointers, offsets_at}
+use Rattle.interfere_set.specs.strided_dom.Progression.{Progression, empty, single, row}
+use Rattle.interfere_set.specs.pointer_dom.PointerSets.{Pointers, offsets_at}
 use Rattle.transfer_rows.specs.Actions.{Spot}
 
 -- v is one of the numbers from first on in steps of gap + 1, of which `more` follow the first

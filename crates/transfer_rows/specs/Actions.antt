@@ -3,7 +3,7 @@
 use Rattle.std.specs.Prelude.{◌≡◌, ℕ, Bool, List, Option, Some}
 use Rattle.tm_cint.specs.declared.int_types.IntType.{IntType}
 use Rattle.tm_cint.specs.declared.operators.BinOp.{BinOp}
-use Rattle.pointer_dom.specs.Values.{Values, IsValues}
+use Rattle.interfere_set.specs.pointer_dom.Values.{Values, IsValues}
 use Rattle.interfere_set.specs.Stores.{Reader}
 
 -- a concrete cell by its object and its offset there, and the number of its abstract cell

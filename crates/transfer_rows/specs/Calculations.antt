@@ -1,8 +1,8 @@
 -- The values that calculations give, and those that comparisons leave.
 use Rattle.std.specs.Prelude.{Bool}
 use Rattle.tm_cint.specs.declared.operators.BinOp.{BinOp}
-use Rattle.pointer_dom.specs.Advances.{usable_pointers}
-use Rattle.pointer_dom.specs.Values.{Values}
+use Rattle.interfere_set.specs.pointer_dom.Advances.{usable_pointers}
+use Rattle.interfere_set.specs.pointer_dom.Values.{Values}
 use Rattle.operator_values.specs.Integers as I
 use Rattle.operator_values.specs.SetsOfPointers as P
 use Rattle.transfer_rows.specs.StateForms.{State, value_of, only_numbers, only_pointers}

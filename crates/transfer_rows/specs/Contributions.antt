@@ -2,8 +2,8 @@
 use Rattle.std.specs.Prelude.{ℕ, cond, eqb, List, [], ◌∷◌, Option, Some, None}
 use Rattle.std.specs.FinMap as tables
 use Rattle.std.specs.FinMap.{insert, len, keys}
-use Rattle.tm_lattice.specs.Tables.{Table}
-use Rattle.pointer_dom.specs.Values.{Values, no_value}
+use Rattle.cell_env.specs.tm_lattice.Tables.{Table}
+use Rattle.interfere_set.specs.pointer_dom.Values.{Values, no_value}
 use Rattle.interfere_set.specs.Stores.{Nested, Interferences, no_interference, left_at}
 use Rattle.transfer_rows.specs.StateForms.{State, is_no_value}
 use Rattle.transfer_rows.specs.Actions.{Around, Action, stores, unlocks}

@@ -3,9 +3,9 @@
 use Rattle.std.specs.Prelude.{◌≡◌, ◌≢◌, ◌⊎◌, ℕ, ◌<◌, Bool, true, false, IsTrue, Option, Some, None}
 use Rattle.std.specs.Int.{bit_at}
 use Rattle.std.specs.FinMap.{get}
-use Rattle.pointer_dom.specs.OffsetSets.{OffsetSet}
-use Rattle.pointer_dom.specs.Pointer.{ScalarValue}
-use Rattle.pointer_dom.specs.Values.{Values, IsValueIn}
+use Rattle.interfere_set.specs.pointer_dom.OffsetSets.{OffsetSet}
+use Rattle.interfere_set.specs.pointer_dom.Pointer.{ScalarValue}
+use Rattle.interfere_set.specs.pointer_dom.Values.{Values, IsValueIn}
 use Rattle.interfere_set.specs.Stores.{Interferences, handed}
 use Rattle.transfer_rows.specs.StateForms.{Temp, Cell, State, value_of, own_of}
 use Rattle.transfer_rows.specs.Actions.{Around}

@@ -9,14 +9,14 @@ use Rattle.tm_cint.specs.declared.Class.TheVariants.{Index, Pointer as PointerCl
 use Rattle.tm_cint.specs.declared.int_types.IntType.{IntType}
 use Rattle.tm_cint.specs.declared.operators.BinOp.{BinOp}
 use Rattle.tm_cint.specs.declared.operators.BinOp.TheVariants.{Sub}
-use Rattle.transfer_int.specs.Values.{ones_of}
-use Rattle.filters.specs.Partners.{Compares}
-use Rattle.pointer_dom.specs.Offset.{IsOffset}
-use Rattle.pointer_dom.specs.Pointer.{Pointer, null, invalid, to, ScalarValue, number, pointer}
-use Rattle.pointer_dom.specs.Values.{IsValueIn}
-use Rattle.pointer_dom.specs.Advances.{IsSubscript, directed}
-use Rattle.pointer_dom.specs.Selections.{Reaches}
-use Rattle.pointer_dom.specs.Equality.{IsEqualityOf}
+use Rattle.operator_values.specs.transfer_int.Values.{ones_of}
+use Rattle.operator_values.specs.filters.Partners.{Compares}
+use Rattle.interfere_set.specs.pointer_dom.Offset.{IsOffset}
+use Rattle.interfere_set.specs.pointer_dom.Pointer.{Pointer, null, invalid, to, ScalarValue, number, pointer}
+use Rattle.interfere_set.specs.pointer_dom.Values.{IsValueIn}
+use Rattle.interfere_set.specs.pointer_dom.Advances.{IsSubscript, directed}
+use Rattle.interfere_set.specs.pointer_dom.Selections.{Reaches}
+use Rattle.interfere_set.specs.pointer_dom.Equality.{IsEqualityOf}
 use Rattle.transfer_rows.specs.Actions.{Spot, Calculation, constant, copied, negated, complemented, operated, converted}
 use Rattle.transfer_rows.specs.Actions.{compared, part, element, moved, dereferenced, Side, temporary, fixed, Filter}
 use Rattle.transfer_rows.specs.Actions.{usable, numbers_compare, pointers_compare}

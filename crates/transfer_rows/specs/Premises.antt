@@ -1,11 +1,11 @@
 -- One state that meets the premises of all laws of the rows at once, so that none of them speaks of nothing.
 use Rattle.std.specs.Prelude.{◌≡◌, ℕ, true, false, [], ◌∷◌, pos}
-use Rattle.strided_dom.specs.Progression.{single}
+use Rattle.interfere_set.specs.strided_dom.Progression.{single}
 use Rattle.tm_cint.specs.declared.Class.TheVariants.{Deref}
 use Rattle.tm_cint.specs.declared.int_types.IntType.TheVariants.{Int}
 use Rattle.tm_cint.specs.declared.operators.BinOp.TheVariants.{Add, Eq}
-use Rattle.pointer_dom.specs.Pointer.{pointer, number, to}
-use Rattle.pointer_dom.specs.Values.{IsValueIn}
+use Rattle.interfere_set.specs.pointer_dom.Pointer.{pointer, number, to}
+use Rattle.interfere_set.specs.pointer_dom.Values.{IsValueIn}
 use Rattle.interfere_set.specs.Stores.{IsStore, no_interference}
 use Rattle.transfer_rows.specs.StateForms.{State, IsStateForm, only_numbers, own_of}
 use Rattle.transfer_rows.specs.Actions.{Around, operated, dereferenced, temporary, fixed, numbers_compare}

@@ -2,12 +2,12 @@
 use Rattle.std.specs.Prelude.{◌≡◌, ℕ, true, false, ◌&&◌, cond, eqb, IsTrue, pos, List, [], Option, Some, None}
 use Rattle.std.specs.Int.{bit_at}
 use Rattle.std.specs.FinMap.{get}
-use Rattle.strided_dom.specs.Progression.{single}
+use Rattle.interfere_set.specs.strided_dom.Progression.{single}
 use Rattle.tm_cint.specs.declared.Class.{Class}
 use Rattle.tm_cint.specs.declared.Class.TheVariants.{Index, Pointer, Deref, Lock}
 use Rattle.tm_cint.specs.declared.operators.BinOp.TheVariants.{Sub}
-use Rattle.pointer_dom.specs.PointerSets.{HaveEqualSizes}
-use Rattle.pointer_dom.specs.Values.{Values, no_value}
+use Rattle.interfere_set.specs.pointer_dom.PointerSets.{HaveEqualSizes}
+use Rattle.interfere_set.specs.pointer_dom.Values.{Values, no_value}
 use Rattle.operator_values.specs.Classes.{may_fail, index_fails, move_fails, dereference_fails}
 use Rattle.transfer_rows.specs.StateForms.{Cell, State, value_of}
 use Rattle.transfer_rows.specs.Actions.{Around, Calculation, negated, operated, element, moved, dereferenced}

@@ -4,9 +4,9 @@ use Rattle.std.specs.Prelude.{List, [], ◌∷◌, Option, Some, None}
 use Rattle.std.specs.Int.{bit_at}
 use Rattle.std.specs.FinMap.{get, insert, retain_keys}
 use Rattle.std.specs.Option.{option_map}
-use Rattle.strided_dom.specs.Progression.{single}
-use Rattle.tm_lattice.specs.Tables.{Table, changed_table}
-use Rattle.pointer_dom.specs.Values.{Values, joined_values, no_value}
+use Rattle.interfere_set.specs.strided_dom.Progression.{single}
+use Rattle.cell_env.specs.tm_lattice.Tables.{Table, changed_table}
+use Rattle.interfere_set.specs.pointer_dom.Values.{Values, joined_values, no_value}
 use Rattle.interfere_set.specs.Stores.{Interferences, joined_all, visible, handed}
 use Rattle.operator_values.specs.MetValues.{met_values}
 use Rattle.transfer_rows.specs.StateForms.{Temp, Cell, State, is_no_value, only_numbers, value_of, own_of}

@@ -1,9 +1,9 @@
 -- States whose values are sets of numbers and pointers, and what they say of a temporary and of a cell.
 use Rattle.std.specs.Prelude.{ℕ, ℤ, Bool, true, false, ◌&&◌, not, eqb, List, Option, Some, None}
 use Rattle.std.specs.FinMap.{get, len}
-use Rattle.strided_dom.specs.Progression.{Progression, empty, single, row}
-use Rattle.pointer_dom.specs.PointerSets.{Pointers, no_pointer}
-use Rattle.pointer_dom.specs.Values.{Values, IsValues, IsValuesBelow, no_value}
+use Rattle.interfere_set.specs.strided_dom.Progression.{Progression, empty, single, row}
+use Rattle.interfere_set.specs.pointer_dom.PointerSets.{Pointers, no_pointer}
+use Rattle.interfere_set.specs.pointer_dom.Values.{Values, IsValues, IsValuesBelow, no_value}
 use Rattle.cell_env.specs.declared.cells.CellState.{CellState}
 use Rattle.cell_env.specs.declared.temps.TempState.{TempState}
 use Rattle.cell_env.specs.Cells.{IsCell, IsCellBelow}

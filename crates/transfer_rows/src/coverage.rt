@@ -6,8 +6,8 @@
 //! `HasCell`, that a cell has an entry, as each static cell and each one of the task has.
 ghost use Rattle.std.specs.Prelude.{◌≡◌, ◌⊎◌, ℕ, true, false, List, Option, pos};
 ghost use Rattle.tm_cint.specs.declared.Class.{Class};
-ghost use Rattle.pointer_dom.specs.Pointer.{ScalarValue, number, pointer, to, invalid};
-ghost use Rattle.pointer_dom.specs.Values.{Values, IsValueIn};
+ghost use Rattle.interfere_set.specs.pointer_dom.Pointer.{ScalarValue, number, pointer, to, invalid};
+ghost use Rattle.interfere_set.specs.pointer_dom.Values.{Values, IsValueIn};
 ghost use Rattle.interfere_set.specs.Stores.{Interferences, IsStore, visible};
 ghost use Rattle.transfer_rows.specs.StateForms.{State, IsStateForm, value_of, own_of};
 ghost use Rattle.transfer_rows.specs.Actions.{Around, Spot, Calculation, Filter, skips, gives, refines, loads};

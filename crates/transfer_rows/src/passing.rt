@@ -1,8 +1,8 @@
 //! What covers a step still does in every greater state with the same entries, as in the state of the node to which the
 //! edge leads. Each law speaks of definitions alone, so its function does nothing.
 ghost use Rattle.std.specs.Prelude.{ℕ, Option};
-ghost use Rattle.pointer_dom.specs.Pointer.{ScalarValue};
-ghost use Rattle.pointer_dom.specs.Values.{Values, IsValuesBelow};
+ghost use Rattle.interfere_set.specs.pointer_dom.Pointer.{ScalarValue};
+ghost use Rattle.interfere_set.specs.pointer_dom.Values.{Values, IsValuesBelow};
 ghost use Rattle.interfere_set.specs.Stores.{Interferences};
 ghost use Rattle.transfer_rows.specs.StateForms.{State, IsStateUnder};
 ghost use Rattle.transfer_rows.specs.Actions.{Around};

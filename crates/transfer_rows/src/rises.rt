@@ -2,8 +2,8 @@
 //! does nothing.
 ghost use Rattle.std.specs.Prelude.{◌≡◌, ◌&&◌, ℕ, cond, eqb, List, Some};
 ghost use Rattle.tm_cint.specs.declared.Class.{Class};
-ghost use Rattle.tm_lattice.specs.Tables.{IsBelow};
-ghost use Rattle.pointer_dom.specs.Values.{IsValuesBelow, no_value};
+ghost use Rattle.cell_env.specs.tm_lattice.Tables.{IsBelow};
+ghost use Rattle.interfere_set.specs.pointer_dom.Values.{IsValuesBelow, no_value};
 ghost use Rattle.interfere_set.specs.Stores.{Interferences, IsStore, IsStoreBelow};
 ghost use Rattle.transfer_rows.specs.StateForms.{State, IsStateForm, IsStateUnder};
 ghost use Rattle.transfer_rows.specs.Actions.{Around, Action, IsAction, Spot, stores, unlocks};

@@ -4,7 +4,7 @@ ghost use Rattle.tm_cint.specs.Operators.{IsComparison};
 ghost use Rattle.tm_typed.specs.TypedFiles.{typed_file_tree};
 ghost use Rattle.tm_laid.specs.Layable.{IsLayable};
 ghost use Rattle.interfere_set.specs.Stores.{HavePriorities};
-ghost use Rattle.transfer_rows.specs.StateForms.{State as TaskState};
+ghost use Rattle.edge_actions.specs.transfer_rows.StateForms.{State as TaskState};
 ghost use Rattle.transfer_mem.specs.Applicable.{IsOperable};
 
 use cell_env::State;

@@ -5,47 +5,60 @@ use Rattle.std.proofs.lemmas.Bool.{cases_lt, or_parts, false≢true}
 use Rattle.std.proofs.lemmas.Option.{none-some, same_Some, slice_get-get_or}
 use Rattle.std.proofs.lemmas.List.{length-append, length-set, append-nil, get_or_past}
 use Rattle.std.proofs.lemmas.List.Elements.{All-nil, All-cons, All-push, All-append, All-set, All-get_or}
-use Rattle.tm_terms.specs.declared.places.Place.{Place}
-use Rattle.tm_terms.specs.declared.tokens.Name.{Name}
-use Rattle.tm_terms.specs.declared.refusals.Kind.TheVariants as Kinds
-use Rattle.tm_terms.specs.declared.refusals.Refusal.{Refusal}
-use Rattle.tm_terms.specs.declared.types_named.Storage.{Storage}
-use Rattle.tm_terms.specs.declared.types_named.Storage.TheVariants as Storages
-use Rattle.tm_terms.specs.ExprTrees.{Tree}
-use Rattle.tm_trees.specs.declared.declarations.Tag.{Tag}
-use Rattle.tm_trees.specs.DeclarationTrees.{declared_name, DeclarationTree, ValueTree, an_expression, a_list, ValueTrees, no_values, and_value, InitialiserTree, InitDeclaratorTree}
-use Rattle.tm_typed.specs.declared.types.CType.{CType}
-use Rattle.tm_typed.specs.declared.types.CType.TheVariants as Types
-use Rattle.tm_typed.specs.declared.types.Scalar.{Scalar}
-use Rattle.tm_typed.specs.declared.types.Scalar.TheVariants as Scalars
-use Rattle.tm_typed.specs.declared.operands.Sort.{Sort}
-use Rattle.tm_typed.specs.declared.operands.Sort.TheVariants as Sorts
-use Rattle.tm_typed.specs.declared.scopes.Binding.{Binding}
-use Rattle.tm_typed.specs.declared.scopes.Named.{Named}
-use Rattle.tm_typed.specs.declared.scopes.Named.TheVariants as Names
-use Rattle.tm_typed.specs.declared.scopes.ObjectNumber.{ObjectNumber}
-use Rattle.tm_typed.specs.declared.scopes.ObjectNumber.TheVariants as Objects
-use Rattle.tm_typed.specs.declared.scopes.Part.{Part}
-use Rattle.tm_typed.specs.declared.scopes.Tagged.{Tagged}
-use Rattle.tm_typed.specs.declared.scopes.Tagged.TheVariants as Tagging
-use Rattle.tm_typed.specs.declared.files.LocalEntry.{LocalEntry}
-use Rattle.tm_typed.specs.declared.specifiers.Said.{Said}
-use Rattle.tm_typed.specs.Scopes.{Scope, entry, ctype_of, last_declared, named, named_here, tagged_here, is_complete}
-use Rattle.tm_typed.specs.TypeRows.{with_type}
-use Rattle.tm_typed.specs.TypedTrees.{RvalueTree, Rated, OperandTree}
-use Rattle.tm_typed.specs.Operands.{valued, is_structure, is_null, is_integer, scalar_by, scalar_of, is_taken, as_pointer, integer_given, given_to, given}
-use Rattle.tm_typed.specs.Refusals.{then_with, row, row_unless}
-use Rattle.tm_typed.specs.States.{State, Static, no_static, static, static_type, in_scope}
-use Rattle.tm_typed.specs.Evaluation.{typed_in}
-use Rattle.tm_typed.specs.Specifiers.{base, with_struct_tag}
-use Rattle.tm_typed.specs.Declarators.{declared}
-use Rattle.tm_typed.specs.Structures.{declared_place, is_no_object, is_declared_here, specified}
-use Rattle.tm_typed.specs.StaticValues.{static_value}
-use Rattle.tm_typed.specs.TypedStatements.{GivenTree, LocalTree}
-use Rattle.tm_typed.specs.Initialisers.{part, is_aggregate, scalar_rules, lone_rules, given_behind, lone, list_rules, initial, initials, Given}
-use Rattle.tm_typed.specs.TypeRows.{clipped}
-use Rattle.tm_typed.specs.Declarations.{Declared, count_values, with_count, counted_by, counted, declared_by, bound_here, typedef_rules, static_cell_of, with_static, initialised_static, new_static, static_number, linked, with_linkage, clashes, is_other, bound_unless, redeclared, linked_object, file_object, is_extern, is_typedef, file_rules, is_function, no_value, extern_value, extern_object, object_rules, static_object, LocalInitial, initialised_local, new_local, Locals, local_object, no_locals, local_rules, file_declared, local_declared, lone_tag, tag_rules, file_form, file_declaration, local_form, local_declaration}
-use Rattle.tm_typed.specs.WellTyped.{OnAnswer, kind_of, kind_of_scalar, Context, IsRvalue, IsRated, IsOperand}
+use Rattle.tm_laid.specs.tm_terms.declared.places.Place.{Place}
+use Rattle.tm_laid.specs.tm_terms.declared.tokens.Name.{Name}
+use Rattle.tm_laid.specs.tm_terms.declared.refusals.Kind.TheVariants as Kinds
+use Rattle.tm_laid.specs.tm_terms.declared.refusals.Refusal.{Refusal}
+use Rattle.tm_laid.specs.tm_terms.declared.types_named.Storage.{Storage}
+use Rattle.tm_laid.specs.tm_terms.declared.types_named.Storage.TheVariants as Storages
+use Rattle.tm_laid.specs.tm_terms.ExprTrees.{Tree}
+use Rattle.tm_laid.specs.tm_trees.declared.declarations.Tag.{Tag}
+use Rattle.tm_laid.specs.tm_trees.DeclarationTrees.{declared_name, DeclarationTree, ValueTree, an_expression, a_list}
+use Rattle.tm_laid.specs.tm_trees.DeclarationTrees.{ValueTrees, no_values, and_value, InitialiserTree}
+use Rattle.tm_laid.specs.tm_trees.DeclarationTrees.{InitDeclaratorTree}
+use Rattle.tm_laid.specs.tm_typed.declared.types.CType.{CType}
+use Rattle.tm_laid.specs.tm_typed.declared.types.CType.TheVariants as Types
+use Rattle.tm_laid.specs.tm_typed.declared.types.Scalar.{Scalar}
+use Rattle.tm_laid.specs.tm_typed.declared.types.Scalar.TheVariants as Scalars
+use Rattle.tm_laid.specs.tm_typed.declared.operands.Sort.{Sort}
+use Rattle.tm_laid.specs.tm_typed.declared.operands.Sort.TheVariants as Sorts
+use Rattle.tm_laid.specs.tm_typed.declared.scopes.Binding.{Binding}
+use Rattle.tm_laid.specs.tm_typed.declared.scopes.Named.{Named}
+use Rattle.tm_laid.specs.tm_typed.declared.scopes.Named.TheVariants as Names
+use Rattle.tm_laid.specs.tm_typed.declared.scopes.ObjectNumber.{ObjectNumber}
+use Rattle.tm_laid.specs.tm_typed.declared.scopes.ObjectNumber.TheVariants as Objects
+use Rattle.tm_laid.specs.tm_typed.declared.scopes.Part.{Part}
+use Rattle.tm_laid.specs.tm_typed.declared.scopes.Tagged.{Tagged}
+use Rattle.tm_laid.specs.tm_typed.declared.scopes.Tagged.TheVariants as Tagging
+use Rattle.tm_laid.specs.tm_typed.declared.files.LocalEntry.{LocalEntry}
+use Rattle.tm_laid.specs.tm_typed.declared.specifiers.Said.{Said}
+use Rattle.tm_laid.specs.tm_typed.Scopes.{Scope, entry, ctype_of, last_declared, named, named_here, tagged_here}
+use Rattle.tm_laid.specs.tm_typed.Scopes.{is_complete}
+use Rattle.tm_laid.specs.tm_typed.TypeRows.{with_type}
+use Rattle.tm_laid.specs.tm_typed.TypedTrees.{RvalueTree, Rated, OperandTree}
+use Rattle.tm_laid.specs.tm_typed.Operands.{valued, is_structure, is_null, is_integer, scalar_by, scalar_of, is_taken}
+use Rattle.tm_laid.specs.tm_typed.Operands.{as_pointer, integer_given, given_to, given}
+use Rattle.tm_laid.specs.tm_typed.Refusals.{then_with, row, row_unless}
+use Rattle.tm_laid.specs.tm_typed.States.{State, Static, no_static, static, static_type, in_scope}
+use Rattle.tm_laid.specs.tm_typed.Evaluation.{typed_in}
+use Rattle.tm_laid.specs.tm_typed.Specifiers.{base, with_struct_tag}
+use Rattle.tm_laid.specs.tm_typed.Declarators.{declared}
+use Rattle.tm_laid.specs.tm_typed.Structures.{declared_place, is_no_object, is_declared_here, specified}
+use Rattle.tm_laid.specs.tm_typed.StaticValues.{static_value}
+use Rattle.tm_laid.specs.tm_typed.TypedStatements.{GivenTree, LocalTree}
+use Rattle.tm_laid.specs.tm_typed.Initialisers.{part, is_aggregate, scalar_rules, lone_rules, given_behind, lone}
+use Rattle.tm_laid.specs.tm_typed.Initialisers.{list_rules, initial, initials, Given}
+use Rattle.tm_laid.specs.tm_typed.TypeRows.{clipped}
+use Rattle.tm_laid.specs.tm_typed.Declarations.{Declared, count_values, with_count, counted_by, counted, declared_by}
+use Rattle.tm_laid.specs.tm_typed.Declarations.{bound_here, typedef_rules, static_cell_of, with_static}
+use Rattle.tm_laid.specs.tm_typed.Declarations.{initialised_static, new_static, static_number, linked, with_linkage}
+use Rattle.tm_laid.specs.tm_typed.Declarations.{clashes, is_other, bound_unless, redeclared, linked_object, file_object}
+use Rattle.tm_laid.specs.tm_typed.Declarations.{is_extern, is_typedef, file_rules, is_function, no_value, extern_value}
+use Rattle.tm_laid.specs.tm_typed.Declarations.{extern_object, object_rules, static_object, LocalInitial}
+use Rattle.tm_laid.specs.tm_typed.Declarations.{initialised_local, new_local, Locals, local_object, no_locals}
+use Rattle.tm_laid.specs.tm_typed.Declarations.{local_rules, file_declared, local_declared, lone_tag, tag_rules}
+use Rattle.tm_laid.specs.tm_typed.Declarations.{file_form, file_declaration, local_form, local_declaration}
+use Rattle.tm_laid.specs.tm_typed.WellTyped.{OnAnswer, kind_of, kind_of_scalar, Context, IsRvalue, IsRated, IsOperand}
 use Rattle.c_expr_typing.proofs.WellTypedRules.{converted_fits, as_pointer_fits, valued_fits}
 use Rattle.typed_file_laws.specs.Tables.{IsType}
 use Rattle.typed_file_laws.specs.Lawful.{object_type, context, IsBound, IsLinked, IsLawfulState}

@@ -4,27 +4,29 @@ use Rattle.std.specs.Prelude.{◌==◌, Bool, true, false, cond, All, map, take,
 use Rattle.std.specs.List.{filter_map, cons_option}
 use Rattle.std.proofs.lemmas.List.{length-append, length-set, length-map, append_assoc, map-append, take_at}
 use Rattle.std.proofs.lemmas.List.Elements.{All-weaker, All-nil, All-cons, All-head, All-tail, All-push, All-append, All-set, All-get_or, All-take, All-drop}
-use Rattle.tm_terms.specs.declared.places.Place.{Place}
-use Rattle.tm_terms.specs.declared.refusals.Refusal.{Refusal}
-use Rattle.tm_trees.specs.FileTrees.{PartTrees}
-use Rattle.tm_typed.specs.declared.scopes.Binding.{Binding}
-use Rattle.tm_typed.specs.declared.scopes.TagBinding.{TagBinding}
-use Rattle.tm_typed.specs.declared.scopes.ObjectNumber.{ObjectNumber}
-use Rattle.tm_typed.specs.declared.scopes.ObjectNumber.TheVariants as Objects
-use Rattle.tm_typed.specs.declared.types.TypeEntry.{TypeEntry}
-use Rattle.tm_typed.specs.declared.files.LocalEntry.{LocalEntry}
-use Rattle.tm_typed.specs.declared.files.TypedTask.{TypedTask}
-use Rattle.tm_typed.specs.declared.uses.Use.{Use}
-use Rattle.tm_typed.specs.declared.uses.Used.{Used}
-use Rattle.tm_typed.specs.declared.uses.Used.TheVariants as Uses
-use Rattle.tm_typed.specs.Scopes.{Scope, Function, entry, is_same_type}
-use Rattle.tm_typed.specs.States.{State}
-use Rattle.tm_typed.specs.StatementRules.{in_body}
-use Rattle.tm_typed.specs.StatementTyping.{parts_in}
-use Rattle.tm_typed.specs.TypedStatements.{TypedTrees}
-use Rattle.tm_typed.specs.Functions.{to_file, body_begins, Head, no_function, function, function_used, called_function, called_since, TypedBodyTree, FoundBody, body_in}
-use Rattle.tm_typed.specs.Files.{TypedFunctionTree, FileState, no_typed_function, typed_function, defined_function, with_body, with_state}
-use Rattle.tm_typed.specs.WellTyped.{OnAnswer, Context, Extends}
+use Rattle.tm_laid.specs.tm_terms.declared.places.Place.{Place}
+use Rattle.tm_laid.specs.tm_terms.declared.refusals.Refusal.{Refusal}
+use Rattle.tm_laid.specs.tm_trees.FileTrees.{PartTrees}
+use Rattle.tm_laid.specs.tm_typed.declared.scopes.Binding.{Binding}
+use Rattle.tm_laid.specs.tm_typed.declared.scopes.TagBinding.{TagBinding}
+use Rattle.tm_laid.specs.tm_typed.declared.scopes.ObjectNumber.{ObjectNumber}
+use Rattle.tm_laid.specs.tm_typed.declared.scopes.ObjectNumber.TheVariants as Objects
+use Rattle.tm_laid.specs.tm_typed.declared.types.TypeEntry.{TypeEntry}
+use Rattle.tm_laid.specs.tm_typed.declared.files.LocalEntry.{LocalEntry}
+use Rattle.tm_laid.specs.tm_typed.declared.files.TypedTask.{TypedTask}
+use Rattle.tm_laid.specs.tm_typed.declared.uses.Use.{Use}
+use Rattle.tm_laid.specs.tm_typed.declared.uses.Used.{Used}
+use Rattle.tm_laid.specs.tm_typed.declared.uses.Used.TheVariants as Uses
+use Rattle.tm_laid.specs.tm_typed.Scopes.{Scope, Function, entry, is_same_type}
+use Rattle.tm_laid.specs.tm_typed.States.{State}
+use Rattle.tm_laid.specs.tm_typed.StatementRules.{in_body}
+use Rattle.tm_laid.specs.tm_typed.StatementTyping.{parts_in}
+use Rattle.tm_laid.specs.tm_typed.TypedStatements.{TypedTrees}
+use Rattle.tm_laid.specs.tm_typed.Functions.{to_file, body_begins, Head, no_function, function, function_used}
+use Rattle.tm_laid.specs.tm_typed.Functions.{called_function, called_since, TypedBodyTree, FoundBody, body_in}
+use Rattle.tm_laid.specs.tm_typed.Files.{TypedFunctionTree, FileState, no_typed_function, typed_function}
+use Rattle.tm_laid.specs.tm_typed.Files.{defined_function, with_body, with_state}
+use Rattle.tm_laid.specs.tm_typed.WellTyped.{OnAnswer, Context, Extends}
 use Rattle.typed_file_laws.specs.Tables.{IsType, IsTag}
 use Rattle.typed_file_laws.specs.Lawful.{object_type, IsBound, IsUse, IsFunction, IsLawfulState}
 use Rattle.typed_file_laws.specs.Bodies.{AreStatements}

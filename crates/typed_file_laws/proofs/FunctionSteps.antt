@@ -5,31 +5,35 @@ use Rattle.std.proofs.lemmas.Bool.{or_parts, and_parts, not-false, false≢true,
 use Rattle.std.proofs.lemmas.Option.{none-some, same_Some, slice_get-get_or}
 use Rattle.std.proofs.lemmas.List.{length-append, length-set}
 use Rattle.std.proofs.lemmas.List.Elements.{All-weaker, All-push, All-set, All-get_or, All-drop}
-use Rattle.tm_terms.specs.declared.places.Place.{Place}
-use Rattle.tm_terms.specs.declared.tokens.Name.{Name}
-use Rattle.tm_terms.specs.declared.refusals.Kind.TheVariants as Kinds
-use Rattle.tm_terms.specs.declared.types_named.Storage.{Storage}
-use Rattle.tm_trees.specs.DeclarationTrees.{declared_name}
-use Rattle.tm_trees.specs.FileTrees.{ParameterTree, a_named_parameter, an_unnamed_parameter, ParametersTree, only_void, some_parameters}
-use Rattle.tm_typed.specs.declared.types.Qualified.{Qualified}
-use Rattle.tm_typed.specs.declared.types.CType.{CType}
-use Rattle.tm_typed.specs.declared.types.CType.TheVariants as Types
-use Rattle.tm_typed.specs.declared.scopes.Binding.{Binding}
-use Rattle.tm_typed.specs.declared.scopes.TagBinding.{TagBinding}
-use Rattle.tm_typed.specs.declared.scopes.Named.{Named}
-use Rattle.tm_typed.specs.declared.scopes.Named.TheVariants as Names
-use Rattle.tm_typed.specs.declared.scopes.ObjectNumber.{ObjectNumber}
-use Rattle.tm_typed.specs.declared.scopes.ObjectNumber.TheVariants as Objects
-use Rattle.tm_typed.specs.declared.specifiers.Shape.{Shape}
-use Rattle.tm_typed.specs.declared.files.LocalEntry.{LocalEntry}
-use Rattle.tm_typed.specs.Scopes.{Scope, Function, entry, ctype_of, is_same_type, named_here, last_declared}
-use Rattle.tm_typed.specs.States.{State, in_scope}
-use Rattle.tm_typed.specs.Specifiers.{base}
-use Rattle.tm_typed.specs.TypeNames.{bare}
-use Rattle.tm_typed.specs.Declarators.{declared, declared_pointers}
-use Rattle.tm_typed.specs.Structures.{declared_place, is_declared_here, specified}
-use Rattle.tm_typed.specs.Functions.{type_in, adjusted_type, adjusted, is_by_value, is_of_void, with_parameter, parameter_rules, no_name, first_place, parameter_in, listed_parameters, parameters_in, are_same_types, Head, no_function, function, agrees, disagrees, clashes_with, number_of, with_function, function_rules}
-use Rattle.tm_typed.specs.WellTyped.{OnAnswer, SameFunction}
+use Rattle.tm_laid.specs.tm_terms.declared.places.Place.{Place}
+use Rattle.tm_laid.specs.tm_terms.declared.tokens.Name.{Name}
+use Rattle.tm_laid.specs.tm_terms.declared.refusals.Kind.TheVariants as Kinds
+use Rattle.tm_laid.specs.tm_terms.declared.types_named.Storage.{Storage}
+use Rattle.tm_laid.specs.tm_trees.DeclarationTrees.{declared_name}
+use Rattle.tm_laid.specs.tm_trees.FileTrees.{ParameterTree, a_named_parameter, an_unnamed_parameter, ParametersTree}
+use Rattle.tm_laid.specs.tm_trees.FileTrees.{only_void, some_parameters}
+use Rattle.tm_laid.specs.tm_typed.declared.types.Qualified.{Qualified}
+use Rattle.tm_laid.specs.tm_typed.declared.types.CType.{CType}
+use Rattle.tm_laid.specs.tm_typed.declared.types.CType.TheVariants as Types
+use Rattle.tm_laid.specs.tm_typed.declared.scopes.Binding.{Binding}
+use Rattle.tm_laid.specs.tm_typed.declared.scopes.TagBinding.{TagBinding}
+use Rattle.tm_laid.specs.tm_typed.declared.scopes.Named.{Named}
+use Rattle.tm_laid.specs.tm_typed.declared.scopes.Named.TheVariants as Names
+use Rattle.tm_laid.specs.tm_typed.declared.scopes.ObjectNumber.{ObjectNumber}
+use Rattle.tm_laid.specs.tm_typed.declared.scopes.ObjectNumber.TheVariants as Objects
+use Rattle.tm_laid.specs.tm_typed.declared.specifiers.Shape.{Shape}
+use Rattle.tm_laid.specs.tm_typed.declared.files.LocalEntry.{LocalEntry}
+use Rattle.tm_laid.specs.tm_typed.Scopes.{Scope, Function, entry, ctype_of, is_same_type, named_here, last_declared}
+use Rattle.tm_laid.specs.tm_typed.States.{State, in_scope}
+use Rattle.tm_laid.specs.tm_typed.Specifiers.{base}
+use Rattle.tm_laid.specs.tm_typed.TypeNames.{bare}
+use Rattle.tm_laid.specs.tm_typed.Declarators.{declared, declared_pointers}
+use Rattle.tm_laid.specs.tm_typed.Structures.{declared_place, is_declared_here, specified}
+use Rattle.tm_laid.specs.tm_typed.Functions.{type_in, adjusted_type, adjusted, is_by_value, is_of_void, with_parameter}
+use Rattle.tm_laid.specs.tm_typed.Functions.{parameter_rules, no_name, first_place, parameter_in, listed_parameters}
+use Rattle.tm_laid.specs.tm_typed.Functions.{parameters_in, are_same_types, Head, no_function, function, agrees}
+use Rattle.tm_laid.specs.tm_typed.Functions.{disagrees, clashes_with, number_of, with_function, function_rules}
+use Rattle.tm_laid.specs.tm_typed.WellTyped.{OnAnswer, SameFunction}
 use Rattle.typed_file_laws.specs.Tables.{IsType, IsTag, AreLawfulTables}
 use Rattle.typed_file_laws.specs.Lawful.{object_type, IsBound, IsFunction, IsLawfulState}
 use Rattle.typing_laws.proofs.Steps.{then_on}

@@ -3,20 +3,26 @@ use Rattle.std.proofs.Common.{◌≡◌, ℕ, List, get_or, refl, sym, subst, ap
 use Rattle.std.specs.Prelude.{All, slice_get, Option, Some, None}
 use Rattle.std.proofs.lemmas.Option.{slice_get_within, get_or_from_slice_get}
 use Rattle.std.proofs.lemmas.List.Elements.{All-weaker, All-get_or}
-use Rattle.tm_terms.specs.declared.places.Place.{Place}
-use Rattle.tm_typed.specs.declared.types.TypeEntry.{TypeEntry}
-use Rattle.tm_typed.specs.declared.operands.Fold.TheVariants as Folds
-use Rattle.tm_typed.specs.declared.operands.Sort.{Sort}
-use Rattle.tm_typed.specs.declared.operands.Sort.TheVariants as Sorts
-use Rattle.tm_typed.specs.declared.scopes.ObjectNumber.TheVariants as Objects
+use Rattle.tm_laid.specs.tm_terms.declared.places.Place.{Place}
+use Rattle.tm_laid.specs.tm_typed.declared.types.TypeEntry.{TypeEntry}
+use Rattle.tm_laid.specs.tm_typed.declared.operands.Fold.TheVariants as Folds
+use Rattle.tm_laid.specs.tm_typed.declared.operands.Sort.{Sort}
+use Rattle.tm_laid.specs.tm_typed.declared.operands.Sort.TheVariants as Sorts
+use Rattle.tm_laid.specs.tm_typed.declared.scopes.ObjectNumber.TheVariants as Objects
 use Rattle.std.proofs.lemmas.List.{get_or_append_left}
-use Rattle.tm_typed.specs.Types.{no_type}
-use Rattle.tm_typed.specs.Scopes.{Function, entry}
-use Rattle.tm_typed.specs.Operands.{scalar_by}
-use Rattle.tm_typed.specs.TypedTrees.{RvalueTree, a_value}
-use Rattle.tm_typed.specs.States.{State}
-use Rattle.tm_typed.specs.WellTyped.{ValueKind, a_number, a_pointer, no_value, kind_of_scalar, Context, IsRvalue, SameFunction, Extends}
-use Rattle.tm_typed.specs.TypedStatements.{GivenTree, LocalInitialiserTree, LocalTree, TypedTree, evaluates, declares, runs_block, branches, branches_else, loops_while, loops_do, loops_for, selects, breaks, continues, returns, locks, unlocks, yields, TypedTrees, no_statements, and_statement, TypedCase, a_label, a_default_label, a_labelled_step, TypedCases, no_typed_cases, and_typed_case}
+use Rattle.tm_laid.specs.tm_typed.Types.{no_type}
+use Rattle.tm_laid.specs.tm_typed.Scopes.{Function, entry}
+use Rattle.tm_laid.specs.tm_typed.Operands.{scalar_by}
+use Rattle.tm_laid.specs.tm_typed.TypedTrees.{RvalueTree, a_value}
+use Rattle.tm_laid.specs.tm_typed.States.{State}
+use Rattle.tm_laid.specs.tm_typed.WellTyped.{ValueKind, a_number, a_pointer, no_value, kind_of_scalar, Context}
+use Rattle.tm_laid.specs.tm_typed.WellTyped.{IsRvalue, SameFunction, Extends}
+use Rattle.tm_laid.specs.tm_typed.TypedStatements.{GivenTree, LocalInitialiserTree, LocalTree, TypedTree, evaluates}
+use Rattle.tm_laid.specs.tm_typed.TypedStatements.{declares, runs_block, branches, branches_else, loops_while, loops_do}
+use Rattle.tm_laid.specs.tm_typed.TypedStatements.{loops_for, selects, breaks, continues, returns, locks, unlocks}
+use Rattle.tm_laid.specs.tm_typed.TypedStatements.{yields, TypedTrees, no_statements, and_statement, TypedCase, a_label}
+use Rattle.tm_laid.specs.tm_typed.TypedStatements.{a_default_label, a_labelled_step, TypedCases, no_typed_cases}
+use Rattle.tm_laid.specs.tm_typed.TypedStatements.{and_typed_case}
 use Rattle.c_expr_typing.proofs.WellTypedGrowth.{operand_stays}
 use Rattle.typed_file_laws.specs.Tables.{IsType}
 use Rattle.typed_file_laws.specs.Lawful.{context, IsFunction, IsLawfulState}

@@ -4,43 +4,48 @@ use Rattle.std.specs.Prelude.{true, false, ◌||◌, is_some, All, map, take, Op
 use Rattle.std.proofs.lemmas.Bool.{false≢true, eq-eqb}
 use Rattle.std.proofs.lemmas.List.{length-append, append-nil, map-append, take_at}
 use Rattle.std.proofs.lemmas.List.Elements.{All-weaker, All-nil, All-cons, All-push, All-get_or, All-drop, All-map}
-use Rattle.tm_cint.specs.declared.int_types.IntType.{IntType}
-use Rattle.tm_cint.specs.declared.int_types.IntType.TheVariants as Ints
-use Rattle.tm_terms.specs.declared.places.Place.{Place}
-use Rattle.tm_terms.specs.declared.tokens.Name.{Name}
-use Rattle.tm_terms.specs.declared.refusals.Kind.TheVariants as Kinds
-use Rattle.tm_terms.specs.ExprTrees.{Tree}
-use Rattle.tm_trees.specs.FileTrees.{PartTrees, FunctionTree, ItemTree, a_declaration, a_function, an_empty_item, a_mutex, a_task}
-use Rattle.tm_trees.specs.DeclarationTrees.{DeclarationTree}
-use Rattle.tm_typed.specs.declared.uses.Use.{Use}
-use Rattle.tm_typed.specs.declared.types.CType.{CType}
-use Rattle.tm_typed.specs.declared.types.CType.TheVariants as Types
-use Rattle.tm_typed.specs.declared.types.TypeEntry.{TypeEntry}
-use Rattle.tm_typed.specs.declared.scopes.Binding.{Binding}
-use Rattle.tm_typed.specs.declared.scopes.TagBinding.{TagBinding}
-use Rattle.tm_typed.specs.declared.scopes.Named.{Named}
-use Rattle.tm_typed.specs.declared.scopes.Named.TheVariants as Names
-use Rattle.tm_typed.specs.declared.scopes.ObjectNumber.{ObjectNumber}
-use Rattle.tm_typed.specs.declared.scopes.ObjectNumber.TheVariants as Objects
-use Rattle.tm_typed.specs.declared.specifiers.Said.{Said}
-use Rattle.tm_typed.specs.declared.specifiers.Shape.{Shape}
-use Rattle.tm_typed.specs.declared.files.LocalEntry.{LocalEntry}
-use Rattle.tm_typed.specs.declared.files.TypedTask.{TypedTask}
-use Rattle.tm_typed.specs.declared.files.MutexEntry.{MutexEntry}
-use Rattle.tm_typed.specs.Types.{no_type, void_number, int_number, int_entry, first_types}
-use Rattle.tm_typed.specs.Scopes.{Scope, Function, entry, ctype_of, is_same_type, named_here}
-use Rattle.tm_typed.specs.Refusals.{then_with}
-use Rattle.tm_typed.specs.States.{Static, State, in_scope, with_name}
-use Rattle.tm_typed.specs.Evaluation.{measured, folded_value}
-use Rattle.tm_typed.specs.Specifiers.{base}
-use Rattle.tm_typed.specs.Declarators.{declared_pointers}
-use Rattle.tm_typed.specs.Structures.{is_declared_here, specified}
-use Rattle.tm_typed.specs.Declarations.{linked, file_declaration}
-use Rattle.tm_typed.specs.StatementTyping.{enter}
-use Rattle.tm_typed.specs.TypedTrees.{OperandTree}
-use Rattle.tm_typed.specs.Functions.{parameters_in, left_names, to_file, names_here, body_begins, Head, with_function, number_of, clashes_with, function_rules, FoundBody, body_in}
-use Rattle.tm_typed.specs.Files.{TypedFunctionTree, FileState, first_scope, first_state, first_file_state, typed_function, declared_function, head_of, with_body, with_state, function_in, priority_of, task_scope, with_task, named_task_in, task_in, mutex_in, item_in, items_in}
-use Rattle.tm_typed.specs.WellTyped.{OnAnswer}
+use Rattle.tm_laid.specs.tm_cint.declared.int_types.IntType.{IntType}
+use Rattle.tm_laid.specs.tm_cint.declared.int_types.IntType.TheVariants as Ints
+use Rattle.tm_laid.specs.tm_terms.declared.places.Place.{Place}
+use Rattle.tm_laid.specs.tm_terms.declared.tokens.Name.{Name}
+use Rattle.tm_laid.specs.tm_terms.declared.refusals.Kind.TheVariants as Kinds
+use Rattle.tm_laid.specs.tm_terms.ExprTrees.{Tree}
+use Rattle.tm_laid.specs.tm_trees.FileTrees.{PartTrees, FunctionTree, ItemTree, a_declaration, a_function}
+use Rattle.tm_laid.specs.tm_trees.FileTrees.{an_empty_item, a_mutex, a_task}
+use Rattle.tm_laid.specs.tm_trees.DeclarationTrees.{DeclarationTree}
+use Rattle.tm_laid.specs.tm_typed.declared.uses.Use.{Use}
+use Rattle.tm_laid.specs.tm_typed.declared.types.CType.{CType}
+use Rattle.tm_laid.specs.tm_typed.declared.types.CType.TheVariants as Types
+use Rattle.tm_laid.specs.tm_typed.declared.types.TypeEntry.{TypeEntry}
+use Rattle.tm_laid.specs.tm_typed.declared.scopes.Binding.{Binding}
+use Rattle.tm_laid.specs.tm_typed.declared.scopes.TagBinding.{TagBinding}
+use Rattle.tm_laid.specs.tm_typed.declared.scopes.Named.{Named}
+use Rattle.tm_laid.specs.tm_typed.declared.scopes.Named.TheVariants as Names
+use Rattle.tm_laid.specs.tm_typed.declared.scopes.ObjectNumber.{ObjectNumber}
+use Rattle.tm_laid.specs.tm_typed.declared.scopes.ObjectNumber.TheVariants as Objects
+use Rattle.tm_laid.specs.tm_typed.declared.specifiers.Said.{Said}
+use Rattle.tm_laid.specs.tm_typed.declared.specifiers.Shape.{Shape}
+use Rattle.tm_laid.specs.tm_typed.declared.files.LocalEntry.{LocalEntry}
+use Rattle.tm_laid.specs.tm_typed.declared.files.TypedTask.{TypedTask}
+use Rattle.tm_laid.specs.tm_typed.declared.files.MutexEntry.{MutexEntry}
+use Rattle.tm_laid.specs.tm_typed.Types.{no_type, void_number, int_number, int_entry, first_types}
+use Rattle.tm_laid.specs.tm_typed.Scopes.{Scope, Function, entry, ctype_of, is_same_type, named_here}
+use Rattle.tm_laid.specs.tm_typed.Refusals.{then_with}
+use Rattle.tm_laid.specs.tm_typed.States.{Static, State, in_scope, with_name}
+use Rattle.tm_laid.specs.tm_typed.Evaluation.{measured, folded_value}
+use Rattle.tm_laid.specs.tm_typed.Specifiers.{base}
+use Rattle.tm_laid.specs.tm_typed.Declarators.{declared_pointers}
+use Rattle.tm_laid.specs.tm_typed.Structures.{is_declared_here, specified}
+use Rattle.tm_laid.specs.tm_typed.Declarations.{linked, file_declaration}
+use Rattle.tm_laid.specs.tm_typed.StatementTyping.{enter}
+use Rattle.tm_laid.specs.tm_typed.TypedTrees.{OperandTree}
+use Rattle.tm_laid.specs.tm_typed.Functions.{parameters_in, left_names, to_file, names_here, body_begins, Head}
+use Rattle.tm_laid.specs.tm_typed.Functions.{with_function, number_of, clashes_with, function_rules, FoundBody, body_in}
+use Rattle.tm_laid.specs.tm_typed.Files.{TypedFunctionTree, FileState, first_scope, first_state, first_file_state}
+use Rattle.tm_laid.specs.tm_typed.Files.{typed_function, declared_function, head_of, with_body, with_state, function_in}
+use Rattle.tm_laid.specs.tm_typed.Files.{priority_of, task_scope, with_task, named_task_in, task_in, mutex_in, item_in}
+use Rattle.tm_laid.specs.tm_typed.Files.{items_in}
+use Rattle.tm_laid.specs.tm_typed.WellTyped.{OnAnswer}
 use Rattle.typed_file_laws.specs.Tables.{IsType, IsTag, form, IsRow, IsStructure, AreLawfulTables}
 use Rattle.typed_file_laws.specs.Lawful.{object_type, IsBound, IsLinked, IsUse, IsFunction, IsNumber, IsLawfulState}
 use Rattle.typed_file_laws.specs.LawfulFiles.{type_of_function, type_of_typed, HasBody, IsLawfulFile}

@@ -4,25 +4,27 @@ use Rattle.std.specs.Prelude.{◌+◌, Bool, true, false, cond, is_some, All, Co
 use Rattle.std.proofs.lemmas.Bool.{cases_lt, false≢true, lt-ltb}
 use Rattle.std.proofs.lemmas.List.{get_or_past}
 use Rattle.std.proofs.lemmas.List.Elements.{All-weaker, All-nil, All-cons, All-append, All-get_or, All-map}
-use Rattle.tm_terms.specs.declared.places.Place.{Place}
-use Rattle.tm_terms.specs.declared.tokens.Name.{Name}
-use Rattle.tm_terms.specs.declared.refusals.Refusal.{Refusal}
-use Rattle.tm_trees.specs.FileTrees.{ItemTree}
-use Rattle.tm_typed.specs.declared.types.CType.{CType}
-use Rattle.tm_typed.specs.declared.types.CType.TheVariants as Types
-use Rattle.tm_typed.specs.declared.types.TypeEntry.{TypeEntry}
-use Rattle.tm_typed.specs.declared.scopes.Member.{Member}
-use Rattle.tm_typed.specs.declared.scopes.Named.{Named}
-use Rattle.tm_typed.specs.declared.scopes.Named.TheVariants as Names
-use Rattle.tm_typed.specs.declared.files.LocalEntry.{LocalEntry}
-use Rattle.tm_typed.specs.declared.files.TypedTask.{TypedTask}
-use Rattle.tm_typed.specs.Types.{no_type}
-use Rattle.tm_typed.specs.Scopes.{Scope, Structure, named, ctype_of, cells_of}
-use Rattle.tm_typed.specs.TypeRows.{is_founded}
-use Rattle.tm_typed.specs.CallGraph.{AreCalleesFirst, calls_in}
-use Rattle.tm_typed.specs.Functions.{TypedBodyTree}
-use Rattle.tm_typed.specs.Files.{TypedFunctionTree, FileState, TypedFileTree, first_file_state, no_typed_function, typed_function, items_in, defined_by, main_of, file_of, undefined_use, Closes, Ends, IsTyped}
-use Rattle.tm_typed.specs.WellTyped.{OnAnswer}
+use Rattle.tm_laid.specs.tm_terms.declared.places.Place.{Place}
+use Rattle.tm_laid.specs.tm_terms.declared.tokens.Name.{Name}
+use Rattle.tm_laid.specs.tm_terms.declared.refusals.Refusal.{Refusal}
+use Rattle.tm_laid.specs.tm_trees.FileTrees.{ItemTree}
+use Rattle.tm_laid.specs.tm_typed.declared.types.CType.{CType}
+use Rattle.tm_laid.specs.tm_typed.declared.types.CType.TheVariants as Types
+use Rattle.tm_laid.specs.tm_typed.declared.types.TypeEntry.{TypeEntry}
+use Rattle.tm_laid.specs.tm_typed.declared.scopes.Member.{Member}
+use Rattle.tm_laid.specs.tm_typed.declared.scopes.Named.{Named}
+use Rattle.tm_laid.specs.tm_typed.declared.scopes.Named.TheVariants as Names
+use Rattle.tm_laid.specs.tm_typed.declared.files.LocalEntry.{LocalEntry}
+use Rattle.tm_laid.specs.tm_typed.declared.files.TypedTask.{TypedTask}
+use Rattle.tm_laid.specs.tm_typed.Types.{no_type}
+use Rattle.tm_laid.specs.tm_typed.Scopes.{Scope, Structure, named, ctype_of, cells_of}
+use Rattle.tm_laid.specs.tm_typed.TypeRows.{is_founded}
+use Rattle.tm_laid.specs.tm_typed.CallGraph.{AreCalleesFirst, calls_in}
+use Rattle.tm_laid.specs.tm_typed.Functions.{TypedBodyTree}
+use Rattle.tm_laid.specs.tm_typed.Files.{TypedFunctionTree, FileState, TypedFileTree, first_file_state}
+use Rattle.tm_laid.specs.tm_typed.Files.{no_typed_function, typed_function, items_in, defined_by, main_of, file_of}
+use Rattle.tm_laid.specs.tm_typed.Files.{undefined_use, Closes, Ends, IsTyped}
+use Rattle.tm_laid.specs.tm_typed.WellTyped.{OnAnswer}
 use Rattle.tm_laid.specs.Paths.{listed, bodies_of, locals_in, locals_of}
 use Rattle.tm_laid.specs.Layable as Laid
 use Rattle.tm_laid.specs.Layable.{tables_of, AreParts, HasRanks, IsLayable}

@@ -20,3 +20,4 @@ pub mod MentionTyping
 pub mod SameUses
 pub mod MentionSteps
 pub mod MentionFiles
+pub mod low

@@ -6,37 +6,47 @@ use Rattle.std.proofs.lemmas.Bool.{cases_lt, cases_eq, false≢true, not-false}
 use Rattle.std.proofs.lemmas.Option.{none-some, same_Some}
 use Rattle.std.proofs.lemmas.List.{length-append, length-set, append-nil, append_assoc, append_cancel_left, drop_at, get_or_append_left, get_or_past, get_or_push, get_or-set_same, get_or-set_other}
 use Rattle.std.proofs.lemmas.List.Elements.{All-nil, All-cons}
-use Rattle.tm_terms.specs.declared.places.Place.{Place}
-use Rattle.tm_terms.specs.declared.tokens.Name.{Name}
-use Rattle.tm_terms.specs.declared.refusals.Kind.TheVariants as Kinds
-use Rattle.tm_terms.specs.declared.refusals.Refusal.{Refusal}
-use Rattle.tm_terms.specs.ExprTrees.{Tree}
-use Rattle.tm_trees.specs.DeclarationTrees.{declared_name, DeclarationTree}
-use Rattle.tm_trees.specs.FileTrees.{PartTrees, ParameterTree, a_named_parameter, an_unnamed_parameter, ParametersTree, only_void, some_parameters, FunctionTree, ItemTree, a_declaration, a_function, an_empty_item, a_mutex, a_task}
-use Rattle.tm_typed.specs.declared.scopes.Binding.{Binding}
-use Rattle.tm_typed.specs.declared.scopes.Named.{Named}
-use Rattle.tm_typed.specs.declared.scopes.Named.TheVariants as Names
-use Rattle.tm_typed.specs.declared.specifiers.Said.{Said}
-use Rattle.tm_typed.specs.declared.specifiers.Shape.{Shape}
-use Rattle.tm_typed.specs.declared.uses.Use.{Use}
-use Rattle.tm_typed.specs.declared.uses.Used.{Used}
-use Rattle.tm_typed.specs.Types.{void_number}
-use Rattle.tm_typed.specs.Scopes.{named_here}
-use Rattle.tm_typed.specs.Refusals.{then_with}
-use Rattle.tm_typed.specs.States.{State, in_scope, static}
-use Rattle.tm_typed.specs.Evaluation.{measured, folded_value}
-use Rattle.tm_typed.specs.Specifiers.{base}
-use Rattle.tm_typed.specs.Declarators.{declared, declared_pointers}
-use Rattle.tm_typed.specs.Structures.{declared_place, is_declared_here, specified}
-use Rattle.tm_typed.specs.Declarations.{linked, file_declaration}
-use Rattle.tm_typed.specs.StatementRules.{in_body}
-use Rattle.tm_typed.specs.StatementTyping.{enter, parts_in}
-use Rattle.tm_typed.specs.TypedTrees.{OperandTree}
-use Rattle.tm_typed.specs.TypedStatements.{TypedTrees}
-use Rattle.tm_typed.specs.CallGraph.{calls_in}
-use Rattle.tm_typed.specs.Functions.{is_by_value, is_of_void, parameter_rules, no_name, first_place, parameter_in, listed_parameters, parameters_in, left_names, to_file, entered_with, names_here, body_begins, Head, with_function, number_of, function_rules, called_function, called_since, function_used, TypedBodyTree, FoundBody, body_in}
-use Rattle.tm_typed.specs.Files.{TypedFunctionTree, FileState, TypedFileTree, first_file_state, no_typed_function, typed_function, declared_function, defined_function, head_of, with_body, headed, with_state, function_in, priority_of, task_scope, named_task_in, task_in, mutex_in, item_in, items_in, is_undefined, undefined_use, Closes, Ends, file_of}
-use Rattle.tm_typed.specs.WellTyped.{OnAnswer}
+use Rattle.tm_laid.specs.tm_terms.declared.places.Place.{Place}
+use Rattle.tm_laid.specs.tm_terms.declared.tokens.Name.{Name}
+use Rattle.tm_laid.specs.tm_terms.declared.refusals.Kind.TheVariants as Kinds
+use Rattle.tm_laid.specs.tm_terms.declared.refusals.Refusal.{Refusal}
+use Rattle.tm_laid.specs.tm_terms.ExprTrees.{Tree}
+use Rattle.tm_laid.specs.tm_trees.DeclarationTrees.{declared_name, DeclarationTree}
+use Rattle.tm_laid.specs.tm_trees.FileTrees.{PartTrees, ParameterTree, a_named_parameter, an_unnamed_parameter}
+use Rattle.tm_laid.specs.tm_trees.FileTrees.{ParametersTree, only_void, some_parameters, FunctionTree, ItemTree}
+use Rattle.tm_laid.specs.tm_trees.FileTrees.{a_declaration, a_function, an_empty_item, a_mutex, a_task}
+use Rattle.tm_laid.specs.tm_typed.declared.scopes.Binding.{Binding}
+use Rattle.tm_laid.specs.tm_typed.declared.scopes.Named.{Named}
+use Rattle.tm_laid.specs.tm_typed.declared.scopes.Named.TheVariants as Names
+use Rattle.tm_laid.specs.tm_typed.declared.specifiers.Said.{Said}
+use Rattle.tm_laid.specs.tm_typed.declared.specifiers.Shape.{Shape}
+use Rattle.tm_laid.specs.tm_typed.declared.uses.Use.{Use}
+use Rattle.tm_laid.specs.tm_typed.declared.uses.Used.{Used}
+use Rattle.tm_laid.specs.tm_typed.Types.{void_number}
+use Rattle.tm_laid.specs.tm_typed.Scopes.{named_here}
+use Rattle.tm_laid.specs.tm_typed.Refusals.{then_with}
+use Rattle.tm_laid.specs.tm_typed.States.{State, in_scope, static}
+use Rattle.tm_laid.specs.tm_typed.Evaluation.{measured, folded_value}
+use Rattle.tm_laid.specs.tm_typed.Specifiers.{base}
+use Rattle.tm_laid.specs.tm_typed.Declarators.{declared, declared_pointers}
+use Rattle.tm_laid.specs.tm_typed.Structures.{declared_place, is_declared_here, specified}
+use Rattle.tm_laid.specs.tm_typed.Declarations.{linked, file_declaration}
+use Rattle.tm_laid.specs.tm_typed.StatementRules.{in_body}
+use Rattle.tm_laid.specs.tm_typed.StatementTyping.{enter, parts_in}
+use Rattle.tm_laid.specs.tm_typed.TypedTrees.{OperandTree}
+use Rattle.tm_laid.specs.tm_typed.TypedStatements.{TypedTrees}
+use Rattle.tm_laid.specs.tm_typed.CallGraph.{calls_in}
+use Rattle.tm_laid.specs.tm_typed.Functions.{is_by_value, is_of_void, parameter_rules, no_name, first_place}
+use Rattle.tm_laid.specs.tm_typed.Functions.{parameter_in, listed_parameters, parameters_in, left_names, to_file}
+use Rattle.tm_laid.specs.tm_typed.Functions.{entered_with, names_here, body_begins, Head, with_function, number_of}
+use Rattle.tm_laid.specs.tm_typed.Functions.{function_rules, called_function, called_since, function_used}
+use Rattle.tm_laid.specs.tm_typed.Functions.{TypedBodyTree, FoundBody, body_in}
+use Rattle.tm_laid.specs.tm_typed.Files.{TypedFunctionTree, FileState, TypedFileTree, first_file_state}
+use Rattle.tm_laid.specs.tm_typed.Files.{no_typed_function, typed_function, declared_function, defined_function}
+use Rattle.tm_laid.specs.tm_typed.Files.{head_of, with_body, headed, with_state, function_in, priority_of, task_scope}
+use Rattle.tm_laid.specs.tm_typed.Files.{named_task_in, task_in, mutex_in, item_in, items_in, is_undefined}
+use Rattle.tm_laid.specs.tm_typed.Files.{undefined_use, Closes, Ends, file_of}
+use Rattle.tm_laid.specs.tm_typed.WellTyped.{OnAnswer}
 use Rattle.typing_laws.proofs.Steps.{then_on, then_any}
 use Rattle.typed_file_laws.specs.Mentions.{StatementsMention}
 use Rattle.typed_file_laws.specs.Sites.{is_defined_object, function_of_file, is_defined_function, SitesStand}

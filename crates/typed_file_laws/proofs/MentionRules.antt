@@ -1,40 +1,46 @@
 -- The rules of expressions mention what their operands mention.
 use Rattle.std.proofs.Common.{◌≡◌, ℕ, List, [], ◌∷◌, refl}
 use Rattle.std.specs.Prelude.{ℤ, int_le, Bool, true, false, cond, not, ◌&&◌, slice_get, Option, Some, None, Result}
-use Rattle.tm_cint.specs.declared.int_types.IntType.{IntType}
-use Rattle.tm_cint.specs.declared.int_types.IntType.TheVariants as Ints
-use Rattle.tm_cint.specs.declared.operators.BinOp.{BinOp}
-use Rattle.tm_cint.specs.declared.operators.BinOp.TheVariants as Ops
-use Rattle.tm_cint.specs.Conversions.{promoted_type, usual_type}
-use Rattle.tm_terms.specs.declared.places.Place.{Place}
-use Rattle.tm_terms.specs.declared.tokens.Name.{Name}
-use Rattle.tm_terms.specs.declared.refusals.Kind.TheVariants as Kinds
-use Rattle.tm_terms.specs.declared.refusals.Refusal.{Refusal}
-use Rattle.tm_terms.specs.declared.tokens.IntConstant.{IntConstant}
-use Rattle.tm_typed.specs.declared.types.Qualified.{Qualified}
-use Rattle.tm_typed.specs.declared.types.CType.{CType}
-use Rattle.tm_typed.specs.declared.types.CType.TheVariants as Types
-use Rattle.tm_typed.specs.declared.types.TypeEntry.{TypeEntry}
-use Rattle.tm_typed.specs.declared.types.Scalar.{Scalar}
-use Rattle.tm_typed.specs.declared.scopes.Named.{Named}
-use Rattle.tm_typed.specs.declared.scopes.Named.TheVariants as Names
-use Rattle.tm_typed.specs.declared.scopes.ObjectNumber.TheVariants as Objects
-use Rattle.tm_typed.specs.declared.scopes.Member.{Member}
-use Rattle.tm_typed.specs.declared.operands.Fold.{Fold}
-use Rattle.tm_typed.specs.declared.operands.Fold.TheVariants as Folds
-use Rattle.tm_typed.specs.declared.operands.Sort.{Sort}
-use Rattle.tm_typed.specs.declared.operands.Sort.TheVariants as Sorts
-use Rattle.tm_typed.specs.declared.expressions.Step.{Step}
-use Rattle.tm_typed.specs.declared.expressions.Unary.TheVariants as Unaries
-use Rattle.tm_typed.specs.Types.{is_same_int}
-use Rattle.tm_typed.specs.Scopes.{Scope, Function, entry, ctype_of, is_same_type, is_complete, member_of}
-use Rattle.tm_typed.specs.TypedTrees.{RvalueTree, a_null, the_same, a_unary, a_binary, a_not, an_and, an_or, a_choice, an_input_value, a_conversion, LvalueTree, an_object, an_element, a_pointed_element, a_pointed, an_arrow, a_part, RvalueTrees, Rated, OperandTree, an_lvalue, a_value}
-use Rattle.tm_typed.specs.Refusals.{refused, row, row_unless}
-use Rattle.tm_typed.specs.Operands.{qualified_as, fold_converted, fold_of, is_condition, is_structure, is_integer, is_pointer, is_null, is_void_pointer, made, integer_made, truth_made, converted, loaded, valued, is_taken, as_pointer, pointer_given, integer_given, given_to, given, scalar_of}
-use Rattle.tm_typed.specs.Rules
-use Rattle.tm_typed.specs.declared.types.CastType.{CastType}
-use Rattle.tm_typed.specs.Rules.{Pair, paired}
-use Rattle.tm_typed.specs.WellTyped.{OnAnswer}
+use Rattle.tm_laid.specs.tm_cint.declared.int_types.IntType.{IntType}
+use Rattle.tm_laid.specs.tm_cint.declared.int_types.IntType.TheVariants as Ints
+use Rattle.tm_laid.specs.tm_cint.declared.operators.BinOp.{BinOp}
+use Rattle.tm_laid.specs.tm_cint.declared.operators.BinOp.TheVariants as Ops
+use Rattle.tm_laid.specs.tm_cint.Conversions.{promoted_type, usual_type}
+use Rattle.tm_laid.specs.tm_terms.declared.places.Place.{Place}
+use Rattle.tm_laid.specs.tm_terms.declared.tokens.Name.{Name}
+use Rattle.tm_laid.specs.tm_terms.declared.refusals.Kind.TheVariants as Kinds
+use Rattle.tm_laid.specs.tm_terms.declared.refusals.Refusal.{Refusal}
+use Rattle.tm_laid.specs.tm_terms.declared.tokens.IntConstant.{IntConstant}
+use Rattle.tm_laid.specs.tm_typed.declared.types.Qualified.{Qualified}
+use Rattle.tm_laid.specs.tm_typed.declared.types.CType.{CType}
+use Rattle.tm_laid.specs.tm_typed.declared.types.CType.TheVariants as Types
+use Rattle.tm_laid.specs.tm_typed.declared.types.TypeEntry.{TypeEntry}
+use Rattle.tm_laid.specs.tm_typed.declared.types.Scalar.{Scalar}
+use Rattle.tm_laid.specs.tm_typed.declared.scopes.Named.{Named}
+use Rattle.tm_laid.specs.tm_typed.declared.scopes.Named.TheVariants as Names
+use Rattle.tm_laid.specs.tm_typed.declared.scopes.ObjectNumber.TheVariants as Objects
+use Rattle.tm_laid.specs.tm_typed.declared.scopes.Member.{Member}
+use Rattle.tm_laid.specs.tm_typed.declared.operands.Fold.{Fold}
+use Rattle.tm_laid.specs.tm_typed.declared.operands.Fold.TheVariants as Folds
+use Rattle.tm_laid.specs.tm_typed.declared.operands.Sort.{Sort}
+use Rattle.tm_laid.specs.tm_typed.declared.operands.Sort.TheVariants as Sorts
+use Rattle.tm_laid.specs.tm_typed.declared.expressions.Step.{Step}
+use Rattle.tm_laid.specs.tm_typed.declared.expressions.Unary.TheVariants as Unaries
+use Rattle.tm_laid.specs.tm_typed.Types.{is_same_int}
+use Rattle.tm_laid.specs.tm_typed.Scopes.{Scope, Function, entry, ctype_of, is_same_type, is_complete, member_of}
+use Rattle.tm_laid.specs.tm_typed.TypedTrees.{RvalueTree, a_null, the_same, a_unary, a_binary, a_not, an_and, an_or}
+use Rattle.tm_laid.specs.tm_typed.TypedTrees.{a_choice, an_input_value, a_conversion, LvalueTree, an_object, an_element}
+use Rattle.tm_laid.specs.tm_typed.TypedTrees.{a_pointed_element, a_pointed, an_arrow, a_part, RvalueTrees, Rated}
+use Rattle.tm_laid.specs.tm_typed.TypedTrees.{OperandTree, an_lvalue, a_value}
+use Rattle.tm_laid.specs.tm_typed.Refusals.{refused, row, row_unless}
+use Rattle.tm_laid.specs.tm_typed.Operands.{qualified_as, fold_converted, fold_of, is_condition, is_structure}
+use Rattle.tm_laid.specs.tm_typed.Operands.{is_integer, is_pointer, is_null, is_void_pointer, made, integer_made}
+use Rattle.tm_laid.specs.tm_typed.Operands.{truth_made, converted, loaded, valued, is_taken, as_pointer, pointer_given}
+use Rattle.tm_laid.specs.tm_typed.Operands.{integer_given, given_to, given, scalar_of}
+use Rattle.tm_laid.specs.tm_typed.Rules
+use Rattle.tm_laid.specs.tm_typed.declared.types.CastType.{CastType}
+use Rattle.tm_laid.specs.tm_typed.Rules.{Pair, paired}
+use Rattle.tm_laid.specs.tm_typed.WellTyped.{OnAnswer}
 use Rattle.typed_file_laws.specs.Mentions.{Mentions, LvalueMentions, AllMention, OperandMentions}
 use Rattle.typed_file_laws.proofs.RuleSteps.{on_row, OnSome, on_row_unless, some_any}
 

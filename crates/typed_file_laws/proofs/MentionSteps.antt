@@ -3,43 +3,65 @@ use Rattle.std.proofs.Common.{◌≡◌, ℕ, suc, List, [], ◌∷◌, ◌++◌
 use Rattle.std.specs.Prelude.{◌+◌, ℤ, Bool, true, false, cond, not, ◌&&◌, ◌||◌, is_none, is_some, All, map, Option, Some, None, Result, Ok}
 use Rattle.std.proofs.lemmas.List.{append-nil, append_assoc}
 use Rattle.std.proofs.lemmas.List.Elements.{All-nil, All-cons, All-append}
-use Rattle.tm_cint.specs.declared.int_types.IntType.{IntType}
-use Rattle.tm_terms.specs.declared.places.Place.{Place}
-use Rattle.tm_terms.specs.declared.refusals.Kind.TheVariants as Kinds
-use Rattle.tm_terms.specs.declared.refusals.Refusal.{Refusal}
-use Rattle.tm_terms.specs.declared.types_named.Storage.{Storage}
-use Rattle.tm_terms.specs.declared.types_named.Storage.TheVariants as Storages
-use Rattle.tm_terms.specs.ExprTrees.{Tree, place_of}
-use Rattle.tm_trees.specs.declared.declarations.Tag.{Tag}
-use Rattle.tm_trees.specs.DeclarationTrees.{DeclarationTree, ValueTree, an_expression, a_list, ValueTrees, no_values, and_value, InitialiserTree, InitDeclaratorTree}
-use Rattle.tm_trees.specs.FileTrees.{ForFirstTree, by_expression, by_declaration, StatementTree, a_block, a_value, an_if, an_if_else, a_while, a_do, a_for, a_switch, a_break, a_continue, a_return, a_lock, an_unlock, a_yield, PartTree, a_local, a_step, PartTrees, no_parts, and_part, CaseTree, a_case, a_default, a_case_step, CaseTrees, no_cases, and_case}
-use Rattle.tm_typed.specs.declared.types.Scalar.{Scalar}
-use Rattle.tm_typed.specs.declared.operands.Sort.{Sort}
-use Rattle.tm_typed.specs.declared.operands.Sort.TheVariants as Sorts
-use Rattle.tm_typed.specs.declared.scopes.Named.TheVariants as Names
-use Rattle.tm_typed.specs.declared.scopes.ObjectNumber.TheVariants as Objects
-use Rattle.tm_typed.specs.declared.scopes.Part.{Part}
-use Rattle.tm_typed.specs.declared.specifiers.Said.{Said}
-use Rattle.tm_typed.specs.declared.uses.Use.{Use}
-use Rattle.tm_typed.specs.Scopes.{ctype_of, named, named_here, tagged_here}
-use Rattle.tm_typed.specs.TypedTrees.{RvalueTree, Rated, OperandTree}
-use Rattle.tm_cint.specs.Conversions.{promoted_type}
-use Rattle.tm_typed.specs.Operands.{converted, valued, given, scalar_of, is_structure, is_null, is_integer, is_condition}
-use Rattle.tm_typed.specs.Refusals.{then_with, row, row_unless}
-use Rattle.tm_typed.specs.States.{State, static_type, static}
-use Rattle.tm_typed.specs.Typing.{typing, calls}
-use Rattle.tm_typed.specs.TypeNames.{is_void, type_of_name, prepared}
-use Rattle.tm_typed.specs.TypeRows.{clipped}
-use Rattle.tm_typed.specs.Uses.{uses_of}
-use Rattle.tm_typed.specs.Evaluation.{evaluated, typed_in, folded_value}
-use Rattle.tm_typed.specs.Structures.{is_no_object, is_declared_here, specified}
-use Rattle.tm_typed.specs.StaticValues.{static_value}
-use Rattle.tm_typed.specs.Initialisers.{part, is_aggregate, scalar_rules, lone_rules, given_behind, lone, list_rules, initial, initials, Given}
-use Rattle.tm_typed.specs.Declarations.{Declared, declared_by, bound_here, typedef_rules, static_cell_of, with_static, initialised_static, new_static, linked, clashes, is_other, linked_object, file_object, is_extern, is_typedef, file_rules, is_function, no_value, extern_value, extern_object, object_rules, static_object, LocalInitial, initialised_local, new_local, Locals, local_object, no_locals, local_rules, file_declared, local_declared, lone_tag, tag_rules, file_form, file_declaration, local_form, local_declaration}
-use Rattle.tm_typed.specs.TypedStatements.{GivenTree, LocalTree, TypedTree, evaluates, declares, runs_block, branches, branches_else, loops_while, loops_do, loops_for, selects, breaks, continues, returns, locks, unlocks, TypedTrees, and_statement, TypedCase, a_label, a_default_label, a_labelled_step, TypedCases, and_typed_case}
-use Rattle.tm_typed.specs.StatementRules.{Around, looping, switching, condition_rules, Selector, selector_rules, Labels, no_labels, with_label, label_rules, default_rules, return_rules, return_value_rules, mutex_rules}
-use Rattle.tm_typed.specs.StatementTyping.{value_in, condition_in, optional_value_in, optional_condition_in, return_in, selector_in, label_in, first_in, enter, leave, statement_in, part_in, parts_in, case_in, cases_in}
-use Rattle.tm_typed.specs.WellTyped.{OnAnswer}
+use Rattle.tm_laid.specs.tm_cint.declared.int_types.IntType.{IntType}
+use Rattle.tm_laid.specs.tm_terms.declared.places.Place.{Place}
+use Rattle.tm_laid.specs.tm_terms.declared.refusals.Kind.TheVariants as Kinds
+use Rattle.tm_laid.specs.tm_terms.declared.refusals.Refusal.{Refusal}
+use Rattle.tm_laid.specs.tm_terms.declared.types_named.Storage.{Storage}
+use Rattle.tm_laid.specs.tm_terms.declared.types_named.Storage.TheVariants as Storages
+use Rattle.tm_laid.specs.tm_terms.ExprTrees.{Tree, place_of}
+use Rattle.tm_laid.specs.tm_trees.declared.declarations.Tag.{Tag}
+use Rattle.tm_laid.specs.tm_trees.DeclarationTrees.{DeclarationTree, ValueTree, an_expression, a_list, ValueTrees}
+use Rattle.tm_laid.specs.tm_trees.DeclarationTrees.{no_values, and_value, InitialiserTree, InitDeclaratorTree}
+use Rattle.tm_laid.specs.tm_trees.FileTrees.{ForFirstTree, by_expression, by_declaration, StatementTree, a_block}
+use Rattle.tm_laid.specs.tm_trees.FileTrees.{a_value, an_if, an_if_else, a_while, a_do, a_for, a_switch, a_break}
+use Rattle.tm_laid.specs.tm_trees.FileTrees.{a_continue, a_return, a_lock, an_unlock, a_yield, PartTree, a_local}
+use Rattle.tm_laid.specs.tm_trees.FileTrees.{a_step, PartTrees, no_parts, and_part, CaseTree, a_case, a_default}
+use Rattle.tm_laid.specs.tm_trees.FileTrees.{a_case_step, CaseTrees, no_cases, and_case}
+use Rattle.tm_laid.specs.tm_typed.declared.types.Scalar.{Scalar}
+use Rattle.tm_laid.specs.tm_typed.declared.operands.Sort.{Sort}
+use Rattle.tm_laid.specs.tm_typed.declared.operands.Sort.TheVariants as Sorts
+use Rattle.tm_laid.specs.tm_typed.declared.scopes.Named.TheVariants as Names
+use Rattle.tm_laid.specs.tm_typed.declared.scopes.ObjectNumber.TheVariants as Objects
+use Rattle.tm_laid.specs.tm_typed.declared.scopes.Part.{Part}
+use Rattle.tm_laid.specs.tm_typed.declared.specifiers.Said.{Said}
+use Rattle.tm_laid.specs.tm_typed.declared.uses.Use.{Use}
+use Rattle.tm_laid.specs.tm_typed.Scopes.{ctype_of, named, named_here, tagged_here}
+use Rattle.tm_laid.specs.tm_typed.TypedTrees.{RvalueTree, Rated, OperandTree}
+use Rattle.tm_laid.specs.tm_cint.Conversions.{promoted_type}
+use Rattle.tm_laid.specs.tm_typed.Operands.{converted, valued, given, scalar_of, is_structure, is_null, is_integer}
+use Rattle.tm_laid.specs.tm_typed.Operands.{is_condition}
+use Rattle.tm_laid.specs.tm_typed.Refusals.{then_with, row, row_unless}
+use Rattle.tm_laid.specs.tm_typed.States.{State, static_type, static}
+use Rattle.tm_laid.specs.tm_typed.Typing.{typing, calls}
+use Rattle.tm_laid.specs.tm_typed.TypeNames.{is_void, type_of_name, prepared}
+use Rattle.tm_laid.specs.tm_typed.TypeRows.{clipped}
+use Rattle.tm_laid.specs.tm_typed.Uses.{uses_of}
+use Rattle.tm_laid.specs.tm_typed.Evaluation.{evaluated, typed_in, folded_value}
+use Rattle.tm_laid.specs.tm_typed.Structures.{is_no_object, is_declared_here, specified}
+use Rattle.tm_laid.specs.tm_typed.StaticValues.{static_value}
+use Rattle.tm_laid.specs.tm_typed.Initialisers.{part, is_aggregate, scalar_rules, lone_rules, given_behind, lone}
+use Rattle.tm_laid.specs.tm_typed.Initialisers.{list_rules, initial, initials, Given}
+use Rattle.tm_laid.specs.tm_typed.Declarations.{Declared, declared_by, bound_here, typedef_rules, static_cell_of}
+use Rattle.tm_laid.specs.tm_typed.Declarations.{with_static, initialised_static, new_static, linked, clashes, is_other}
+use Rattle.tm_laid.specs.tm_typed.Declarations.{linked_object, file_object, is_extern, is_typedef, file_rules}
+use Rattle.tm_laid.specs.tm_typed.Declarations.{is_function, no_value, extern_value, extern_object, object_rules}
+use Rattle.tm_laid.specs.tm_typed.Declarations.{static_object, LocalInitial, initialised_local, new_local, Locals}
+use Rattle.tm_laid.specs.tm_typed.Declarations.{local_object, no_locals, local_rules, file_declared, local_declared}
+use Rattle.tm_laid.specs.tm_typed.Declarations.{lone_tag, tag_rules, file_form, file_declaration, local_form}
+use Rattle.tm_laid.specs.tm_typed.Declarations.{local_declaration}
+use Rattle.tm_laid.specs.tm_typed.TypedStatements.{GivenTree, LocalTree, TypedTree, evaluates, declares, runs_block}
+use Rattle.tm_laid.specs.tm_typed.TypedStatements.{branches, branches_else, loops_while, loops_do, loops_for, selects}
+use Rattle.tm_laid.specs.tm_typed.TypedStatements.{breaks, continues, returns, locks, unlocks, TypedTrees}
+use Rattle.tm_laid.specs.tm_typed.TypedStatements.{and_statement, TypedCase, a_label, a_default_label, a_labelled_step}
+use Rattle.tm_laid.specs.tm_typed.TypedStatements.{TypedCases, and_typed_case}
+use Rattle.tm_laid.specs.tm_typed.StatementRules.{Around, looping, switching, condition_rules, Selector, selector_rules}
+use Rattle.tm_laid.specs.tm_typed.StatementRules.{Labels, no_labels, with_label, label_rules, default_rules}
+use Rattle.tm_laid.specs.tm_typed.StatementRules.{return_rules, return_value_rules, mutex_rules}
+use Rattle.tm_laid.specs.tm_typed.StatementTyping.{value_in, condition_in, optional_value_in, optional_condition_in}
+use Rattle.tm_laid.specs.tm_typed.StatementTyping.{return_in, selector_in, label_in, first_in, enter, leave}
+use Rattle.tm_laid.specs.tm_typed.StatementTyping.{statement_in, part_in, parts_in, case_in, cases_in}
+use Rattle.tm_laid.specs.tm_typed.WellTyped.{OnAnswer}
 use Rattle.typing_laws.proofs.Steps.{then_on, then_any}
 use Rattle.typed_file_laws.specs.Mentions.{Mentions, OperandMentions, MayMention, GivenMention, StatementMentions, StatementsMention, CasesMention, CaseMentions}
 use Rattle.typed_file_laws.proofs.RuleSteps.{on_row, OnSome, on_row_unless, some_any, answer_weaker}

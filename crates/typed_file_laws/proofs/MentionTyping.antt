@@ -1,35 +1,41 @@
 -- A typed expression mentions what its text uses, and its calls stand at their sites.
 use Rattle.std.proofs.Common.{◌≡◌, ℕ, suc, List, [], ◌∷◌, ◌++◌, refl, subst, arith}
 use Rattle.std.specs.Prelude.{◌+◌, Bool, true, false, slice_get, Option, Some, None, Result, Ok, Err}
-use Rattle.tm_cint.specs.declared.operators.BinOp.TheVariants as Ops
-use Rattle.tm_terms.specs.declared.places.Place.{Place}
-use Rattle.tm_terms.specs.declared.tokens.Name.{Name}
-use Rattle.tm_terms.specs.declared.refusals.Kind.TheVariants as Kinds
-use Rattle.tm_terms.specs.declared.refusals.Refusal.{Refusal}
-use Rattle.tm_terms.specs.declared.exprs.Binary.{Binary}
-use Rattle.tm_terms.specs.declared.exprs.Binary.TheVariants as Binaries
-use Rattle.tm_terms.specs.declared.exprs.Infix.{Infix}
-use Rattle.tm_terms.specs.declared.exprs.Infix.TheVariants as Infixes
-use Rattle.tm_terms.specs.declared.exprs.Prefix.{Prefix}
-use Rattle.tm_terms.specs.declared.exprs.Prefix.TheVariants as Prefixes
-use Rattle.tm_terms.specs.declared.exprs.Postfix.{Postfix}
-use Rattle.tm_terms.specs.declared.exprs.Postfix.TheVariants as Postfixes
-use Rattle.tm_terms.specs.declared.exprs.Access.{Access}
-use Rattle.tm_terms.specs.declared.exprs.Access.TheVariants as Accesses
-use Rattle.tm_terms.specs.ExprTrees.{Tree, a_name, an_integer, a_character, in_parentheses, an_input, an_islocked, a_call, a_prefix, a_sizeof_type, a_cast, an_infix, a_conditional, a_subscript, a_member, a_postfix, Arguments, no_arguments, and_argument}
-use Rattle.tm_typed.specs.declared.scopes.Named.{Named}
-use Rattle.tm_typed.specs.declared.scopes.Named.TheVariants as Names
-use Rattle.tm_typed.specs.declared.scopes.ObjectNumber.TheVariants as Objects
-use Rattle.tm_typed.specs.declared.uses.Use.{Use}
-use Rattle.tm_typed.specs.declared.uses.Used.{Used}
-use Rattle.tm_typed.specs.Scopes.{Scope, named}
-use Rattle.tm_typed.specs.TypedTrees.{Rated, OperandTree}
-use Rattle.tm_typed.specs.Refusals.{then_with, row}
-use Rattle.tm_typed.specs.Operands.{valued}
-use Rattle.tm_typed.specs.Rules.{name_rules, constant_rules, bound, input_rules, islocked_rules, sizeof_type_rules, conditional_rules, cast_rules, callee, call_rules, subscript_rules}
-use Rattle.tm_typed.specs.Typing.{CastTypes, binary_sign, compound_sign, infix_rules, prefix_rules, postfix_rules, member_rules, calls, argument_calls, typing, typing_all}
-use Rattle.tm_typed.specs.Uses.{named_use, called_use, prefix_uses, uses_of, argument_uses}
-use Rattle.tm_typed.specs.WellTyped.{OnAnswer}
+use Rattle.tm_laid.specs.tm_cint.declared.operators.BinOp.TheVariants as Ops
+use Rattle.tm_laid.specs.tm_terms.declared.places.Place.{Place}
+use Rattle.tm_laid.specs.tm_terms.declared.tokens.Name.{Name}
+use Rattle.tm_laid.specs.tm_terms.declared.refusals.Kind.TheVariants as Kinds
+use Rattle.tm_laid.specs.tm_terms.declared.refusals.Refusal.{Refusal}
+use Rattle.tm_laid.specs.tm_terms.declared.exprs.Binary.{Binary}
+use Rattle.tm_laid.specs.tm_terms.declared.exprs.Binary.TheVariants as Binaries
+use Rattle.tm_laid.specs.tm_terms.declared.exprs.Infix.{Infix}
+use Rattle.tm_laid.specs.tm_terms.declared.exprs.Infix.TheVariants as Infixes
+use Rattle.tm_laid.specs.tm_terms.declared.exprs.Prefix.{Prefix}
+use Rattle.tm_laid.specs.tm_terms.declared.exprs.Prefix.TheVariants as Prefixes
+use Rattle.tm_laid.specs.tm_terms.declared.exprs.Postfix.{Postfix}
+use Rattle.tm_laid.specs.tm_terms.declared.exprs.Postfix.TheVariants as Postfixes
+use Rattle.tm_laid.specs.tm_terms.declared.exprs.Access.{Access}
+use Rattle.tm_laid.specs.tm_terms.declared.exprs.Access.TheVariants as Accesses
+use Rattle.tm_laid.specs.tm_terms.ExprTrees.{Tree, a_name, an_integer, a_character, in_parentheses, an_input}
+use Rattle.tm_laid.specs.tm_terms.ExprTrees.{an_islocked, a_call, a_prefix, a_sizeof_type, a_cast, an_infix}
+use Rattle.tm_laid.specs.tm_terms.ExprTrees.{a_conditional, a_subscript, a_member, a_postfix, Arguments, no_arguments}
+use Rattle.tm_laid.specs.tm_terms.ExprTrees.{and_argument}
+use Rattle.tm_laid.specs.tm_typed.declared.scopes.Named.{Named}
+use Rattle.tm_laid.specs.tm_typed.declared.scopes.Named.TheVariants as Names
+use Rattle.tm_laid.specs.tm_typed.declared.scopes.ObjectNumber.TheVariants as Objects
+use Rattle.tm_laid.specs.tm_typed.declared.uses.Use.{Use}
+use Rattle.tm_laid.specs.tm_typed.declared.uses.Used.{Used}
+use Rattle.tm_laid.specs.tm_typed.Scopes.{Scope, named}
+use Rattle.tm_laid.specs.tm_typed.TypedTrees.{Rated, OperandTree}
+use Rattle.tm_laid.specs.tm_typed.Refusals.{then_with, row}
+use Rattle.tm_laid.specs.tm_typed.Operands.{valued}
+use Rattle.tm_laid.specs.tm_typed.Rules.{name_rules, constant_rules, bound, input_rules, islocked_rules}
+use Rattle.tm_laid.specs.tm_typed.Rules.{sizeof_type_rules, conditional_rules, cast_rules, callee, call_rules}
+use Rattle.tm_laid.specs.tm_typed.Rules.{subscript_rules}
+use Rattle.tm_laid.specs.tm_typed.Typing.{CastTypes, binary_sign, compound_sign, infix_rules, prefix_rules}
+use Rattle.tm_laid.specs.tm_typed.Typing.{postfix_rules, member_rules, calls, argument_calls, typing, typing_all}
+use Rattle.tm_laid.specs.tm_typed.Uses.{named_use, called_use, prefix_uses, uses_of, argument_uses}
+use Rattle.tm_laid.specs.tm_typed.WellTyped.{OnAnswer}
 use Rattle.typing_laws.proofs.Steps.{then_on, then_any}
 use Rattle.typed_file_laws.specs.Mentions.{Mentions, OperandMentions}
 use Rattle.typed_file_laws.proofs.RuleSteps.{on_row}
@@ -170,7 +176,7 @@ module _ (o : ℕ → Bool) (c : List ℕ) (types : CastTypes) (scope : Scope) w
 
   -- the operand of `sizeof` is not evaluated
   prefix_told : (site : ℕ) (op : Prefix) (us : List Use) (n : ℕ) (p : Place) (r : Result OperandTree Refusal) → OnAnswer (Told site us n) r
-      → OnAnswer (Told site (prefix_uses op us) (Rattle.tm_typed.specs.Typing.prefix_calls op n)) (then_with r (λ a. prefix_rules scope op p a))
+      → OnAnswer (Told site (prefix_uses op us) (Rattle.tm_laid.specs.tm_typed.Typing.prefix_calls op n)) (then_with r (λ a. prefix_rules scope op p a))
   prefix_told site Prefixes.Sizeof us n p r h = then_any (Told site [] 0) r (λ a. prefix_rules scope Prefixes.Sizeof p a) (λ a. tells site [] 0 (prefix_rules scope Prefixes.Sizeof p a) refl (λ u. sizeof_mentions o c scope p a))
   prefix_told site Prefixes.Increment us n p r h = then_on (Told site us n) (Told site us n) r _ h (λ a k. tells site us n (prefix_rules scope Prefixes.Increment p a) k.0 (λ u. prefix_mentions Prefixes.Increment p a (k.1 u)))
   prefix_told site Prefixes.Decrement us n p r h = then_on (Told site us n) (Told site us n) r _ h (λ a k. tells site us n (prefix_rules scope Prefixes.Decrement p a) k.0 (λ u. prefix_mentions Prefixes.Decrement p a (k.1 u)))

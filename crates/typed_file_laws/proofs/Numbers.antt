@@ -2,12 +2,19 @@
 use Rattle.std.proofs.Common.{ℕ, List, [], ◌∷◌, ◌++◌}
 use Rattle.std.specs.Prelude.{All, ℤ}
 use Rattle.std.proofs.lemmas.List.Elements.{All-nil, All-cons, All-append}
-use Rattle.tm_cint.specs.declared.int_types.IntType.{IntType}
-use Rattle.tm_cint.specs.declared.int_types.IntType.TheVariants as Ints
-use Rattle.tm_cint.specs.IntTypes.{IsIn}
-use Rattle.tm_typed.specs.TypedTrees.{RvalueTree, a_constant, a_folded, a_null, a_load, an_address, a_structure, the_same, a_unary, a_binary, a_comparison_of_pointers, a_move, a_not, an_and, an_or, a_choice, an_assignment, a_compound, a_compound_move, a_unit_step, a_pointer_step, a_function_call, an_input_value, a_probe, a_comma, a_conversion, a_discard, LvalueTree, an_object, an_element, a_pointed_element, a_pointed, an_arrow, a_part, RvalueTrees, no_rvalues, and_rvalue, OperandTree, an_lvalue, a_value}
-use Rattle.tm_typed.specs.Constants.{constants_of, lvalue_constants, all_constants, operand_constants}
-use Rattle.tm_typed.specs.WellTyped.{ValueKind, a_number, a_pointer, kind_of, kind_of_scalar, Context, IsRvalue, IsLvalue, AreArguments, IsOperand}
+use Rattle.tm_laid.specs.tm_cint.declared.int_types.IntType.{IntType}
+use Rattle.tm_laid.specs.tm_cint.declared.int_types.IntType.TheVariants as Ints
+use Rattle.tm_laid.specs.tm_cint.IntTypes.{IsIn}
+use Rattle.tm_laid.specs.tm_typed.TypedTrees.{RvalueTree, a_constant, a_folded, a_null, a_load, an_address, a_structure}
+use Rattle.tm_laid.specs.tm_typed.TypedTrees.{the_same, a_unary, a_binary, a_comparison_of_pointers, a_move, a_not}
+use Rattle.tm_laid.specs.tm_typed.TypedTrees.{an_and, an_or, a_choice, an_assignment, a_compound, a_compound_move}
+use Rattle.tm_laid.specs.tm_typed.TypedTrees.{a_unit_step, a_pointer_step, a_function_call, an_input_value, a_probe}
+use Rattle.tm_laid.specs.tm_typed.TypedTrees.{a_comma, a_conversion, a_discard, LvalueTree, an_object, an_element}
+use Rattle.tm_laid.specs.tm_typed.TypedTrees.{a_pointed_element, a_pointed, an_arrow, a_part, RvalueTrees, no_rvalues}
+use Rattle.tm_laid.specs.tm_typed.TypedTrees.{and_rvalue, OperandTree, an_lvalue, a_value}
+use Rattle.tm_laid.specs.tm_typed.Constants.{constants_of, lvalue_constants, all_constants, operand_constants}
+use Rattle.tm_laid.specs.tm_typed.WellTyped.{ValueKind, a_number, a_pointer, kind_of, kind_of_scalar, Context, IsRvalue}
+use Rattle.tm_laid.specs.tm_typed.WellTyped.{IsLvalue, AreArguments, IsOperand}
 use Rattle.typed_file_laws.specs.Lawful.{IsNumber}
 
 abbrev Numbers : List ℤ → Type 0

@@ -1,11 +1,11 @@
 -- What holds of the answer of a row.
 use Rattle.std.proofs.Common.{◌≡◌, refl}
 use Rattle.std.specs.Prelude.{Bool, true, false, Option, Some, None, Result, Ok, Err}
-use Rattle.tm_terms.specs.declared.places.Place.{Place}
-use Rattle.tm_terms.specs.declared.refusals.Kind.{Kind}
-use Rattle.tm_terms.specs.declared.refusals.Refusal.{Refusal}
-use Rattle.tm_typed.specs.Refusals.{row, row_unless}
-use Rattle.tm_typed.specs.WellTyped.{OnAnswer}
+use Rattle.tm_laid.specs.tm_terms.declared.places.Place.{Place}
+use Rattle.tm_laid.specs.tm_terms.declared.refusals.Kind.{Kind}
+use Rattle.tm_laid.specs.tm_terms.declared.refusals.Refusal.{Refusal}
+use Rattle.tm_laid.specs.tm_typed.Refusals.{row, row_unless}
+use Rattle.tm_laid.specs.tm_typed.WellTyped.{OnAnswer}
 
 -- a row that does not hold
 pub on_row : {A : Type 0} (P : A → Type 0) (b : Bool) (kind : Kind) (p : Place) (further : Result A Refusal) → (b ≡ false → OnAnswer P further) → OnAnswer P (row b kind p further)

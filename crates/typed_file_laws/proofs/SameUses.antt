@@ -1,32 +1,42 @@
 -- Specifiers and declarators use nothing, and call nothing.
 use Rattle.std.proofs.Common.{◌≡◌, ℕ, List, [], ◌∷◌, length, refl, ◌∙◌}
 use Rattle.std.specs.Prelude.{ℤ, pos, ◌+ℤ◌, Bool, true, false, cond, not, ◌||◌, is_some, Option, Some, None, Result, Ok, Err}
-use Rattle.tm_cint.specs.declared.int_types.IntType.TheVariants as Ints
-use Rattle.tm_cint.specs.IntTypes.{is_in}
-use Rattle.tm_terms.specs.declared.refusals.Kind.TheVariants as Kinds
-use Rattle.tm_terms.specs.declared.refusals.Refusal.{Refusal}
-use Rattle.tm_terms.specs.ExprTrees.{Tree, place_of}
-use Rattle.tm_trees.specs.declared.declarations.Tag.{Tag}
-use Rattle.tm_trees.specs.DeclarationTrees.{LengthTree, DeclaratorTree, a_declared_name, a_nested, declared_name, EnumeratorTree, SpecifierTree, a_plain, a_struct, an_enum, SpecifierTrees, no_specifiers, and_specifier, MemberTrees, no_members, and_members, ValueTree, an_expression, a_list, InitialiserTree, InitDeclaratorTree}
-use Rattle.tm_typed.specs.declared.types.Qualified.{Qualified}
-use Rattle.tm_typed.specs.declared.scopes.Named.{Named}
-use Rattle.tm_typed.specs.declared.scopes.Tagged.{Tagged}
-use Rattle.tm_typed.specs.declared.scopes.Tagged.TheVariants as Tagging
-use Rattle.tm_typed.specs.declared.specifiers.Said.{Said}
-use Rattle.tm_typed.specs.declared.specifiers.Shape.{Shape}
-use Rattle.tm_typed.specs.declared.uses.Use.{Use}
-use Rattle.tm_typed.specs.Scopes.{structure, tagged_here, named_here}
-use Rattle.tm_typed.specs.TypedTrees.{OperandTree}
-use Rattle.tm_typed.specs.Refusals.{then_with}
-use Rattle.tm_typed.specs.States.{State}
-use Rattle.tm_typed.specs.Typing.{typing}
-use Rattle.tm_typed.specs.TypeNames.{type_of_name, prepared}
-use Rattle.tm_typed.specs.Evaluation.{measured, folded_value}
-use Rattle.tm_typed.specs.Specifiers.{nothing_said, base, word_rules, mentioned}
-use Rattle.tm_typed.specs.Declarators.{length_named, length_rules, lengths_behind, lengths_of, declared}
-use Rattle.tm_typed.specs.Structures.{declared_place, is_no_object, Layout, no_layout, has_member, member_rules, members_declared, with_structure, opened, completed_structure, completed, opened_tag, opened_by, value_named, is_declared_here, enumerator_rules, enumerators, enumeration_tag, enumeration, structure_said, specifier, specifiers, laid_out, specified}
-use Rattle.tm_typed.specs.Declarations.{Declared, count_values, with_count, counted_by, counted, declared_by, typedef_rules, with_linkage, new_static, bound_unless, redeclared, linked_object, tag_rules}
-use Rattle.tm_typed.specs.WellTyped.{OnAnswer}
+use Rattle.tm_laid.specs.tm_cint.declared.int_types.IntType.TheVariants as Ints
+use Rattle.tm_laid.specs.tm_cint.IntTypes.{is_in}
+use Rattle.tm_laid.specs.tm_terms.declared.refusals.Kind.TheVariants as Kinds
+use Rattle.tm_laid.specs.tm_terms.declared.refusals.Refusal.{Refusal}
+use Rattle.tm_laid.specs.tm_terms.ExprTrees.{Tree, place_of}
+use Rattle.tm_laid.specs.tm_trees.declared.declarations.Tag.{Tag}
+use Rattle.tm_laid.specs.tm_trees.DeclarationTrees.{LengthTree, DeclaratorTree, a_declared_name, a_nested}
+use Rattle.tm_laid.specs.tm_trees.DeclarationTrees.{declared_name, EnumeratorTree, SpecifierTree, a_plain, a_struct}
+use Rattle.tm_laid.specs.tm_trees.DeclarationTrees.{an_enum, SpecifierTrees, no_specifiers, and_specifier, MemberTrees}
+use Rattle.tm_laid.specs.tm_trees.DeclarationTrees.{no_members, and_members, ValueTree, an_expression, a_list}
+use Rattle.tm_laid.specs.tm_trees.DeclarationTrees.{InitialiserTree, InitDeclaratorTree}
+use Rattle.tm_laid.specs.tm_typed.declared.types.Qualified.{Qualified}
+use Rattle.tm_laid.specs.tm_typed.declared.scopes.Named.{Named}
+use Rattle.tm_laid.specs.tm_typed.declared.scopes.Tagged.{Tagged}
+use Rattle.tm_laid.specs.tm_typed.declared.scopes.Tagged.TheVariants as Tagging
+use Rattle.tm_laid.specs.tm_typed.declared.specifiers.Said.{Said}
+use Rattle.tm_laid.specs.tm_typed.declared.specifiers.Shape.{Shape}
+use Rattle.tm_laid.specs.tm_typed.declared.uses.Use.{Use}
+use Rattle.tm_laid.specs.tm_typed.Scopes.{structure, tagged_here, named_here}
+use Rattle.tm_laid.specs.tm_typed.TypedTrees.{OperandTree}
+use Rattle.tm_laid.specs.tm_typed.Refusals.{then_with}
+use Rattle.tm_laid.specs.tm_typed.States.{State}
+use Rattle.tm_laid.specs.tm_typed.Typing.{typing}
+use Rattle.tm_laid.specs.tm_typed.TypeNames.{type_of_name, prepared}
+use Rattle.tm_laid.specs.tm_typed.Evaluation.{measured, folded_value}
+use Rattle.tm_laid.specs.tm_typed.Specifiers.{nothing_said, base, word_rules, mentioned}
+use Rattle.tm_laid.specs.tm_typed.Declarators.{length_named, length_rules, lengths_behind, lengths_of, declared}
+use Rattle.tm_laid.specs.tm_typed.Structures.{declared_place, is_no_object, Layout, no_layout, has_member, member_rules}
+use Rattle.tm_laid.specs.tm_typed.Structures.{members_declared, with_structure, opened, completed_structure, completed}
+use Rattle.tm_laid.specs.tm_typed.Structures.{opened_tag, opened_by, value_named, is_declared_here, enumerator_rules}
+use Rattle.tm_laid.specs.tm_typed.Structures.{enumerators, enumeration_tag, enumeration, structure_said, specifier}
+use Rattle.tm_laid.specs.tm_typed.Structures.{specifiers, laid_out, specified}
+use Rattle.tm_laid.specs.tm_typed.Declarations.{Declared, count_values, with_count, counted_by, counted, declared_by}
+use Rattle.tm_laid.specs.tm_typed.Declarations.{typedef_rules, with_linkage, new_static, bound_unless, redeclared}
+use Rattle.tm_laid.specs.tm_typed.Declarations.{linked_object, tag_rules}
+use Rattle.tm_laid.specs.tm_typed.WellTyped.{OnAnswer}
 use Rattle.typing_laws.proofs.Steps.{then_on, then_any}
 use Rattle.typed_file_laws.proofs.RuleSteps.{on_row, on_row_unless, some_any}
 

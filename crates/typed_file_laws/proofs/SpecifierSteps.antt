@@ -3,37 +3,47 @@ use Rattle.std.proofs.Common.{◌≡◌, ℕ, ◌<◌, List, [], ◌∷◌, ◌+
 use Rattle.std.specs.Prelude.{ℤ, pos, ◌+ℤ◌, Bool, true, false, cond, not, ◌||◌, is_some, drop, Option, Some, None, Result, Ok}
 use Rattle.std.proofs.lemmas.Bool.{cases_Bool, or_parts, not-false, both_ways}
 use Rattle.std.proofs.lemmas.List.Elements.{All-push, All-drop}
-use Rattle.tm_cint.specs.declared.int_types.IntType.TheVariants as Ints
-use Rattle.tm_cint.specs.IntTypes.{IsIn, is_in}
-use Rattle.tm_cint.proofs.Ranges.{IsIn-from_test}
-use Rattle.tm_terms.specs.declared.tokens.Name.{Name}
-use Rattle.tm_terms.specs.declared.refusals.Kind.TheVariants as Kinds
-use Rattle.tm_terms.specs.declared.refusals.Refusal.{Refusal}
-use Rattle.tm_terms.specs.declared.types_named.Spec.{Spec}
-use Rattle.tm_terms.specs.declared.types_named.PointerWord.{PointerWord}
-use Rattle.tm_terms.specs.ExprTrees.{Tree, place_of}
-use Rattle.tm_trees.specs.declared.declarations.Tag.{Tag}
-use Rattle.tm_trees.specs.DeclarationTrees.{LengthTree, DeclaratorTree, a_declared_name, a_nested, declared_name, EnumeratorTree, SpecifierTree, a_plain, a_struct, an_enum, SpecifierTrees, no_specifiers, and_specifier, MemberTrees, no_members, and_members}
-use Rattle.tm_typed.specs.declared.types.Qualified.{Qualified}
-use Rattle.tm_typed.specs.declared.types.CType.TheVariants as Types
-use Rattle.tm_typed.specs.declared.scopes.Named.TheVariants as Names
-use Rattle.tm_typed.specs.declared.scopes.TagBinding.{TagBinding}
-use Rattle.tm_typed.specs.declared.scopes.Tagged.{Tagged}
-use Rattle.tm_typed.specs.declared.scopes.Tagged.TheVariants as Tagging
-use Rattle.tm_typed.specs.declared.specifiers.Said.{Said}
-use Rattle.tm_typed.specs.declared.specifiers.Shape.{Shape}
-use Rattle.tm_typed.specs.Types.{int_number}
-use Rattle.tm_typed.specs.Scopes.{Scope, structure, last_declared, tagged_here, is_complete}
-use Rattle.tm_typed.specs.TypeRows.{number_in}
-use Rattle.tm_typed.specs.TypedTrees.{OperandTree}
-use Rattle.tm_typed.specs.Refusals.{then_with}
-use Rattle.tm_typed.specs.States.{State, in_scope, with_tag}
-use Rattle.tm_typed.specs.Evaluation.{measured, folded_value}
-use Rattle.tm_typed.specs.TypeNames.{bare, Made, pointed}
-use Rattle.tm_typed.specs.Specifiers.{nothing_said, said_type, plain, base, word_rules, mentioned, new_structure, with_struct_tag}
-use Rattle.tm_typed.specs.Declarators.{shaped, length_named, length_rules, lengths_behind, lengths_of, whole, shape_in, declared, declared_pointers}
-use Rattle.tm_typed.specs.Structures.{declared_place, is_no_object, Layout, no_layout, has_member, member_rules, members_declared, with_structure, opened, completed_structure, completed, opened_tag, opened_by, value_named, with_enumerator, is_declared_here, enumerator_rules, enumerators, enumeration_tag, enumeration, plain_rules, enumeration_said, structure_said, specifier, specifiers, laid_out, specified}
-use Rattle.tm_typed.specs.WellTyped.{OnAnswer}
+use Rattle.tm_laid.specs.tm_cint.declared.int_types.IntType.TheVariants as Ints
+use Rattle.tm_laid.specs.tm_cint.IntTypes.{IsIn, is_in}
+use Rattle.tm_laid.proofs.low.tm_cint.Ranges.{IsIn-from_test}
+use Rattle.tm_laid.specs.tm_terms.declared.tokens.Name.{Name}
+use Rattle.tm_laid.specs.tm_terms.declared.refusals.Kind.TheVariants as Kinds
+use Rattle.tm_laid.specs.tm_terms.declared.refusals.Refusal.{Refusal}
+use Rattle.tm_laid.specs.tm_terms.declared.types_named.Spec.{Spec}
+use Rattle.tm_laid.specs.tm_terms.declared.types_named.PointerWord.{PointerWord}
+use Rattle.tm_laid.specs.tm_terms.ExprTrees.{Tree, place_of}
+use Rattle.tm_laid.specs.tm_trees.declared.declarations.Tag.{Tag}
+use Rattle.tm_laid.specs.tm_trees.DeclarationTrees.{LengthTree, DeclaratorTree, a_declared_name, a_nested}
+use Rattle.tm_laid.specs.tm_trees.DeclarationTrees.{declared_name, EnumeratorTree, SpecifierTree, a_plain, a_struct}
+use Rattle.tm_laid.specs.tm_trees.DeclarationTrees.{an_enum, SpecifierTrees, no_specifiers, and_specifier, MemberTrees}
+use Rattle.tm_laid.specs.tm_trees.DeclarationTrees.{no_members, and_members}
+use Rattle.tm_laid.specs.tm_typed.declared.types.Qualified.{Qualified}
+use Rattle.tm_laid.specs.tm_typed.declared.types.CType.TheVariants as Types
+use Rattle.tm_laid.specs.tm_typed.declared.scopes.Named.TheVariants as Names
+use Rattle.tm_laid.specs.tm_typed.declared.scopes.TagBinding.{TagBinding}
+use Rattle.tm_laid.specs.tm_typed.declared.scopes.Tagged.{Tagged}
+use Rattle.tm_laid.specs.tm_typed.declared.scopes.Tagged.TheVariants as Tagging
+use Rattle.tm_laid.specs.tm_typed.declared.specifiers.Said.{Said}
+use Rattle.tm_laid.specs.tm_typed.declared.specifiers.Shape.{Shape}
+use Rattle.tm_laid.specs.tm_typed.Types.{int_number}
+use Rattle.tm_laid.specs.tm_typed.Scopes.{Scope, structure, last_declared, tagged_here, is_complete}
+use Rattle.tm_laid.specs.tm_typed.TypeRows.{number_in}
+use Rattle.tm_laid.specs.tm_typed.TypedTrees.{OperandTree}
+use Rattle.tm_laid.specs.tm_typed.Refusals.{then_with}
+use Rattle.tm_laid.specs.tm_typed.States.{State, in_scope, with_tag}
+use Rattle.tm_laid.specs.tm_typed.Evaluation.{measured, folded_value}
+use Rattle.tm_laid.specs.tm_typed.TypeNames.{bare, Made, pointed}
+use Rattle.tm_laid.specs.tm_typed.Specifiers.{nothing_said, said_type, plain, base, word_rules, mentioned}
+use Rattle.tm_laid.specs.tm_typed.Specifiers.{new_structure, with_struct_tag}
+use Rattle.tm_laid.specs.tm_typed.Declarators.{shaped, length_named, length_rules, lengths_behind, lengths_of, whole}
+use Rattle.tm_laid.specs.tm_typed.Declarators.{shape_in, declared, declared_pointers}
+use Rattle.tm_laid.specs.tm_typed.Structures.{declared_place, is_no_object, Layout, no_layout, has_member, member_rules}
+use Rattle.tm_laid.specs.tm_typed.Structures.{members_declared, with_structure, opened, completed_structure, completed}
+use Rattle.tm_laid.specs.tm_typed.Structures.{opened_tag, opened_by, value_named, with_enumerator, is_declared_here}
+use Rattle.tm_laid.specs.tm_typed.Structures.{enumerator_rules, enumerators, enumeration_tag, enumeration, plain_rules}
+use Rattle.tm_laid.specs.tm_typed.Structures.{enumeration_said, structure_said, specifier, specifiers, laid_out}
+use Rattle.tm_laid.specs.tm_typed.Structures.{specified}
+use Rattle.tm_laid.specs.tm_typed.WellTyped.{OnAnswer}
 use Rattle.typed_file_laws.specs.Tables.{IsType, IsTag, AreLawfulTables}
 use Rattle.typed_file_laws.specs.Lawful.{IsLawfulState}
 use Rattle.typing_laws.proofs.Steps.{then_on}

@@ -5,38 +5,42 @@ use Rattle.std.proofs.lemmas.Bool.{cases_lt, false≢true, and_from, le-leb}
 use Rattle.std.proofs.lemmas.Option.{none-some, slice_get_past}
 use Rattle.std.proofs.lemmas.List.{append-nil, append_assoc, get_or_past}
 use Rattle.std.proofs.lemmas.List.Elements.{All-weaker, All-nil, All-cons, All-push, All-append}
-use Rattle.tm_cint.specs.declared.int_types.IntType.TheVariants as Ints
-use Rattle.tm_cint.specs.IntTypes.{IsIn}
-use Rattle.tm_cint.proofs.Ranges.{IsIn-from_test}
-use Rattle.tm_terms.specs.declared.places.Place.{Place}
-use Rattle.tm_terms.specs.declared.tokens.Name.{Name}
-use Rattle.tm_terms.specs.declared.exprs.Prefix.{Prefix}
-use Rattle.tm_terms.specs.declared.exprs.Prefix.TheVariants as Prefixes
-use Rattle.tm_terms.specs.ExprTrees.{Tree, a_name, an_integer, a_character, in_parentheses, an_input, an_islocked, a_call, a_prefix, a_sizeof_type, a_cast, an_infix, a_conditional, a_subscript, a_member, a_postfix, Arguments, no_arguments, and_argument}
-use Rattle.tm_typed.specs.declared.types.Qualified.{Qualified}
-use Rattle.tm_typed.specs.declared.types.CType.{CType}
-use Rattle.tm_typed.specs.declared.types.CType.TheVariants as Types
-use Rattle.tm_typed.specs.declared.types.TypeEntry.{TypeEntry}
-use Rattle.tm_typed.specs.declared.scopes.Binding.{Binding}
-use Rattle.tm_typed.specs.declared.scopes.TagBinding.{TagBinding}
-use Rattle.tm_typed.specs.declared.scopes.Named.{Named}
-use Rattle.tm_typed.specs.declared.scopes.Named.TheVariants as Names
-use Rattle.tm_typed.specs.declared.scopes.ObjectNumber.{ObjectNumber}
-use Rattle.tm_typed.specs.declared.scopes.ObjectNumber.TheVariants as Objects
-use Rattle.tm_typed.specs.declared.files.LocalEntry.{LocalEntry}
-use Rattle.tm_typed.specs.declared.uses.Use.{Use}
-use Rattle.tm_typed.specs.declared.uses.Used.{Used}
-use Rattle.tm_typed.specs.Types.{no_type}
+use Rattle.tm_laid.specs.tm_cint.declared.int_types.IntType.TheVariants as Ints
+use Rattle.tm_laid.specs.tm_cint.IntTypes.{IsIn}
+use Rattle.tm_laid.proofs.low.tm_cint.Ranges.{IsIn-from_test}
+use Rattle.tm_laid.specs.tm_terms.declared.places.Place.{Place}
+use Rattle.tm_laid.specs.tm_terms.declared.tokens.Name.{Name}
+use Rattle.tm_laid.specs.tm_terms.declared.exprs.Prefix.{Prefix}
+use Rattle.tm_laid.specs.tm_terms.declared.exprs.Prefix.TheVariants as Prefixes
+use Rattle.tm_laid.specs.tm_terms.ExprTrees.{Tree, a_name, an_integer, a_character, in_parentheses, an_input}
+use Rattle.tm_laid.specs.tm_terms.ExprTrees.{an_islocked, a_call, a_prefix, a_sizeof_type, a_cast, an_infix}
+use Rattle.tm_laid.specs.tm_terms.ExprTrees.{a_conditional, a_subscript, a_member, a_postfix, Arguments, no_arguments}
+use Rattle.tm_laid.specs.tm_terms.ExprTrees.{and_argument}
+use Rattle.tm_laid.specs.tm_typed.declared.types.Qualified.{Qualified}
+use Rattle.tm_laid.specs.tm_typed.declared.types.CType.{CType}
+use Rattle.tm_laid.specs.tm_typed.declared.types.CType.TheVariants as Types
+use Rattle.tm_laid.specs.tm_typed.declared.types.TypeEntry.{TypeEntry}
+use Rattle.tm_laid.specs.tm_typed.declared.scopes.Binding.{Binding}
+use Rattle.tm_laid.specs.tm_typed.declared.scopes.TagBinding.{TagBinding}
+use Rattle.tm_laid.specs.tm_typed.declared.scopes.Named.{Named}
+use Rattle.tm_laid.specs.tm_typed.declared.scopes.Named.TheVariants as Names
+use Rattle.tm_laid.specs.tm_typed.declared.scopes.ObjectNumber.{ObjectNumber}
+use Rattle.tm_laid.specs.tm_typed.declared.scopes.ObjectNumber.TheVariants as Objects
+use Rattle.tm_laid.specs.tm_typed.declared.files.LocalEntry.{LocalEntry}
+use Rattle.tm_laid.specs.tm_typed.declared.uses.Use.{Use}
+use Rattle.tm_laid.specs.tm_typed.declared.uses.Used.{Used}
+use Rattle.tm_laid.specs.tm_typed.Types.{no_type}
 use Rattle.typed_file_laws.proofs.TableStructures.{structure_at}
-use Rattle.tm_typed.specs.Scopes.{Scope, Structure, Function, no_structure, named, entry, ctype_of, structure, is_complete, size_by, size_of}
-use Rattle.tm_typed.specs.TypedTrees.{OperandTree}
-use Rattle.tm_typed.specs.States.{Static, State, in_scope, with_name}
-use Rattle.tm_typed.specs.Typing.{typing, calls}
-use Rattle.tm_typed.specs.TypeNames.{type_of_name, prepared}
-use Rattle.tm_typed.specs.Uses.{uses_of, argument_uses, named_use, called_use, prefix_uses}
-use Rattle.tm_typed.specs.Constants.{operand_constants}
-use Rattle.tm_typed.specs.Evaluation.{evaluated, typed_in, measured}
-use Rattle.tm_typed.specs.WellTyped.{OnAnswer, IsLawful, IsOperand}
+use Rattle.tm_laid.specs.tm_typed.Scopes.{Scope, Structure, Function, no_structure, named, entry, ctype_of, structure}
+use Rattle.tm_laid.specs.tm_typed.Scopes.{is_complete, size_by, size_of}
+use Rattle.tm_laid.specs.tm_typed.TypedTrees.{OperandTree}
+use Rattle.tm_laid.specs.tm_typed.States.{Static, State, in_scope, with_name}
+use Rattle.tm_laid.specs.tm_typed.Typing.{typing, calls}
+use Rattle.tm_laid.specs.tm_typed.TypeNames.{type_of_name, prepared}
+use Rattle.tm_laid.specs.tm_typed.Uses.{uses_of, argument_uses, named_use, called_use, prefix_uses}
+use Rattle.tm_laid.specs.tm_typed.Constants.{operand_constants}
+use Rattle.tm_laid.specs.tm_typed.Evaluation.{evaluated, typed_in, measured}
+use Rattle.tm_laid.specs.tm_typed.WellTyped.{OnAnswer, IsLawful, IsOperand}
 use Rattle.c_expr_typing.proofs.WellTypedWhole.{typing_fits}
 use Rattle.typed_file_laws.specs.Tables.{IsType, IsMade, IsTag, AreLawfulTables}
 use Rattle.typed_file_laws.specs.Lawful.{object_type, context, IsBound, IsLinked, IsUse, IsFunction, IsNumber, IsLawfulState}

@@ -4,41 +4,51 @@ use Rattle.std.specs.Prelude.{ℤ, Bool, true, false, not, ◌||◌, All, take, 
 use Rattle.std.proofs.lemmas.Bool.{not-false, false≢true}
 use Rattle.std.proofs.lemmas.List.{append-nil, take_at}
 use Rattle.std.proofs.lemmas.List.Elements.{All-take}
-use Rattle.tm_cint.specs.declared.int_types.IntType.{IntType}
-use Rattle.tm_cint.specs.IntTypes.{IsIn}
-use Rattle.tm_cint.specs.Conversions.{converted_value}
-use Rattle.tm_terms.specs.declared.places.Place.{Place}
-use Rattle.tm_terms.specs.declared.refusals.Kind.TheVariants as Kinds
-use Rattle.tm_terms.specs.declared.refusals.Refusal.{Refusal}
-use Rattle.tm_terms.specs.ExprTrees.{Tree, place_of}
-use Rattle.tm_trees.specs.FileTrees.{ForFirstTree, by_expression, by_declaration, StatementTree, a_block, a_value, an_if, an_if_else, a_while, a_do, a_for, a_switch, a_break, a_continue, a_return, a_lock, an_unlock, a_yield, PartTree, a_local, a_step, PartTrees, no_parts, and_part, CaseTree, a_case, a_default, a_case_step, CaseTrees, no_cases, and_case}
-use Rattle.tm_typed.specs.declared.types.CType.{CType}
-use Rattle.tm_typed.specs.declared.types.CType.TheVariants as Types
-use Rattle.tm_typed.specs.declared.operands.Sort.{Sort}
-use Rattle.tm_typed.specs.declared.operands.Sort.TheVariants as Sorts
-use Rattle.tm_typed.specs.declared.scopes.Binding.{Binding}
-use Rattle.tm_typed.specs.declared.scopes.TagBinding.{TagBinding}
-use Rattle.tm_typed.specs.declared.scopes.Named.{Named}
-use Rattle.tm_typed.specs.declared.scopes.Named.TheVariants as Names
-use Rattle.tm_typed.specs.Scopes.{named, ctype_of}
-use Rattle.tm_typed.specs.TypedTrees.{RvalueTree, Rated}
-use Rattle.tm_typed.specs.Operands.{valued, given, is_structure, is_condition}
-use Rattle.tm_typed.specs.TypeNames.{is_void}
-use Rattle.tm_typed.specs.Refusals.{then_with, row}
-use Rattle.tm_typed.specs.States.{State, in_scope}
-use Rattle.tm_typed.specs.Evaluation.{folded_value}
-use Rattle.tm_typed.specs.Declarations.{Locals, local_declaration}
-use Rattle.tm_typed.specs.WellTyped.{a_number, kind_of, OnAnswer, Context, IsRvalue, IsRated, Extends}
-use Rattle.tm_typed.specs.TypedStatements.{TypedTree, evaluates, declares, breaks, continues, returns, locks, unlocks, TypedTrees, TypedCase, a_label, a_default_label, a_labelled_step, TypedCases, and_typed_case}
-use Rattle.tm_typed.specs.StatementRules.{Around, looping, switching, condition_rules, Selector, selector_rules, Labels, no_labels, with_label, is_labelled, label_rules, default_rules, return_rules, return_value_rules, mutex_rules}
-use Rattle.tm_typed.specs.StatementTyping.{value_in, condition_in, optional_value_in, optional_condition_in, return_in, selector_in, label_in, first_in, enter, leave, statement_in, part_in, parts_in, case_in, cases_in}
+use Rattle.tm_laid.specs.tm_cint.declared.int_types.IntType.{IntType}
+use Rattle.tm_laid.specs.tm_cint.IntTypes.{IsIn}
+use Rattle.tm_laid.specs.tm_cint.Conversions.{converted_value}
+use Rattle.tm_laid.specs.tm_terms.declared.places.Place.{Place}
+use Rattle.tm_laid.specs.tm_terms.declared.refusals.Kind.TheVariants as Kinds
+use Rattle.tm_laid.specs.tm_terms.declared.refusals.Refusal.{Refusal}
+use Rattle.tm_laid.specs.tm_terms.ExprTrees.{Tree, place_of}
+use Rattle.tm_laid.specs.tm_trees.FileTrees.{ForFirstTree, by_expression, by_declaration, StatementTree, a_block}
+use Rattle.tm_laid.specs.tm_trees.FileTrees.{a_value, an_if, an_if_else, a_while, a_do, a_for, a_switch, a_break}
+use Rattle.tm_laid.specs.tm_trees.FileTrees.{a_continue, a_return, a_lock, an_unlock, a_yield, PartTree, a_local}
+use Rattle.tm_laid.specs.tm_trees.FileTrees.{a_step, PartTrees, no_parts, and_part, CaseTree, a_case, a_default}
+use Rattle.tm_laid.specs.tm_trees.FileTrees.{a_case_step, CaseTrees, no_cases, and_case}
+use Rattle.tm_laid.specs.tm_typed.declared.types.CType.{CType}
+use Rattle.tm_laid.specs.tm_typed.declared.types.CType.TheVariants as Types
+use Rattle.tm_laid.specs.tm_typed.declared.operands.Sort.{Sort}
+use Rattle.tm_laid.specs.tm_typed.declared.operands.Sort.TheVariants as Sorts
+use Rattle.tm_laid.specs.tm_typed.declared.scopes.Binding.{Binding}
+use Rattle.tm_laid.specs.tm_typed.declared.scopes.TagBinding.{TagBinding}
+use Rattle.tm_laid.specs.tm_typed.declared.scopes.Named.{Named}
+use Rattle.tm_laid.specs.tm_typed.declared.scopes.Named.TheVariants as Names
+use Rattle.tm_laid.specs.tm_typed.Scopes.{named, ctype_of}
+use Rattle.tm_laid.specs.tm_typed.TypedTrees.{RvalueTree, Rated}
+use Rattle.tm_laid.specs.tm_typed.Operands.{valued, given, is_structure, is_condition}
+use Rattle.tm_laid.specs.tm_typed.TypeNames.{is_void}
+use Rattle.tm_laid.specs.tm_typed.Refusals.{then_with, row}
+use Rattle.tm_laid.specs.tm_typed.States.{State, in_scope}
+use Rattle.tm_laid.specs.tm_typed.Evaluation.{folded_value}
+use Rattle.tm_laid.specs.tm_typed.Declarations.{Locals, local_declaration}
+use Rattle.tm_laid.specs.tm_typed.WellTyped.{a_number, kind_of, OnAnswer, Context, IsRvalue, IsRated, Extends}
+use Rattle.tm_laid.specs.tm_typed.TypedStatements.{TypedTree, evaluates, declares, breaks, continues, returns, locks}
+use Rattle.tm_laid.specs.tm_typed.TypedStatements.{unlocks, TypedTrees, TypedCase, a_label, a_default_label}
+use Rattle.tm_laid.specs.tm_typed.TypedStatements.{a_labelled_step, TypedCases, and_typed_case}
+use Rattle.tm_laid.specs.tm_typed.StatementRules.{Around, looping, switching, condition_rules, Selector, selector_rules}
+use Rattle.tm_laid.specs.tm_typed.StatementRules.{Labels, no_labels, with_label, is_labelled, label_rules}
+use Rattle.tm_laid.specs.tm_typed.StatementRules.{default_rules, return_rules, return_value_rules, mutex_rules}
+use Rattle.tm_laid.specs.tm_typed.StatementTyping.{value_in, condition_in, optional_value_in, optional_condition_in}
+use Rattle.tm_laid.specs.tm_typed.StatementTyping.{return_in, selector_in, label_in, first_in, enter, leave}
+use Rattle.tm_laid.specs.tm_typed.StatementTyping.{statement_in, part_in, parts_in, case_in, cases_in}
 use Rattle.c_expr_typing.proofs.WellTypedRules.{converted_fits, valued_fits, condition_of}
 use Rattle.typed_file_laws.specs.Tables.{IsType, IsTag}
 use Rattle.typed_file_laws.specs.Lawful.{context, IsBound, IsLawfulState}
 use Rattle.typed_file_laws.specs.Bodies.{IsAnyRvalue, IsTest, IfGiven, IsReturned, IsStatement, AreStatements, AreParts, IsPart}
 use Rattle.typing_laws.proofs.Steps.{then_on, then_any}
 use Rattle.typed_file_laws.proofs.RuleSteps.{on_row, OnSome, on_row_unless}
-use Rattle.c_folds.proofs.ConvertedValues.{converted_is_in}
+use Rattle.c_expr_typing.proofs.low.c_folds.ConvertedValues.{converted_is_in}
 use Rattle.typed_file_laws.proofs.TableGrowth.{type_stays}
 use Rattle.typed_file_laws.proofs.StateSteps.{rescoped, rescoped_grows, rescoped_lawful, Keeps, keeps_on, AreBound, all_bound, all_linked, all_uses, functions_stay, statics_stay, locals_stay, Continues, continues_none, continues_on, label_noted, names_stand}
 use Rattle.typed_file_laws.proofs.Growing.{extends_by, extends, rvalue_stays, any_stays, test_stays, optional_stays, statement_stays, statements_stay, parts_stay, part_stays}

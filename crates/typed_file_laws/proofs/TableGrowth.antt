@@ -5,15 +5,16 @@ use Rattle.std.specs.List.{position_or_len}
 use Rattle.std.proofs.lemmas.Bool.{cases_lt, false≢true}
 use Rattle.std.proofs.lemmas.List.{length-append, append_assoc, append-nil, get_or_append_left, get_or_past}
 use Rattle.std.proofs.lemmas.List.Elements.{All-weaker, All-nil, All-cons}
-use Rattle.tm_typed.specs.declared.types.CType.{CType}
-use Rattle.tm_typed.specs.declared.types.CType.TheVariants as Types
-use Rattle.tm_typed.specs.declared.types.TypeEntry.{TypeEntry}
-use Rattle.tm_typed.specs.declared.scopes.Member.{Member}
-use Rattle.tm_typed.specs.declared.scopes.Tagged.{Tagged}
-use Rattle.tm_typed.specs.declared.scopes.Tagged.TheVariants as Tagging
-use Rattle.tm_typed.specs.Types.{no_type}
-use Rattle.tm_typed.specs.Scopes.{Scope, Structure, entry, ctype_of, structure, is_complete_type, is_complete, cells_by, cells_of, abstract_cells_by, abstract_cells_of}
-use Rattle.tm_typed.specs.TypeRows.{clipped, is_same_ctype, cells_in, abstract_cells_in, number_in}
+use Rattle.tm_laid.specs.tm_typed.declared.types.CType.{CType}
+use Rattle.tm_laid.specs.tm_typed.declared.types.CType.TheVariants as Types
+use Rattle.tm_laid.specs.tm_typed.declared.types.TypeEntry.{TypeEntry}
+use Rattle.tm_laid.specs.tm_typed.declared.scopes.Member.{Member}
+use Rattle.tm_laid.specs.tm_typed.declared.scopes.Tagged.{Tagged}
+use Rattle.tm_laid.specs.tm_typed.declared.scopes.Tagged.TheVariants as Tagging
+use Rattle.tm_laid.specs.tm_typed.Types.{no_type}
+use Rattle.tm_laid.specs.tm_typed.Scopes.{Scope, Structure, entry, ctype_of, structure, is_complete_type, is_complete}
+use Rattle.tm_laid.specs.tm_typed.Scopes.{cells_by, cells_of, abstract_cells_by, abstract_cells_of}
+use Rattle.tm_laid.specs.tm_typed.TypeRows.{clipped, is_same_ctype, cells_in, abstract_cells_in, number_in}
 use Rattle.tm_laid.specs.TypeCells.{summed}
 use Rattle.typed_file_laws.specs.Tables.{IsType, IsMade, form, IsRow, AreMembers, IsStructure, IsTag}
 

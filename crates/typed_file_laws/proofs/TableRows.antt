@@ -4,16 +4,18 @@ use Rattle.std.specs.Prelude.{◌+◌, ◌*◌, ◌^◌, Bool, true, false, cond
 use Rattle.std.proofs.lemmas.Bool.{cases_lt, cases_eq, false≢true, lt-ltb, le-ltb, eqb-true, eqb-false, eq-eqb, and_from}
 use Rattle.std.proofs.lemmas.List.{length-append, get_or_past, get_or_push}
 use Rattle.std.proofs.lemmas.List.Elements.{All-weaker, All-push, All-get_or}
-use Rattle.tm_cint.specs.declared.int_types.IntType.{IntType}
-use Rattle.tm_cint.specs.declared.int_types.IntType.TheVariants as Ints
-use Rattle.tm_typed.specs.declared.types.CType.{CType}
-use Rattle.tm_typed.specs.declared.types.CType.TheVariants as Types
-use Rattle.tm_typed.specs.declared.types.TypeEntry.{TypeEntry}
-use Rattle.tm_typed.specs.declared.scopes.Member.{Member}
-use Rattle.tm_typed.specs.declared.scopes.TagBinding.{TagBinding}
-use Rattle.tm_typed.specs.Types.{no_type, int_index, is_same_int, bytes_of}
-use Rattle.tm_typed.specs.Scopes.{Scope, Structure, no_structure, entry, ctype_of, structure, is_complete_type, size_of}
-use Rattle.tm_typed.specs.TypeRows.{wrapped, is_same_bool, is_same_ctype, class_at, apart_from_const, size_in, number_in, row_in, is_founded, with_row, with_type}
+use Rattle.tm_laid.specs.tm_cint.declared.int_types.IntType.{IntType}
+use Rattle.tm_laid.specs.tm_cint.declared.int_types.IntType.TheVariants as Ints
+use Rattle.tm_laid.specs.tm_typed.declared.types.CType.{CType}
+use Rattle.tm_laid.specs.tm_typed.declared.types.CType.TheVariants as Types
+use Rattle.tm_laid.specs.tm_typed.declared.types.TypeEntry.{TypeEntry}
+use Rattle.tm_laid.specs.tm_typed.declared.scopes.Member.{Member}
+use Rattle.tm_laid.specs.tm_typed.declared.scopes.TagBinding.{TagBinding}
+use Rattle.tm_laid.specs.tm_typed.Types.{no_type, int_index, is_same_int, bytes_of}
+use Rattle.tm_laid.specs.tm_typed.Scopes.{Scope, Structure, no_structure, entry, ctype_of, structure, is_complete_type}
+use Rattle.tm_laid.specs.tm_typed.Scopes.{size_of}
+use Rattle.tm_laid.specs.tm_typed.TypeRows.{wrapped, is_same_bool, is_same_ctype, class_at, apart_from_const, size_in}
+use Rattle.tm_laid.specs.tm_typed.TypeRows.{number_in, row_in, is_founded, with_row, with_type}
 use Rattle.typed_file_laws.specs.Tables.{IsType, IsMade, form, IsRow, AreMembers, IsStructure, IsTag, complete_count, AreRanked, AreLawfulTables}
 use Rattle.typed_file_laws.proofs.TableGrowth.{TablesGrow, grow_none, grow_on, entry_stays, known_is_type, made_stays, cells_in_stay, abstracts_in_stay, rows_stay, structures_stay, members_known, tag_stays, place, place_within, passes_there, number_stays}
 

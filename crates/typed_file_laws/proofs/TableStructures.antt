@@ -4,18 +4,19 @@ use Rattle.std.specs.Prelude.{◌+◌, Option, Some, None, Bool, true, false, co
 use Rattle.std.proofs.lemmas.Bool.{cases_lt, cases_eq, false≢true, both_ways, eqb-false, eq-eqb, ne_eqb}
 use Rattle.std.proofs.lemmas.List.{length-append, length-set, append-nil, get_or_past, get_or-set_same, get_or-set_other}
 use Rattle.std.proofs.lemmas.List.Elements.{All-weaker, All-push, All-get_or, All-set}
-use Rattle.tm_terms.specs.declared.tokens.Name.{Name}
-use Rattle.tm_typed.specs.declared.types.Qualified.{Qualified}
-use Rattle.tm_typed.specs.declared.types.CType.{CType}
-use Rattle.tm_typed.specs.declared.types.CType.TheVariants as Types
-use Rattle.tm_typed.specs.declared.scopes.Member.{Member}
-use Rattle.tm_typed.specs.declared.scopes.TagBinding.{TagBinding}
-use Rattle.tm_typed.specs.declared.scopes.Tagged.{Tagged}
-use Rattle.tm_typed.specs.declared.scopes.Tagged.TheVariants as Tagging
-use Rattle.tm_typed.specs.Scopes.{Scope, Structure, no_structure, ctype_of, structure, is_complete_type, is_complete, cells_of, abstract_cells_of}
-use Rattle.tm_typed.specs.TypeRows.{clipped, is_same_ctype, number_in, row_in, is_founded, with_row, with_type}
-use Rattle.tm_typed.specs.Specifiers.{new_structure, with_struct_tag, mentioned_tag}
-use Rattle.tm_typed.specs.Structures.{Layout, no_layout, padding, with_member, completed_structure}
+use Rattle.tm_laid.specs.tm_terms.declared.tokens.Name.{Name}
+use Rattle.tm_laid.specs.tm_typed.declared.types.Qualified.{Qualified}
+use Rattle.tm_laid.specs.tm_typed.declared.types.CType.{CType}
+use Rattle.tm_laid.specs.tm_typed.declared.types.CType.TheVariants as Types
+use Rattle.tm_laid.specs.tm_typed.declared.scopes.Member.{Member}
+use Rattle.tm_laid.specs.tm_typed.declared.scopes.TagBinding.{TagBinding}
+use Rattle.tm_laid.specs.tm_typed.declared.scopes.Tagged.{Tagged}
+use Rattle.tm_laid.specs.tm_typed.declared.scopes.Tagged.TheVariants as Tagging
+use Rattle.tm_laid.specs.tm_typed.Scopes.{Scope, Structure, no_structure, ctype_of, structure, is_complete_type}
+use Rattle.tm_laid.specs.tm_typed.Scopes.{is_complete, cells_of, abstract_cells_of}
+use Rattle.tm_laid.specs.tm_typed.TypeRows.{clipped, is_same_ctype, number_in, row_in, is_founded, with_row, with_type}
+use Rattle.tm_laid.specs.tm_typed.Specifiers.{new_structure, with_struct_tag, mentioned_tag}
+use Rattle.tm_laid.specs.tm_typed.Structures.{Layout, no_layout, padding, with_member, completed_structure}
 use Rattle.tm_laid.specs.TypeCells.{summed}
 use Rattle.typed_file_laws.specs.Tables.{IsType, IsMade, IsRow, AreMembers, IsStructure, IsTag, complete_count, AreRanked, AreLawfulTables}
 use Rattle.typed_file_laws.proofs.TableGrowth.{TablesGrow, grow_on, known_is_type, rows_stay, members_stay, summed_stays, abstract_sum_stays, structure_stays, structures_stay, members_known, tag_stays, place_within, number_stays}

@@ -3,42 +3,48 @@ use Rattle.std.proofs.Common.{◌≡◌, ℕ, ◌<◌, List, [], ◌∷◌, leng
 use Rattle.std.specs.Prelude.{Bool, true, false, cond, not, ◌||◌, All, take, drop, Option, Some, None, option_map, Result, Ok, Err}
 use Rattle.std.proofs.lemmas.Bool.{or_parts, not-false, false≢true}
 use Rattle.std.proofs.lemmas.List.Elements.{All-head, All-tail}
-use Rattle.tm_cint.specs.declared.int_types.IntType.{IntType}
-use Rattle.tm_cint.specs.declared.int_types.IntType.TheVariants as Ints
-use Rattle.tm_terms.specs.declared.places.Place.{Place}
-use Rattle.tm_terms.specs.declared.tokens.Name.{Name}
-use Rattle.tm_terms.specs.declared.refusals.Refusal.{Refusal}
-use Rattle.tm_terms.specs.declared.types_named.Spec.{Spec}
-use Rattle.tm_terms.specs.declared.types_named.SpecWord.{SpecWord}
-use Rattle.tm_terms.specs.declared.types_named.SpecWord.TheVariants as Specs
-use Rattle.tm_terms.specs.declared.types_named.Qualifier.{Qualifier}
-use Rattle.tm_terms.specs.declared.types_named.Qualifier.TheVariants as Qualifiers
-use Rattle.tm_terms.specs.declared.types_named.Basic.{Basic}
-use Rattle.tm_terms.specs.declared.types_named.Basic.TheVariants as Basics
-use Rattle.tm_terms.specs.declared.types_named.TagKind.TheVariants as Tags
-use Rattle.tm_terms.specs.declared.types_named.PointerWord.{PointerWord}
-use Rattle.tm_terms.specs.declared.types_named.PointerWord.TheVariants as PointerWords
-use Rattle.tm_terms.specs.Names.{is_same_name}
-use Rattle.tm_terms.specs.ExprTrees.{TypeTree, Tree, a_name, an_integer, a_character, in_parentheses, an_input, an_islocked, a_call, a_prefix, a_sizeof_type, a_cast, an_infix, a_conditional, a_subscript, a_member, a_postfix, Arguments, no_arguments, and_argument}
-use Rattle.tm_trees.specs.DeclarationTrees.{DeclaratorTree, a_declared_name, a_nested}
-use Rattle.tm_typed.specs.declared.types.Qualified.{Qualified}
-use Rattle.tm_typed.specs.declared.types.CType.{CType}
-use Rattle.tm_typed.specs.declared.types.CType.TheVariants as Types
-use Rattle.tm_typed.specs.declared.scopes.Binding.{Binding}
-use Rattle.tm_typed.specs.declared.scopes.TagBinding.{TagBinding}
-use Rattle.tm_typed.specs.declared.scopes.Named.{Named}
-use Rattle.tm_typed.specs.declared.scopes.Named.TheVariants as Names
-use Rattle.tm_typed.specs.declared.scopes.Tagged.{Tagged}
-use Rattle.tm_typed.specs.declared.scopes.Tagged.TheVariants as Tagging
-use Rattle.tm_typed.specs.declared.specifiers.Said.{Said}
-use Rattle.tm_typed.specs.declared.specifiers.Shape.{Shape}
-use Rattle.tm_typed.specs.Types.{void_number, int_number}
-use Rattle.tm_typed.specs.Scopes.{Scope, or_else, last_declared, named, tagged, is_complete}
-use Rattle.tm_typed.specs.TypeRows.{with_type}
-use Rattle.tm_typed.specs.Specifiers.{nothing_said, said_qualifier, said_basic, integer_said, type_said, base, alias_rules, struct_rules, enum_rules, word_rules, mentioned}
-use Rattle.tm_typed.specs.TypeNames.{bare, pointer_to, pointer_word, with_pointer_word, Made, pointed, words_said, all_mentioned, with_pointers, with_type_name, prepared, all_prepared}
-use Rattle.tm_typed.specs.Declarators.{is_no_element, array_of, arrays_of, shaped}
-use Rattle.tm_typed.specs.WellTyped.{OnAnswer}
+use Rattle.tm_laid.specs.tm_cint.declared.int_types.IntType.{IntType}
+use Rattle.tm_laid.specs.tm_cint.declared.int_types.IntType.TheVariants as Ints
+use Rattle.tm_laid.specs.tm_terms.declared.places.Place.{Place}
+use Rattle.tm_laid.specs.tm_terms.declared.tokens.Name.{Name}
+use Rattle.tm_laid.specs.tm_terms.declared.refusals.Refusal.{Refusal}
+use Rattle.tm_laid.specs.tm_terms.declared.types_named.Spec.{Spec}
+use Rattle.tm_laid.specs.tm_terms.declared.types_named.SpecWord.{SpecWord}
+use Rattle.tm_laid.specs.tm_terms.declared.types_named.SpecWord.TheVariants as Specs
+use Rattle.tm_laid.specs.tm_terms.declared.types_named.Qualifier.{Qualifier}
+use Rattle.tm_laid.specs.tm_terms.declared.types_named.Qualifier.TheVariants as Qualifiers
+use Rattle.tm_laid.specs.tm_terms.declared.types_named.Basic.{Basic}
+use Rattle.tm_laid.specs.tm_terms.declared.types_named.Basic.TheVariants as Basics
+use Rattle.tm_laid.specs.tm_terms.declared.types_named.TagKind.TheVariants as Tags
+use Rattle.tm_laid.specs.tm_terms.declared.types_named.PointerWord.{PointerWord}
+use Rattle.tm_laid.specs.tm_terms.declared.types_named.PointerWord.TheVariants as PointerWords
+use Rattle.tm_laid.specs.tm_terms.Names.{is_same_name}
+use Rattle.tm_laid.specs.tm_terms.ExprTrees.{TypeTree, Tree, a_name, an_integer, a_character, in_parentheses, an_input}
+use Rattle.tm_laid.specs.tm_terms.ExprTrees.{an_islocked, a_call, a_prefix, a_sizeof_type, a_cast, an_infix}
+use Rattle.tm_laid.specs.tm_terms.ExprTrees.{a_conditional, a_subscript, a_member, a_postfix, Arguments, no_arguments}
+use Rattle.tm_laid.specs.tm_terms.ExprTrees.{and_argument}
+use Rattle.tm_laid.specs.tm_trees.DeclarationTrees.{DeclaratorTree, a_declared_name, a_nested}
+use Rattle.tm_laid.specs.tm_typed.declared.types.Qualified.{Qualified}
+use Rattle.tm_laid.specs.tm_typed.declared.types.CType.{CType}
+use Rattle.tm_laid.specs.tm_typed.declared.types.CType.TheVariants as Types
+use Rattle.tm_laid.specs.tm_typed.declared.scopes.Binding.{Binding}
+use Rattle.tm_laid.specs.tm_typed.declared.scopes.TagBinding.{TagBinding}
+use Rattle.tm_laid.specs.tm_typed.declared.scopes.Named.{Named}
+use Rattle.tm_laid.specs.tm_typed.declared.scopes.Named.TheVariants as Names
+use Rattle.tm_laid.specs.tm_typed.declared.scopes.Tagged.{Tagged}
+use Rattle.tm_laid.specs.tm_typed.declared.scopes.Tagged.TheVariants as Tagging
+use Rattle.tm_laid.specs.tm_typed.declared.specifiers.Said.{Said}
+use Rattle.tm_laid.specs.tm_typed.declared.specifiers.Shape.{Shape}
+use Rattle.tm_laid.specs.tm_typed.Types.{void_number, int_number}
+use Rattle.tm_laid.specs.tm_typed.Scopes.{Scope, or_else, last_declared, named, tagged, is_complete}
+use Rattle.tm_laid.specs.tm_typed.TypeRows.{with_type}
+use Rattle.tm_laid.specs.tm_typed.Specifiers.{nothing_said, said_qualifier, said_basic, integer_said, type_said, base}
+use Rattle.tm_laid.specs.tm_typed.Specifiers.{alias_rules, struct_rules, enum_rules, word_rules, mentioned}
+use Rattle.tm_laid.specs.tm_typed.TypeNames.{bare, pointer_to, pointer_word, with_pointer_word, Made, pointed}
+use Rattle.tm_laid.specs.tm_typed.TypeNames.{words_said, all_mentioned, with_pointers, with_type_name, prepared}
+use Rattle.tm_laid.specs.tm_typed.TypeNames.{all_prepared}
+use Rattle.tm_laid.specs.tm_typed.Declarators.{is_no_element, array_of, arrays_of, shaped}
+use Rattle.tm_laid.specs.tm_typed.WellTyped.{OnAnswer}
 use Rattle.typed_file_laws.specs.Tables.{IsType, IsTag, AreLawfulTables}
 use Rattle.typing_laws.proofs.Steps.{then_on}
 use Rattle.typed_file_laws.proofs.RuleSteps.{OnSome}

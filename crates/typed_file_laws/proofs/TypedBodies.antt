@@ -5,20 +5,24 @@ use Rattle.std.proofs.lemmas.Bool.{false≢true, eqb-true}
 use Rattle.std.proofs.lemmas.Option.{none-some, same_Some}
 use Rattle.std.proofs.lemmas.List.{append-nil}
 use Rattle.std.proofs.lemmas.List.Elements.{All-weaker}
-use Rattle.tm_terms.specs.declared.tokens.Name.{Name}
-use Rattle.tm_typed.specs.declared.types.CType.{CType}
-use Rattle.tm_typed.specs.declared.types.CType.TheVariants as Types
-use Rattle.tm_typed.specs.declared.types.TypeEntry.{TypeEntry}
-use Rattle.tm_typed.specs.declared.types.Scalar.{Scalar}
-use Rattle.tm_typed.specs.declared.types.Scalar.TheVariants as Scalars
-use Rattle.tm_typed.specs.declared.files.LocalEntry.{LocalEntry}
-use Rattle.tm_typed.specs.Scopes.{Scope, Function, entry, ctype_of, is_same_type}
-use Rattle.tm_typed.specs.Operands.{scalar_by, scalar_of}
-use Rattle.tm_typed.specs.TypedTrees.{RvalueTree}
-use Rattle.tm_typed.specs.TypedStatements.{TypedTree, evaluates, declares, runs_block, branches, branches_else, loops_while, loops_do, loops_for, selects, breaks, continues, returns, locks, unlocks, yields, TypedTrees, no_statements, and_statement, TypedCase, a_label, a_default_label, a_labelled_step, TypedCases, no_typed_cases, and_typed_case}
-use Rattle.tm_typed.specs.Functions.{TypedBodyTree}
-use Rattle.tm_typed.specs.Files.{TypedFunctionTree, FileState, TypedFileTree, file_of}
-use Rattle.tm_typed.specs.WellTyped.{Context, SameFunction, Extends}
+use Rattle.tm_laid.specs.tm_terms.declared.tokens.Name.{Name}
+use Rattle.tm_laid.specs.tm_typed.declared.types.CType.{CType}
+use Rattle.tm_laid.specs.tm_typed.declared.types.CType.TheVariants as Types
+use Rattle.tm_laid.specs.tm_typed.declared.types.TypeEntry.{TypeEntry}
+use Rattle.tm_laid.specs.tm_typed.declared.types.Scalar.{Scalar}
+use Rattle.tm_laid.specs.tm_typed.declared.types.Scalar.TheVariants as Scalars
+use Rattle.tm_laid.specs.tm_typed.declared.files.LocalEntry.{LocalEntry}
+use Rattle.tm_laid.specs.tm_typed.Scopes.{Scope, Function, entry, ctype_of, is_same_type}
+use Rattle.tm_laid.specs.tm_typed.Operands.{scalar_by, scalar_of}
+use Rattle.tm_laid.specs.tm_typed.TypedTrees.{RvalueTree}
+use Rattle.tm_laid.specs.tm_typed.TypedStatements.{TypedTree, evaluates, declares, runs_block, branches, branches_else}
+use Rattle.tm_laid.specs.tm_typed.TypedStatements.{loops_while, loops_do, loops_for, selects, breaks, continues}
+use Rattle.tm_laid.specs.tm_typed.TypedStatements.{returns, locks, unlocks, yields, TypedTrees, no_statements}
+use Rattle.tm_laid.specs.tm_typed.TypedStatements.{and_statement, TypedCase, a_label, a_default_label, a_labelled_step}
+use Rattle.tm_laid.specs.tm_typed.TypedStatements.{TypedCases, no_typed_cases, and_typed_case}
+use Rattle.tm_laid.specs.tm_typed.Functions.{TypedBodyTree}
+use Rattle.tm_laid.specs.tm_typed.Files.{TypedFunctionTree, FileState, TypedFileTree, file_of}
+use Rattle.tm_laid.specs.tm_typed.WellTyped.{Context, SameFunction, Extends}
 use Rattle.typed_file_laws.specs.Tables.{IsType, form, AreLawfulTables}
 use Rattle.typed_file_laws.specs.Lawful.{IsFunction, IsNumber}
 use Rattle.typed_file_laws.specs.Bodies.{IsReturned, IsStatement, AreStatements, AreParts, IsPart}

@@ -1,17 +1,20 @@
 -- Well-formed statements: every expression gives a value of its kind, where all that it names exists.
 use Rattle.std.specs.Prelude.{◌≡◌, ℕ, ◌<◌, All, Option, Some, None}
-use Rattle.tm_typed.specs.declared.types.CType.TheVariants as Types
-use Rattle.tm_typed.specs.declared.types.Scalar.{Scalar}
-use Rattle.tm_typed.specs.declared.scopes.ObjectNumber.TheVariants as Objects
-use Rattle.tm_typed.specs.Scopes.{ctype_of}
-use Rattle.tm_typed.specs.TypedTrees.{RvalueTree}
-use Rattle.tm_typed.specs.Operands.{scalar_of}
-use Rattle.tm_typed.specs.WellTyped.{ValueKind, a_number, kind_of_scalar, IsCondition, Context, IsRvalue}
-use Rattle.tm_typed.specs.TypedStatements.{GivenTree, LocalInitialiserTree, LocalTree, TypedTree, evaluates, declares}
-use Rattle.tm_typed.specs.TypedStatements.{runs_block, branches, branches_else, loops_while, loops_do, loops_for}
-use Rattle.tm_typed.specs.TypedStatements.{selects, breaks, continues, returns, locks, unlocks, yields, TypedTrees}
-use Rattle.tm_typed.specs.TypedStatements.{no_statements, and_statement, TypedCase, a_label, a_default_label}
-use Rattle.tm_typed.specs.TypedStatements.{a_labelled_step, TypedCases, no_typed_cases, and_typed_case}
+use Rattle.tm_laid.specs.tm_typed.declared.types.CType.TheVariants as Types
+use Rattle.tm_laid.specs.tm_typed.declared.types.Scalar.{Scalar}
+use Rattle.tm_laid.specs.tm_typed.declared.scopes.ObjectNumber.TheVariants as Objects
+use Rattle.tm_laid.specs.tm_typed.Scopes.{ctype_of}
+use Rattle.tm_laid.specs.tm_typed.TypedTrees.{RvalueTree}
+use Rattle.tm_laid.specs.tm_typed.Operands.{scalar_of}
+use Rattle.tm_laid.specs.tm_typed.WellTyped.{ValueKind, a_number, kind_of_scalar, IsCondition, Context, IsRvalue}
+use Rattle.tm_laid.specs.tm_typed.TypedStatements.{GivenTree, LocalInitialiserTree, LocalTree, TypedTree, evaluates}
+use Rattle.tm_laid.specs.tm_typed.TypedStatements.{declares}
+use Rattle.tm_laid.specs.tm_typed.TypedStatements.{runs_block, branches, branches_else, loops_while, loops_do}
+use Rattle.tm_laid.specs.tm_typed.TypedStatements.{loops_for}
+use Rattle.tm_laid.specs.tm_typed.TypedStatements.{selects, breaks, continues, returns, locks, unlocks, yields}
+use Rattle.tm_laid.specs.tm_typed.TypedStatements.{TypedTrees}
+use Rattle.tm_laid.specs.tm_typed.TypedStatements.{no_statements, and_statement, TypedCase, a_label, a_default_label}
+use Rattle.tm_laid.specs.tm_typed.TypedStatements.{a_labelled_step, TypedCases, no_typed_cases, and_typed_case}
 
 -- ## Expressions as parts of statements
 

@@ -1,18 +1,18 @@
 -- What holds of all that typing has found, at every moment: numbers name what there is.
 use Rattle.std.specs.Prelude.{◌≡◌, ℕ, ℤ, ◌<◌, List, All, slice_get, Option, Some, option_map, length}
-use Rattle.tm_cint.specs.declared.int_types.IntType.{IntType}
-use Rattle.tm_cint.specs.declared.int_types.IntType.TheVariants as Ints
-use Rattle.tm_cint.specs.IntTypes.{IsIn}
-use Rattle.tm_typed.specs.declared.scopes.Named.{Named}
-use Rattle.tm_typed.specs.declared.scopes.Named.TheVariants as Names
-use Rattle.tm_typed.specs.declared.scopes.ObjectNumber.{ObjectNumber}
-use Rattle.tm_typed.specs.declared.scopes.ObjectNumber.TheVariants as Objects
-use Rattle.tm_typed.specs.declared.files.LocalEntry.{LocalEntry}
-use Rattle.tm_typed.specs.declared.uses.Used.{Used}
-use Rattle.tm_typed.specs.declared.uses.Used.TheVariants as Uses
-use Rattle.tm_typed.specs.Scopes.{Scope, Function}
-use Rattle.tm_typed.specs.States.{Static, State}
-use Rattle.tm_typed.specs.WellTyped.{Context}
+use Rattle.tm_laid.specs.tm_cint.declared.int_types.IntType.{IntType}
+use Rattle.tm_laid.specs.tm_cint.declared.int_types.IntType.TheVariants as Ints
+use Rattle.tm_laid.specs.tm_cint.IntTypes.{IsIn}
+use Rattle.tm_laid.specs.tm_typed.declared.scopes.Named.{Named}
+use Rattle.tm_laid.specs.tm_typed.declared.scopes.Named.TheVariants as Names
+use Rattle.tm_laid.specs.tm_typed.declared.scopes.ObjectNumber.{ObjectNumber}
+use Rattle.tm_laid.specs.tm_typed.declared.scopes.ObjectNumber.TheVariants as Objects
+use Rattle.tm_laid.specs.tm_typed.declared.files.LocalEntry.{LocalEntry}
+use Rattle.tm_laid.specs.tm_typed.declared.uses.Used.{Used}
+use Rattle.tm_laid.specs.tm_typed.declared.uses.Used.TheVariants as Uses
+use Rattle.tm_laid.specs.tm_typed.Scopes.{Scope, Function}
+use Rattle.tm_laid.specs.tm_typed.States.{Static, State}
+use Rattle.tm_laid.specs.tm_typed.WellTyped.{Context}
 use Rattle.typed_file_laws.specs.Tables.{IsType, AreLawfulTables}
 
 -- ## Numbers that name something

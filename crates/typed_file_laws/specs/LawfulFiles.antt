@@ -1,10 +1,10 @@
 -- What holds of a file at every moment of its typing, and of a typed file.
 use Rattle.std.specs.Prelude.{◌≡◌, ℕ, ◌<◌, true, List, [], All, map, length, Option, Some, None}
-use Rattle.tm_typed.specs.declared.files.LocalEntry.{LocalEntry}
-use Rattle.tm_typed.specs.Scopes.{Function, is_same_type}
-use Rattle.tm_typed.specs.Functions.{TypedBodyTree}
-use Rattle.tm_typed.specs.Files.{TypedFunctionTree, FileState}
-use Rattle.tm_typed.specs.WellTyped.{Context}
+use Rattle.tm_laid.specs.tm_typed.declared.files.LocalEntry.{LocalEntry}
+use Rattle.tm_laid.specs.tm_typed.Scopes.{Function, is_same_type}
+use Rattle.tm_laid.specs.tm_typed.Functions.{TypedBodyTree}
+use Rattle.tm_laid.specs.tm_typed.Files.{TypedFunctionTree, FileState}
+use Rattle.tm_laid.specs.tm_typed.WellTyped.{Context}
 use Rattle.typed_file_laws.specs.Tables.{IsType}
 use Rattle.typed_file_laws.specs.Lawful.{object_type, IsLawfulState}
 use Rattle.typed_file_laws.specs.Bodies.{AreStatements}

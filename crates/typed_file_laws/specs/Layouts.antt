@@ -1,9 +1,9 @@
 -- A typed file can be laid out.
 use Rattle.std.specs.Prelude.{ℕ, ◌<◌, List, All, Contains, length, Option, Ok}
-use Rattle.tm_terms.specs.declared.tokens.Name.{Name}
-use Rattle.tm_trees.specs.FileTrees.{ItemTree}
-use Rattle.tm_typed.specs.CallGraph.{AreCalleesFirst, calls_in}
-use Rattle.tm_typed.specs.Files.{TypedFileTree, IsTyped}
+use Rattle.tm_laid.specs.tm_terms.declared.tokens.Name.{Name}
+use Rattle.tm_laid.specs.tm_trees.FileTrees.{ItemTree}
+use Rattle.tm_laid.specs.tm_typed.CallGraph.{AreCalleesFirst, calls_in}
+use Rattle.tm_laid.specs.tm_typed.Files.{TypedFileTree, IsTyped}
 use Rattle.tm_laid.specs.Layable.{IsLayable}
 
 -- whatever order of its functions has each behind those that it calls

@@ -1,4 +1,6 @@
 -- What the laws say.
+-- The crates below, passed on to those above.
+pub use Rattle.typing_laws.specs as typing_laws
 pub mod Tables
 pub mod Lawful
 pub mod Bodies

@@ -1,18 +1,24 @@
 -- What typed trees mention: the objects of static storage that they name, and the functions that they call.
 use Rattle.std.specs.Prelude.{◌≡◌, ℕ, Bool, true, List, All, slice_get, Option, Some, None}
-use Rattle.tm_typed.specs.declared.scopes.ObjectNumber.TheVariants as Objects
-use Rattle.tm_typed.specs.TypedTrees.{RvalueTree, a_constant, a_folded, a_null, a_load, an_address, a_structure}
-use Rattle.tm_typed.specs.TypedTrees.{the_same, a_unary, a_binary, a_comparison_of_pointers, a_move, a_not, an_and}
-use Rattle.tm_typed.specs.TypedTrees.{an_or, a_choice, an_assignment, a_compound, a_compound_move, a_unit_step}
-use Rattle.tm_typed.specs.TypedTrees.{a_pointer_step, a_function_call, an_input_value, a_probe, a_comma, a_conversion}
-use Rattle.tm_typed.specs.TypedTrees.{a_discard, LvalueTree, an_object, an_element, a_pointed_element, a_pointed}
-use Rattle.tm_typed.specs.TypedTrees.{an_arrow, a_part, RvalueTrees, no_rvalues, and_rvalue, OperandTree, an_lvalue}
-use Rattle.tm_typed.specs.TypedTrees.{a_value}
-use Rattle.tm_typed.specs.TypedStatements.{LocalInitialiserTree, TypedTree, evaluates, declares, runs_block, branches}
-use Rattle.tm_typed.specs.TypedStatements.{branches_else, loops_while, loops_do, loops_for, selects, breaks}
-use Rattle.tm_typed.specs.TypedStatements.{continues, returns, locks, unlocks, yields, TypedTrees, no_statements}
-use Rattle.tm_typed.specs.TypedStatements.{and_statement, TypedCase, a_label, a_default_label, a_labelled_step}
-use Rattle.tm_typed.specs.TypedStatements.{TypedCases, no_typed_cases, and_typed_case}
+use Rattle.tm_laid.specs.tm_typed.declared.scopes.ObjectNumber.TheVariants as Objects
+use Rattle.tm_laid.specs.tm_typed.TypedTrees.{RvalueTree, a_constant, a_folded, a_null, a_load, an_address, a_structure}
+use Rattle.tm_laid.specs.tm_typed.TypedTrees.{the_same, a_unary, a_binary, a_comparison_of_pointers, a_move, a_not}
+use Rattle.tm_laid.specs.tm_typed.TypedTrees.{an_and}
+use Rattle.tm_laid.specs.tm_typed.TypedTrees.{an_or, a_choice, an_assignment, a_compound, a_compound_move, a_unit_step}
+use Rattle.tm_laid.specs.tm_typed.TypedTrees.{a_pointer_step, a_function_call, an_input_value, a_probe, a_comma}
+use Rattle.tm_laid.specs.tm_typed.TypedTrees.{a_conversion}
+use Rattle.tm_laid.specs.tm_typed.TypedTrees.{a_discard, LvalueTree, an_object, an_element, a_pointed_element}
+use Rattle.tm_laid.specs.tm_typed.TypedTrees.{a_pointed}
+use Rattle.tm_laid.specs.tm_typed.TypedTrees.{an_arrow, a_part, RvalueTrees, no_rvalues, and_rvalue, OperandTree}
+use Rattle.tm_laid.specs.tm_typed.TypedTrees.{an_lvalue}
+use Rattle.tm_laid.specs.tm_typed.TypedTrees.{a_value}
+use Rattle.tm_laid.specs.tm_typed.TypedStatements.{LocalInitialiserTree, TypedTree, evaluates, declares, runs_block}
+use Rattle.tm_laid.specs.tm_typed.TypedStatements.{branches}
+use Rattle.tm_laid.specs.tm_typed.TypedStatements.{branches_else, loops_while, loops_do, loops_for, selects, breaks}
+use Rattle.tm_laid.specs.tm_typed.TypedStatements.{continues, returns, locks, unlocks, yields, TypedTrees}
+use Rattle.tm_laid.specs.tm_typed.TypedStatements.{no_statements}
+use Rattle.tm_laid.specs.tm_typed.TypedStatements.{and_statement, TypedCase, a_label, a_default_label, a_labelled_step}
+use Rattle.tm_laid.specs.tm_typed.TypedStatements.{TypedCases, no_typed_cases, and_typed_case}
 
 -- ## Expressions
 

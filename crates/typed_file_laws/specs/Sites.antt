@@ -1,11 +1,11 @@
 -- Calls stand at their sites, and what bodies name is defined.
 use Rattle.std.specs.Prelude.{◌≡◌, ℕ, Bool, true, is_some, List, All, get_or, Option, Some, Ok}
-use Rattle.tm_terms.specs.declared.tokens.Name.{Name}
-use Rattle.tm_trees.specs.FileTrees.{ItemTree}
-use Rattle.tm_typed.specs.CallGraph.{calls_in}
-use Rattle.tm_typed.specs.States.{no_static}
-use Rattle.tm_typed.specs.Functions.{TypedBodyTree}
-use Rattle.tm_typed.specs.Files.{TypedFunctionTree, no_typed_function, TypedFileTree, IsTyped}
+use Rattle.tm_laid.specs.tm_terms.declared.tokens.Name.{Name}
+use Rattle.tm_laid.specs.tm_trees.FileTrees.{ItemTree}
+use Rattle.tm_laid.specs.tm_typed.CallGraph.{calls_in}
+use Rattle.tm_laid.specs.tm_typed.States.{no_static}
+use Rattle.tm_laid.specs.tm_typed.Functions.{TypedBodyTree}
+use Rattle.tm_laid.specs.tm_typed.Files.{TypedFunctionTree, no_typed_function, TypedFileTree, IsTyped}
 use Rattle.typed_file_laws.specs.Mentions.{StatementsMention}
 
 -- the file defines the object of static storage with this number

@@ -1,13 +1,14 @@
 -- What holds of the tables of types and structures at every moment of typing.
 use Rattle.std.specs.Prelude.{◌≡◌, ℕ, suc, ◌+◌, ◌^◌, ◌<◌, ◌≤◌, true, false, cond, List, [], ◌∷◌, length, All}
-use Rattle.tm_typed.specs.declared.types.CType.{CType}
-use Rattle.tm_typed.specs.declared.types.CType.TheVariants as Types
-use Rattle.tm_typed.specs.declared.types.TypeEntry.{TypeEntry}
-use Rattle.tm_typed.specs.declared.scopes.Member.{Member}
-use Rattle.tm_typed.specs.declared.scopes.Tagged.{Tagged}
-use Rattle.tm_typed.specs.declared.scopes.Tagged.TheVariants as Tagging
-use Rattle.tm_typed.specs.Scopes.{Scope, Structure, ctype_of, structure, is_complete, cells_of, abstract_cells_of}
-use Rattle.tm_typed.specs.TypeRows.{clipped, cells_in, abstract_cells_in, number_in}
+use Rattle.tm_laid.specs.tm_typed.declared.types.CType.{CType}
+use Rattle.tm_laid.specs.tm_typed.declared.types.CType.TheVariants as Types
+use Rattle.tm_laid.specs.tm_typed.declared.types.TypeEntry.{TypeEntry}
+use Rattle.tm_laid.specs.tm_typed.declared.scopes.Member.{Member}
+use Rattle.tm_laid.specs.tm_typed.declared.scopes.Tagged.{Tagged}
+use Rattle.tm_laid.specs.tm_typed.declared.scopes.Tagged.TheVariants as Tagging
+use Rattle.tm_laid.specs.tm_typed.Scopes.{Scope, Structure, ctype_of, structure, is_complete, cells_of}
+use Rattle.tm_laid.specs.tm_typed.Scopes.{abstract_cells_of}
+use Rattle.tm_laid.specs.tm_typed.TypeRows.{clipped, cells_in, abstract_cells_in, number_in}
 use Rattle.tm_laid.specs.TypeCells.{summed}
 
 -- ## Types

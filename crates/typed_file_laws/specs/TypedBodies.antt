@@ -1,12 +1,12 @@
 -- The bodies of a typed file are well formed, in the file's own tables.
 use Rattle.std.specs.Prelude.{is_some, List, [], All, map, length, Option, Some, None, Ok}
-use Rattle.tm_terms.specs.declared.tokens.Name.{Name}
-use Rattle.tm_trees.specs.FileTrees.{ItemTree}
-use Rattle.tm_typed.specs.declared.files.LocalEntry.{LocalEntry}
-use Rattle.tm_typed.specs.Scopes.{Function}
-use Rattle.tm_typed.specs.Functions.{TypedBodyTree}
-use Rattle.tm_typed.specs.Files.{TypedFunctionTree, TypedFileTree, IsTyped}
-use Rattle.tm_typed.specs.WellTyped.{Context}
+use Rattle.tm_laid.specs.tm_terms.declared.tokens.Name.{Name}
+use Rattle.tm_laid.specs.tm_trees.FileTrees.{ItemTree}
+use Rattle.tm_laid.specs.tm_typed.declared.files.LocalEntry.{LocalEntry}
+use Rattle.tm_laid.specs.tm_typed.Scopes.{Function}
+use Rattle.tm_laid.specs.tm_typed.Functions.{TypedBodyTree}
+use Rattle.tm_laid.specs.tm_typed.Files.{TypedFunctionTree, TypedFileTree, IsTyped}
+use Rattle.tm_laid.specs.tm_typed.WellTyped.{Context}
 use Rattle.typed_file_laws.specs.Lawful.{object_type, IsNumber}
 use Rattle.typed_file_laws.specs.Bodies.{AreStatements}
 

@@ -1,16 +1,16 @@
 -- Sets of values of a type, in a program whose objects are laid out.
 use Rattle.std.specs.Prelude.{◌≡◌, ℕ, ◌<◌, ℤ, List, length, Some, Contains}
 use Rattle.std.specs.FinMap.{get}
-use Rattle.strided_dom.specs.Progression.{empty}
+use Rattle.operator_values.specs.strided_dom.Progression.{empty}
 use Rattle.tm_cint.specs.declared.int_types.IntType.{IntType}
 use Rattle.tm_cint.specs.IntTypes.{IsIn, lo_of, hi_of}
 use Rattle.tm_typed.specs.declared.types.Scalar.{Scalar}
 use Rattle.tm_typed.specs.declared.types.Scalar.TheVariants.{Int, Pointer}
 use Rattle.tm_laid.specs.Layouts.{LaidTree, object_at}
-use Rattle.transfer_int.specs.Operands.{AreValues}
-use Rattle.pointer_dom.specs.OffsetSets.{OffsetSet}
-use Rattle.pointer_dom.specs.PointerSets.{Pointers, IsPointers, no_pointer}
-use Rattle.pointer_dom.specs.Values.{Values}
+use Rattle.operator_values.specs.transfer_int.Operands.{AreValues}
+use Rattle.operator_values.specs.pointer_dom.OffsetSets.{OffsetSet}
+use Rattle.operator_values.specs.pointer_dom.PointerSets.{Pointers, IsPointers, no_pointer}
+use Rattle.operator_values.specs.pointer_dom.Values.{Values}
 
 -- the objects exist, with their sizes
 abbrev pub AreObjects : LaidTree → Pointers → Type 0

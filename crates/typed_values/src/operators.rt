@@ -1,12 +1,12 @@
 //! The types of what operators give. Each law speaks of definitions alone, so its function does nothing.
 ghost use Rattle.std.specs.Prelude.{ℕ, Bool};
-ghost use Rattle.strided_dom.specs.Progression.{Progression};
+ghost use Rattle.operator_values.specs.strided_dom.Progression.{Progression};
 ghost use Rattle.tm_cint.specs.Operators.{result_type};
 ghost use Rattle.tm_cint.specs.declared.int_types.IntType.{IntType};
 ghost use Rattle.tm_cint.specs.declared.operators.BinOp.{BinOp};
 ghost use Rattle.tm_laid.specs.Layouts.{LaidTree};
-ghost use Rattle.transfer_int.specs.Operands.{AreValues};
-ghost use Rattle.pointer_dom.specs.PointerSets.{Pointers, IsPointers};
+ghost use Rattle.operator_values.specs.transfer_int.Operands.{AreValues};
+ghost use Rattle.operator_values.specs.pointer_dom.PointerSets.{Pointers, IsPointers};
 ghost use Rattle.operator_values.specs.Integers.{operated, converted};
 ghost use Rattle.operator_values.specs.SetsOfPointers.{offset_by, indexed, moved, dereferenced, equality};
 ghost use Rattle.operator_values.specs.SetsOfPointers.{left_pointers, right_pointers};

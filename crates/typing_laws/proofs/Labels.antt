@@ -1,18 +1,22 @@
 -- The labels of a `switch` differ, and lie in the type in which it compares.
 use Rattle.std.proofs.Common.{◌≡◌, refl, sym, subst, rules}
 use Rattle.tm_typed.specs.TypeNames.{is_void}
-use Rattle.tm_cint.specs.declared.int_types.IntType.TheVariants as Ints
-use Rattle.tm_cint.specs.Conversions.{is_zero}
-use Rattle.tm_cint.proofs.Values.{wrapped-in}
+use Rattle.tm_typed.specs.tm_cint.declared.int_types.IntType.TheVariants as Ints
+use Rattle.tm_typed.specs.tm_cint.Conversions.{is_zero}
+use Rattle.tm_typed.proofs.low.tm_cint.Values.{wrapped-in}
 use Rattle.std.specs.Prelude.{ℤ, pos, List, [], ◌∷◌, ◌++◌, Bool, true, false, cond, not, ◌||◌, Option, Some, None, Result, Ok, Err}
-use Rattle.tm_cint.specs.declared.int_types.IntType.{IntType}
-use Rattle.tm_cint.specs.IntTypes.{IsIn}
-use Rattle.tm_cint.specs.Conversions.{converted_value}
-use Rattle.tm_terms.specs.declared.places.Place.{Place}
-use Rattle.tm_terms.specs.declared.refusals.Kind.TheVariants as Kinds
-use Rattle.tm_terms.specs.declared.refusals.Refusal.{Refusal}
-use Rattle.tm_terms.specs.ExprTrees.{Tree, place_of}
-use Rattle.tm_trees.specs.FileTrees.{ForFirstTree, by_expression, by_declaration, StatementTree, a_block, a_value, an_if, an_if_else, a_while, a_do, a_for, a_switch, a_break, a_continue, a_return, a_lock, an_unlock, a_yield, PartTree, a_local, a_step, PartTrees, no_parts, and_part, CaseTree, a_case, a_default, a_case_step, CaseTrees, no_cases, and_case}
+use Rattle.tm_typed.specs.tm_cint.declared.int_types.IntType.{IntType}
+use Rattle.tm_typed.specs.tm_cint.IntTypes.{IsIn}
+use Rattle.tm_typed.specs.tm_cint.Conversions.{converted_value}
+use Rattle.tm_typed.specs.tm_terms.declared.places.Place.{Place}
+use Rattle.tm_typed.specs.tm_terms.declared.refusals.Kind.TheVariants as Kinds
+use Rattle.tm_typed.specs.tm_terms.declared.refusals.Refusal.{Refusal}
+use Rattle.tm_typed.specs.tm_terms.ExprTrees.{Tree, place_of}
+use Rattle.tm_typed.specs.tm_trees.FileTrees.{ForFirstTree, by_expression, by_declaration, StatementTree, a_block}
+use Rattle.tm_typed.specs.tm_trees.FileTrees.{a_value, an_if, an_if_else, a_while, a_do, a_for, a_switch, a_break}
+use Rattle.tm_typed.specs.tm_trees.FileTrees.{a_continue, a_return, a_lock, an_unlock, a_yield, PartTree, a_local}
+use Rattle.tm_typed.specs.tm_trees.FileTrees.{a_step, PartTrees, no_parts, and_part, CaseTree, a_case, a_default}
+use Rattle.tm_typed.specs.tm_trees.FileTrees.{a_case_step, CaseTrees, no_cases, and_case}
 use Rattle.tm_typed.specs.Scopes.{named, ctype_of}
 use Rattle.tm_typed.specs.TypedTrees.{RvalueTree}
 use Rattle.tm_typed.specs.Refusals.{then_with, row, row_unless, refused}

@@ -1,15 +1,18 @@
 -- What type names, specifiers and declarators add to a scope: types, structures and tags, but neither names nor functions.
 use Rattle.std.proofs.Common.{◌≡◌, refl, ◌∙◌, List, [], ◌∷◌}
 use Rattle.std.specs.Prelude.{Bool, true, false, cond, ◌++◌, length, Option, Some, None, Result, Ok, Err}
-use Rattle.tm_terms.specs.declared.tokens.Name.{Name}
-use Rattle.tm_terms.specs.declared.refusals.Refusal.{Refusal}
-use Rattle.tm_terms.specs.declared.types_named.PointerWord.{PointerWord}
-use Rattle.tm_terms.specs.declared.types_named.PointerWord.TheVariants as PointerWords
-use Rattle.tm_terms.specs.declared.types_named.Spec.{Spec}
-use Rattle.tm_terms.specs.declared.types_named.SpecWord.{SpecWord}
-use Rattle.tm_terms.specs.declared.types_named.SpecWord.TheVariants as Specs
-use Rattle.tm_terms.specs.declared.types_named.TagKind.TheVariants as Tags
-use Rattle.tm_terms.specs.ExprTrees.{TypeTree, Tree, a_name, an_integer, a_character, in_parentheses, an_input, an_islocked, a_call, a_prefix, a_sizeof_type, a_cast, an_infix, a_conditional, a_subscript, a_member, a_postfix, Arguments, no_arguments, and_argument}
+use Rattle.tm_typed.specs.tm_terms.declared.tokens.Name.{Name}
+use Rattle.tm_typed.specs.tm_terms.declared.refusals.Refusal.{Refusal}
+use Rattle.tm_typed.specs.tm_terms.declared.types_named.PointerWord.{PointerWord}
+use Rattle.tm_typed.specs.tm_terms.declared.types_named.PointerWord.TheVariants as PointerWords
+use Rattle.tm_typed.specs.tm_terms.declared.types_named.Spec.{Spec}
+use Rattle.tm_typed.specs.tm_terms.declared.types_named.SpecWord.{SpecWord}
+use Rattle.tm_typed.specs.tm_terms.declared.types_named.SpecWord.TheVariants as Specs
+use Rattle.tm_typed.specs.tm_terms.declared.types_named.TagKind.TheVariants as Tags
+use Rattle.tm_typed.specs.tm_terms.ExprTrees.{TypeTree, Tree, a_name, an_integer, a_character, in_parentheses, an_input}
+use Rattle.tm_typed.specs.tm_terms.ExprTrees.{an_islocked, a_call, a_prefix, a_sizeof_type, a_cast, an_infix}
+use Rattle.tm_typed.specs.tm_terms.ExprTrees.{a_conditional, a_subscript, a_member, a_postfix, Arguments, no_arguments}
+use Rattle.tm_typed.specs.tm_terms.ExprTrees.{and_argument}
 use Rattle.tm_typed.specs.declared.types.CType.{CType}
 use Rattle.tm_typed.specs.declared.types.CType.TheVariants as Types
 use Rattle.tm_typed.specs.declared.scopes.Tagged.{Tagged}
@@ -22,7 +25,7 @@ use Rattle.tm_typed.specs.TypeRows.{is_founded, number_in, row_in, apart_from_co
 use Rattle.tm_typed.specs.Specifiers.{base, nothing_said, new_structure, with_struct_tag, mentioned_tag, mentioned}
 use Rattle.tm_typed.specs.TypeNames.{Made, bare, pointer_word, with_pointer_word, pointed, words_said, all_mentioned, with_pointers, with_type_name, prepared, all_prepared}
 use Rattle.tm_typed.specs.Declarators.{array_of, arrays_of, shaped, whole}
-use Rattle.tm_trees.specs.DeclarationTrees.{DeclaratorTree, a_declared_name, a_nested}
+use Rattle.tm_typed.specs.tm_trees.DeclarationTrees.{DeclaratorTree, a_declared_name, a_nested}
 use Rattle.std.specs.Prelude.{ℕ, take, drop}
 
 -- the same names and functions

@@ -1,11 +1,11 @@
 -- A file has an answer.
 use Rattle.std.proofs.Common.{List, inl, inr, refl}
 use Rattle.std.specs.Prelude.{Option, Some, None, Result, Ok, Err}
-use Rattle.tm_terms.specs.declared.places.Place.{Place}
-use Rattle.tm_terms.specs.declared.tokens.Name.{Name}
-use Rattle.tm_terms.specs.declared.refusals.Kind.TheVariants as Kinds
-use Rattle.tm_terms.specs.declared.refusals.Refusal.{Refusal}
-use Rattle.tm_trees.specs.FileTrees.{ItemTree}
+use Rattle.tm_typed.specs.tm_terms.declared.places.Place.{Place}
+use Rattle.tm_typed.specs.tm_terms.declared.tokens.Name.{Name}
+use Rattle.tm_typed.specs.tm_terms.declared.refusals.Kind.TheVariants as Kinds
+use Rattle.tm_typed.specs.tm_terms.declared.refusals.Refusal.{Refusal}
+use Rattle.tm_typed.specs.tm_trees.FileTrees.{ItemTree}
 use Rattle.tm_typed.specs.Refusals.{refused}
 use Rattle.tm_typed.specs.WellTyped.{OnAnswer}
 use Rattle.tm_typed.specs.Files.{FileState, TypedFileTree, file_of, typed_function, undefined_use, Closes, Ends, IsTyped, items_in, first_file_state}

@@ -1,7 +1,7 @@
 -- What holds of an answer goes on from parts to the whole.
 use Rattle.std.proofs.Common.{◌≡◌, subst, sym}
 use Rattle.std.specs.Prelude.{Result, Ok, Err}
-use Rattle.tm_terms.specs.declared.refusals.Refusal.{Refusal}
+use Rattle.tm_typed.specs.tm_terms.declared.refusals.Refusal.{Refusal}
 use Rattle.tm_typed.specs.Refusals.{then_with}
 use Rattle.tm_typed.specs.WellTyped.{OnAnswer}
 

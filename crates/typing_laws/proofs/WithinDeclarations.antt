@@ -2,20 +2,25 @@
 use Rattle.std.proofs.Common.{◌≡◌, ℕ, ◌<◌, List, [], ◌∷◌, ◌++◌, length}
 use Rattle.std.specs.Prelude.{ℤ, suc, Bool, true, false, cond, not, All, is_some, Option, Some, None, Result, Ok, Err}
 use Rattle.std.proofs.lemmas.List.Elements.{All-push}
-use Rattle.tm_terms.specs.declared.places.Place.{Place}
-use Rattle.tm_terms.specs.declared.tokens.Name.{Name}
-use Rattle.tm_cint.specs.declared.int_types.IntType.TheVariants as Ints
-use Rattle.tm_cint.specs.IntTypes.{is_in}
-use Rattle.tm_terms.specs.declared.refusals.Kind.{Kind}
-use Rattle.tm_terms.specs.declared.refusals.Kind.TheVariants as Kinds
-use Rattle.tm_terms.specs.declared.refusals.Refusal.{Refusal}
-use Rattle.tm_terms.specs.declared.types_named.PointerWord.{PointerWord}
-use Rattle.tm_terms.specs.declared.types_named.Spec.{Spec}
-use Rattle.tm_terms.specs.declared.types_named.Storage.{Storage}
-use Rattle.tm_terms.specs.declared.types_named.Storage.TheVariants as Storages
-use Rattle.tm_terms.specs.ExprTrees.{Tree, place_of}
-use Rattle.tm_trees.specs.declared.declarations.Tag.{Tag}
-use Rattle.tm_trees.specs.DeclarationTrees.{LengthTree, DeclaratorTree, a_declared_name, a_nested, declared_name, EnumeratorTree, SpecifierTree, a_plain, a_struct, an_enum, SpecifierTrees, no_specifiers, and_specifier, MemberTrees, no_members, and_members, ValueTree, an_expression, a_list, ValueTrees, no_values, and_value, InitialiserTree, InitDeclaratorTree, DeclarationTree}
+use Rattle.tm_typed.specs.tm_terms.declared.places.Place.{Place}
+use Rattle.tm_typed.specs.tm_terms.declared.tokens.Name.{Name}
+use Rattle.tm_typed.specs.tm_cint.declared.int_types.IntType.TheVariants as Ints
+use Rattle.tm_typed.specs.tm_cint.IntTypes.{is_in}
+use Rattle.tm_typed.specs.tm_terms.declared.refusals.Kind.{Kind}
+use Rattle.tm_typed.specs.tm_terms.declared.refusals.Kind.TheVariants as Kinds
+use Rattle.tm_typed.specs.tm_terms.declared.refusals.Refusal.{Refusal}
+use Rattle.tm_typed.specs.tm_terms.declared.types_named.PointerWord.{PointerWord}
+use Rattle.tm_typed.specs.tm_terms.declared.types_named.Spec.{Spec}
+use Rattle.tm_typed.specs.tm_terms.declared.types_named.Storage.{Storage}
+use Rattle.tm_typed.specs.tm_terms.declared.types_named.Storage.TheVariants as Storages
+use Rattle.tm_typed.specs.tm_terms.ExprTrees.{Tree, place_of}
+use Rattle.tm_typed.specs.tm_trees.declared.declarations.Tag.{Tag}
+use Rattle.tm_typed.specs.tm_trees.DeclarationTrees.{LengthTree, DeclaratorTree, a_declared_name, a_nested}
+use Rattle.tm_typed.specs.tm_trees.DeclarationTrees.{declared_name, EnumeratorTree, SpecifierTree, a_plain, a_struct}
+use Rattle.tm_typed.specs.tm_trees.DeclarationTrees.{an_enum, SpecifierTrees, no_specifiers, and_specifier, MemberTrees}
+use Rattle.tm_typed.specs.tm_trees.DeclarationTrees.{no_members, and_members, ValueTree, an_expression, a_list}
+use Rattle.tm_typed.specs.tm_trees.DeclarationTrees.{ValueTrees, no_values, and_value, InitialiserTree}
+use Rattle.tm_typed.specs.tm_trees.DeclarationTrees.{InitDeclaratorTree, DeclarationTree}
 use Rattle.tm_typed.specs.declared.types.Qualified.{Qualified}
 use Rattle.tm_typed.specs.declared.types.CType.TheVariants as Types
 use Rattle.tm_typed.specs.declared.scopes.Named.{Named}

@@ -4,14 +4,21 @@ use Rattle.std.specs.Prelude.{ℤ, suc, Bool, true, false, cond, not, ◌&&◌, 
 use Rattle.std.specs.List.{filter_map, cons_option}
 use Rattle.std.proofs.lemmas.List.{length-append, length-set}
 use Rattle.std.proofs.lemmas.List.Elements.{All-nil, All-cons, All-head, All-tail, All-append, All-push, All-set, All-take, All-weaker}
-use Rattle.tm_cint.specs.declared.int_types.IntType.{IntType}
-use Rattle.tm_terms.specs.declared.places.Place.{Place}
-use Rattle.tm_terms.specs.declared.tokens.Name.{Name}
-use Rattle.tm_terms.specs.declared.refusals.Kind.TheVariants as Kinds
-use Rattle.tm_terms.specs.declared.refusals.Refusal.{Refusal}
-use Rattle.tm_terms.specs.ExprTrees.{Tree, place_of}
-use Rattle.tm_trees.specs.DeclarationTrees.{declared_name, DeclaratorTree, SpecifierTrees}
-use Rattle.tm_trees.specs.FileTrees.{ForFirstTree, by_expression, by_declaration, StatementTree, a_block, a_value, an_if, an_if_else, a_while, a_do, a_for, a_switch, a_break, a_continue, a_return, a_lock, an_unlock, a_yield, PartTree, a_local, a_step, PartTrees, no_parts, and_part, CaseTree, a_case, a_default, a_case_step, CaseTrees, no_cases, and_case, ParameterTree, a_named_parameter, an_unnamed_parameter, ParametersTree, only_void, some_parameters, FunctionTree, ItemTree, a_declaration, a_function, an_empty_item, a_mutex, a_task}
+use Rattle.tm_typed.specs.tm_cint.declared.int_types.IntType.{IntType}
+use Rattle.tm_typed.specs.tm_terms.declared.places.Place.{Place}
+use Rattle.tm_typed.specs.tm_terms.declared.tokens.Name.{Name}
+use Rattle.tm_typed.specs.tm_terms.declared.refusals.Kind.TheVariants as Kinds
+use Rattle.tm_typed.specs.tm_terms.declared.refusals.Refusal.{Refusal}
+use Rattle.tm_typed.specs.tm_terms.ExprTrees.{Tree, place_of}
+use Rattle.tm_typed.specs.tm_trees.DeclarationTrees.{declared_name, DeclaratorTree, SpecifierTrees}
+use Rattle.tm_typed.specs.tm_trees.FileTrees.{ForFirstTree, by_expression, by_declaration, StatementTree, a_block}
+use Rattle.tm_typed.specs.tm_trees.FileTrees.{a_value, an_if, an_if_else, a_while, a_do, a_for, a_switch, a_break}
+use Rattle.tm_typed.specs.tm_trees.FileTrees.{a_continue, a_return, a_lock, an_unlock, a_yield, PartTree, a_local}
+use Rattle.tm_typed.specs.tm_trees.FileTrees.{a_step, PartTrees, no_parts, and_part, CaseTree, a_case, a_default}
+use Rattle.tm_typed.specs.tm_trees.FileTrees.{a_case_step, CaseTrees, no_cases, and_case, ParameterTree}
+use Rattle.tm_typed.specs.tm_trees.FileTrees.{a_named_parameter, an_unnamed_parameter, ParametersTree, only_void}
+use Rattle.tm_typed.specs.tm_trees.FileTrees.{some_parameters, FunctionTree, ItemTree, a_declaration, a_function}
+use Rattle.tm_typed.specs.tm_trees.FileTrees.{an_empty_item, a_mutex, a_task}
 use Rattle.tm_typed.specs.declared.types.CType.{CType}
 use Rattle.tm_typed.specs.declared.types.CType.TheVariants as Types
 use Rattle.tm_typed.specs.declared.scopes.Named.{Named}

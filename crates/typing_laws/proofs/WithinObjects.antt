@@ -1,14 +1,16 @@
 -- Functions that are named and used are declared: for initialisers and whole declarations.
 use Rattle.std.proofs.Common.{◌≡◌, ℕ, ◌<◌, List, [], ◌∷◌, ◌++◌, length, map}
 use Rattle.std.specs.Prelude.{suc, ◌+◌, Bool, true, false, cond, not, ◌&&◌, ◌||◌, All, is_some, is_none, slice_set, Option, Some, None, Result, Ok, Err}
-use Rattle.tm_terms.specs.declared.places.Place.{Place}
-use Rattle.tm_terms.specs.declared.refusals.Kind.TheVariants as Kinds
-use Rattle.tm_terms.specs.declared.refusals.Refusal.{Refusal}
-use Rattle.tm_terms.specs.declared.types_named.Storage.{Storage}
-use Rattle.tm_terms.specs.declared.types_named.Storage.TheVariants as Storages
-use Rattle.tm_terms.specs.ExprTrees.{Tree, place_of}
-use Rattle.tm_trees.specs.declared.declarations.Tag.{Tag}
-use Rattle.tm_trees.specs.DeclarationTrees.{declared_name, ValueTree, an_expression, a_list, ValueTrees, no_values, and_value, InitialiserTree, InitDeclaratorTree, DeclarationTree}
+use Rattle.tm_typed.specs.tm_terms.declared.places.Place.{Place}
+use Rattle.tm_typed.specs.tm_terms.declared.refusals.Kind.TheVariants as Kinds
+use Rattle.tm_typed.specs.tm_terms.declared.refusals.Refusal.{Refusal}
+use Rattle.tm_typed.specs.tm_terms.declared.types_named.Storage.{Storage}
+use Rattle.tm_typed.specs.tm_terms.declared.types_named.Storage.TheVariants as Storages
+use Rattle.tm_typed.specs.tm_terms.ExprTrees.{Tree, place_of}
+use Rattle.tm_typed.specs.tm_trees.declared.declarations.Tag.{Tag}
+use Rattle.tm_typed.specs.tm_trees.DeclarationTrees.{declared_name, ValueTree, an_expression, a_list, ValueTrees}
+use Rattle.tm_typed.specs.tm_trees.DeclarationTrees.{no_values, and_value, InitialiserTree, InitDeclaratorTree}
+use Rattle.tm_typed.specs.tm_trees.DeclarationTrees.{DeclarationTree}
 use Rattle.tm_typed.specs.declared.types.CType.TheVariants as Types
 use Rattle.tm_typed.specs.declared.types.Scalar.{Scalar}
 use Rattle.tm_typed.specs.declared.scopes.Named.{Named}

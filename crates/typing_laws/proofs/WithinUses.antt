@@ -2,12 +2,15 @@
 use Rattle.std.proofs.Common.{◌≡◌, ℕ, ◌<◌, ◌≤◌, List, [], ◌∷◌, ◌++◌, length, refl, sym, ◌∙◌, ap, subst, arith}
 use Rattle.std.specs.Prelude.{Bool, true, false, cond, All, Option, Some, None, option_map, Result, Ok}
 use Rattle.std.proofs.lemmas.List.Elements.{All-nil, All-cons, All-head, All-tail, All-append, All-weaker}
-use Rattle.tm_terms.specs.declared.places.Place.{Place}
-use Rattle.tm_terms.specs.declared.tokens.Name.{Name}
-use Rattle.tm_terms.specs.Names.{is_same_name}
-use Rattle.tm_terms.specs.declared.exprs.Prefix.{Prefix}
-use Rattle.tm_terms.specs.declared.exprs.Prefix.TheVariants as Prefixes
-use Rattle.tm_terms.specs.ExprTrees.{Tree, a_name, an_integer, a_character, in_parentheses, an_input, an_islocked, a_call, a_prefix, a_sizeof_type, a_cast, an_infix, a_conditional, a_subscript, a_member, a_postfix, Arguments, no_arguments, and_argument}
+use Rattle.tm_typed.specs.tm_terms.declared.places.Place.{Place}
+use Rattle.tm_typed.specs.tm_terms.declared.tokens.Name.{Name}
+use Rattle.tm_typed.specs.tm_terms.Names.{is_same_name}
+use Rattle.tm_typed.specs.tm_terms.declared.exprs.Prefix.{Prefix}
+use Rattle.tm_typed.specs.tm_terms.declared.exprs.Prefix.TheVariants as Prefixes
+use Rattle.tm_typed.specs.tm_terms.ExprTrees.{Tree, a_name, an_integer, a_character, in_parentheses, an_input}
+use Rattle.tm_typed.specs.tm_terms.ExprTrees.{an_islocked, a_call, a_prefix, a_sizeof_type, a_cast, an_infix}
+use Rattle.tm_typed.specs.tm_terms.ExprTrees.{a_conditional, a_subscript, a_member, a_postfix, Arguments, no_arguments}
+use Rattle.tm_typed.specs.tm_terms.ExprTrees.{and_argument}
 use Rattle.tm_typed.specs.declared.scopes.Named.{Named}
 use Rattle.tm_typed.specs.declared.scopes.Named.TheVariants as Names
 use Rattle.tm_typed.specs.declared.scopes.ObjectNumber.TheVariants as Objects

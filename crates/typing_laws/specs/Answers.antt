@@ -1,8 +1,8 @@
 -- A file has one answer.
 use Rattle.std.specs.Prelude.{◌≡◌, List, Option, Result}
-use Rattle.tm_terms.specs.declared.tokens.Name.{Name}
-use Rattle.tm_terms.specs.declared.refusals.Refusal.{Refusal}
-use Rattle.tm_trees.specs.FileTrees.{ItemTree}
+use Rattle.tm_typed.specs.tm_terms.declared.tokens.Name.{Name}
+use Rattle.tm_typed.specs.tm_terms.declared.refusals.Refusal.{Refusal}
+use Rattle.tm_typed.specs.tm_trees.FileTrees.{ItemTree}
 use Rattle.tm_typed.specs.Files.{TypedFileTree, IsTyped}
 
 -- it has at most one

@@ -1,8 +1,8 @@
 -- Where jumps stand, and how the labels of a `switch` are.
 use Rattle.std.specs.Prelude.{◌≡◌, ℤ, Bool, true, false, ◌||◌, List, [], ◌∷◌, ◌++◌, Option, Some, None, Result, Ok}
-use Rattle.tm_cint.specs.declared.int_types.IntType.{IntType}
-use Rattle.tm_cint.specs.IntTypes.{IsIn}
-use Rattle.tm_trees.specs.FileTrees.{StatementTree}
+use Rattle.tm_typed.specs.tm_cint.declared.int_types.IntType.{IntType}
+use Rattle.tm_typed.specs.tm_cint.IntTypes.{IsIn}
+use Rattle.tm_typed.specs.tm_trees.FileTrees.{StatementTree}
 use Rattle.tm_typed.specs.States.{State}
 use Rattle.tm_typed.specs.TypedStatements.{TypedTree, evaluates, declares, runs_block, branches, branches_else}
 use Rattle.tm_typed.specs.TypedStatements.{loops_while, loops_do, loops_for, selects, breaks, continues, returns, locks}

@@ -1,7 +1,7 @@
 -- How high a value stands: how many numbers it has, and of its pointers how much each of them says.
 use Rattle.std.specs.Prelude.{ℕ, ◌+◌, Bool, true, false}
-use Rattle.strided_dom.specs.Progression.{Progression, empty, single, row}
-use Rattle.tm_lattice.specs.Heights.{table_height}
+use Rattle.pointer_dom.specs.strided_dom.Progression.{Progression, empty, single, row}
+use Rattle.pointer_dom.specs.tm_lattice.Heights.{table_height}
 use Rattle.pointer_dom.specs.OffsetSets.{OffsetSet}
 use Rattle.pointer_dom.specs.PointerSets.{Pointers}
 use Rattle.pointer_dom.specs.Values.{Values}

@@ -6,7 +6,7 @@
 //! height 4: the entry of the object counts one, its size two, and its one offset one.
 #![tactic(auto)]
 
-ghost use Rattle.tm_lattice.specs.Heights.{IsHeight};
+ghost use Rattle.pointer_dom.specs.tm_lattice.Heights.{IsHeight};
 ghost use Rattle.pointer_dom.specs.Values.{IsValues, IsValuesBelow};
 ghost use Rattle.value_heights.specs.Heights.{value_height};
 

@@ -8,11 +8,15 @@ use Rattle.tm_terms.specs.declared.places.Place.{Place}
 use Rattle.tm_typed.specs.declared.types.Scalar.{Scalar}
 use Rattle.tm_typed.specs.declared.types.Scalar.TheVariants as Scalars
 use Rattle.tm_typed.specs.Rules.{is_comparison}
-use Rattle.tm_typed.specs.TypedTrees.{RvalueTree, a_constant, a_folded, a_null, a_load, an_address, a_structure}
-use Rattle.tm_typed.specs.TypedTrees.{the_same, a_unary, a_binary, a_comparison_of_pointers, a_move, a_not, an_and}
+use Rattle.tm_typed.specs.TypedTrees.{RvalueTree, a_constant, a_folded, a_null, a_load, an_address}
+use Rattle.tm_typed.specs.TypedTrees.{a_structure}
+use Rattle.tm_typed.specs.TypedTrees.{the_same, a_unary, a_binary, a_comparison_of_pointers, a_move, a_not}
+use Rattle.tm_typed.specs.TypedTrees.{an_and}
 use Rattle.tm_typed.specs.TypedTrees.{an_or, a_choice, an_assignment, a_compound, a_compound_move, a_unit_step}
-use Rattle.tm_typed.specs.TypedTrees.{a_pointer_step, a_function_call, an_input_value, a_probe, a_comma, a_conversion}
-use Rattle.tm_typed.specs.TypedTrees.{a_discard, LvalueTree, an_object, an_element, a_pointed_element, a_pointed}
+use Rattle.tm_typed.specs.TypedTrees.{a_pointer_step, a_function_call, an_input_value, a_probe, a_comma}
+use Rattle.tm_typed.specs.TypedTrees.{a_conversion}
+use Rattle.tm_typed.specs.TypedTrees.{a_discard, LvalueTree, an_object, an_element, a_pointed_element}
+use Rattle.tm_typed.specs.TypedTrees.{a_pointed}
 use Rattle.tm_typed.specs.TypedTrees.{an_arrow, a_part, RvalueTrees, no_rvalues, and_rvalue, lvalue_place}
 use Rattle.tm_laid.specs.Layouts.{LaidTree, object_of}
 use Rattle.concrete_values.specs.declared.values.Value.TheVariants.{Number, Pointer as APointer}
@@ -25,8 +29,8 @@ use Rattle.flow_graph.specs.declared.operations.Into.{Into}
 use Rattle.flow_graph.specs.declared.operations.Into.TheVariants as Intos
 use Rattle.flow_graph.specs.declared.operations.Operation.{Operation}
 use Rattle.flow_graph.specs.declared.operations.Operation.TheVariants as Op
-use Rattle.concrete_steps.specs.Places.{rvalue_place, is_pointer_scalar, gives_pointer}
-use Rattle.concrete_steps.specs.NextAction.{step_operator, scalar_at}
+use Rattle.lowering.specs.concrete_steps.Places.{rvalue_place, is_pointer_scalar, gives_pointer}
+use Rattle.lowering.specs.concrete_steps.NextAction.{step_operator, scalar_at}
 use Rattle.lowering.specs.Table.{Conversion, conversion, implied, is_same_place, has_value, call_has_value, into}
 use Rattle.lowering.specs.Built.{Building, place_with, place, place_new, branch, goto, meet, temp_of}
 use Rattle.body_builder.specs.declared.fragments.Wanted.{Wanted}

@@ -4,27 +4,28 @@ use Rattle.std.proofs.Common.{subst, arith}
 use Rattle.std.proofs.lemmas.Int.{ints}
 use Rattle.std.specs.FinMap.{get}
 use Rattle.strided_dom.specs.Progression.{IsInReach}
-use Rattle.tm_cint.specs.declared.int_types.IntType.{IntType}
-use Rattle.tm_cint.specs.declared.int_types.IntType.TheVariants as Ints
-use Rattle.tm_cint.specs.declared.operators.BinOp.{BinOp}
-use Rattle.tm_cint.specs.declared.operators.BinOp.TheVariants as Bins
-use Rattle.tm_cint.specs.IntTypes.{IsIn}
-use Rattle.tm_typed.specs.declared.types.Scalar.TheVariants as Scalars
+use Rattle.tm_laid.specs.tm_cint.declared.int_types.IntType.{IntType}
+use Rattle.tm_laid.specs.tm_cint.declared.int_types.IntType.TheVariants as Ints
+use Rattle.tm_laid.specs.tm_cint.declared.operators.BinOp.{BinOp}
+use Rattle.tm_laid.specs.tm_cint.declared.operators.BinOp.TheVariants as Bins
+use Rattle.tm_laid.specs.tm_cint.IntTypes.{IsIn}
+use Rattle.tm_laid.specs.tm_typed.declared.types.Scalar.TheVariants as Scalars
 use Rattle.tm_laid.specs.Layouts.{LaidTree}
-use Rattle.concrete_values.specs.declared.values.Value.{Value}
-use Rattle.concrete_values.specs.declared.values.Value.TheVariants.{Number, Pointer}
+use Rattle.flow_graph.specs.concrete_values.declared.values.Value.{Value}
+use Rattle.flow_graph.specs.concrete_values.declared.values.Value.TheVariants.{Number, Pointer}
 use Rattle.flow_graph.specs.declared.operations.Operation.{Operation}
 use Rattle.flow_graph.specs.declared.operations.Operation.TheVariants as Op
 use Rattle.pointer_dom.specs.Advances.{IsInteger}
-use Rattle.transfer_int.specs.Operands.{AreValues, AreRightOperands}
-use Rattle.transfer_rows.specs.StateForms.{Temp, State, temp_value, value_of}
+use Rattle.edge_actions.specs.transfer_int.Operands.{AreValues, AreRightOperands}
+use Rattle.edge_actions.specs.transfer_rows.StateForms.{Temp, State, temp_value, value_of}
 use Rattle.transfer_mem.specs.Applicable.{IsConstant, AreIntegers, IsOperable}
-use Rattle.typed_values.specs.Types.{IsOfType}
-use Rattle.typed_values.specs.laws.TypeLaws.{none_of_type}
-use Rattle.temporary_types.specs.Sorts.{Sort, numbers, pointers, IsOfSort, Holds, HoldsNumbers, HoldsRight, FitsSorts}
-use Rattle.state_fits.specs.Typed.{types_of}
-use Rattle.state_fits.specs.Fits.{FitsTemp, FitsPlace}
-use Rattle.state_fits.specs.laws.Exact.{wider_type, has_type}
+use Rattle.task_equations.specs.typed_values.Types.{IsOfType}
+use Rattle.task_equations.specs.typed_values.laws.TypeLaws.{none_of_type}
+use Rattle.temporary_types.specs.Sorts.{Sort, numbers, pointers, IsOfSort, Holds, HoldsNumbers}
+use Rattle.temporary_types.specs.Sorts.{HoldsRight, FitsSorts}
+use Rattle.task_equations.specs.state_fits.Typed.{types_of}
+use Rattle.task_equations.specs.state_fits.Fits.{FitsTemp, FitsPlace}
+use Rattle.task_equations.specs.state_fits.laws.Exact.{wider_type, has_type}
 use Rattle.program_equations.specs.Programs.{IsTested}
 
 -- ## Numbers

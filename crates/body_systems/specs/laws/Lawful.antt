@@ -1,7 +1,7 @@
 -- The equations of a body are a system of equations.
 use Rattle.pointer_dom.specs.Values.{joined_values}
 use Rattle.cell_env.specs.States.{joined_state}
-use Rattle.transfer_rows.specs.StateForms.{IsStateForm, IsStateUnder}
+use Rattle.edge_actions.specs.transfer_rows.StateForms.{IsStateForm, IsStateUnder}
 use Rattle.least_tables.specs.Systems.{IsLawfulSystem}
 use Rattle.program_equations.specs.Systems.{FitsBody}
 use Rattle.program_equations.specs.laws.Fitting.{fitting_is_lawful}

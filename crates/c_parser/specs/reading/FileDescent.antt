@@ -16,12 +16,16 @@ use Rattle.c_expr_parser.specs.declared.marks.Mark.TheVariants as Marks
 use Rattle.c_expr_parser.specs.reading.Parts.{then_read, and_after, after, begins_type}
 use Rattle.tm_trees.specs.DeclarationTrees.{SpecifierTree, count_as, as_specifiers, InitDeclaratorTree}
 use Rattle.tm_trees.specs.DeclarationSpelling.{is_file_list, is_typedef_list, with_declared}
-use Rattle.tm_trees.specs.FileTrees.{ForFirstTree, by_expression, by_declaration, StatementTree, a_block, a_value}
-use Rattle.tm_trees.specs.FileTrees.{an_if, an_if_else, a_while, a_do, a_for, a_switch, a_break, a_continue, a_return}
-use Rattle.tm_trees.specs.FileTrees.{a_lock, an_unlock, a_yield, PartTree, a_local, a_step, PartTrees, as_parts}
+use Rattle.tm_trees.specs.FileTrees.{ForFirstTree, by_expression, by_declaration, StatementTree, a_block}
+use Rattle.tm_trees.specs.FileTrees.{a_value}
+use Rattle.tm_trees.specs.FileTrees.{an_if, an_if_else, a_while, a_do, a_for, a_switch, a_break}
+use Rattle.tm_trees.specs.FileTrees.{a_continue, a_return}
+use Rattle.tm_trees.specs.FileTrees.{a_lock, an_unlock, a_yield, PartTree, a_local, a_step, PartTrees}
+use Rattle.tm_trees.specs.FileTrees.{as_parts}
 use Rattle.tm_trees.specs.FileTrees.{CaseTree, a_case, a_default, a_case_step, as_cases, ParameterTree}
 use Rattle.tm_trees.specs.FileTrees.{a_named_parameter, an_unnamed_parameter, ParametersTree, only_void}
-use Rattle.tm_trees.specs.FileTrees.{some_parameters, ItemTree, a_declaration, a_function, an_empty_item, a_mutex}
+use Rattle.tm_trees.specs.FileTrees.{some_parameters, ItemTree, a_declaration, a_function, an_empty_item}
+use Rattle.tm_trees.specs.FileTrees.{a_mutex}
 use Rattle.tm_trees.specs.FileTrees.{a_task}
 use Rattle.c_decl_parser.specs.declared.tokens.Keyword.TheVariants as Keywords
 use Rattle.c_decl_parser.specs.reading.Parts.{after_word, declared_at, expression, until, in_parentheses}

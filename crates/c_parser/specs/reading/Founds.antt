@@ -6,7 +6,8 @@ use Rattle.tm_terms.specs.ExprTrees.{Tree}
 use Rattle.tm_trees.specs.declared.statements.Statement.{Statement}
 use Rattle.tm_trees.specs.DeclarationTrees.{optional_tree}
 use Rattle.tm_trees.specs.declared.files.File.{File}
-use Rattle.tm_trees.specs.FileTrees.{StatementTree, statement_tree, ForFirstTree, first_tree, ItemTree, file_tree}
+use Rattle.tm_trees.specs.FileTrees.{StatementTree, statement_tree, ForFirstTree, first_tree, ItemTree}
+use Rattle.tm_trees.specs.FileTrees.{file_tree}
 use Rattle.c_decl_parser.specs.declared.reads.Read.{Read}
 use Rattle.c_decl_parser.specs.declared.reads.Read.TheVariants.{Found, Stuck}
 use Rattle.c_parser.specs.declared.statement_nodes.ForHead.{ForHead}

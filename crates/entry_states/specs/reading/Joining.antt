@@ -2,7 +2,7 @@
 use Rattle.std.specs.Prelude.{◌≡◌, ℕ, ◌<◌, List, length, get_or, slice_set}
 use Rattle.tm_laid.specs.Layouts.{LaidTree}
 use Rattle.pointer_dom.specs.Values.{Values, no_value, joined_values}
-use Rattle.program_equations.specs.Entries.{initial_below}
+use Rattle.body_systems.specs.program_equations.Entries.{initial_below}
 
 -- one more value is joined in at a number
 abbrev pub with_joined : List Values → ℕ → Values → List Values

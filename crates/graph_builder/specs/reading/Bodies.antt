@@ -4,9 +4,10 @@ use Rattle.tm_typed.specs.declared.types.CType.{CType}
 use Rattle.tm_typed.specs.TypedStatements.{TypedTrees}
 use Rattle.tm_laid.specs.Layouts.{LaidTree}
 use Rattle.flow_graph.specs.declared.operations.Operation.{Operation}
-use Rattle.lowering.specs.Table.{is_value_type, plans}
-use Rattle.lowering.specs.Built.{Building, AfterPart, Sites, Later, place, place_new, plan_piece, is_return, nodes_by}
-use Rattle.lowering.specs.Built.{fallen_piece, result_at, nothing_piece}
+use Rattle.body_builder.specs.lowering.Table.{is_value_type, plans}
+use Rattle.body_builder.specs.lowering.Built.{Building, AfterPart, Sites, Later, place, place_new, plan_piece}
+use Rattle.body_builder.specs.lowering.Built.{is_return, nodes_by}
+use Rattle.body_builder.specs.lowering.Built.{fallen_piece, result_at, nothing_piece}
 
 -- an operation that gives the value of a call, to the temporary that there is or to a new one
 unfoldable pub result_placed : Option ℕ → Operation → Building → Building

@@ -4,7 +4,7 @@ use Rattle.tm_terms.specs.declared.refusals.Limit.TheVariants as Limits
 use Rattle.tm_terms.specs.Limits.{limit_number}
 use Rattle.tm_laid.specs.Layouts.{LaidTree}
 use Rattle.flow_graph.specs.declared.graphs.Graph.{Graph}
-use Rattle.lowering.specs.Built.{built}
+use Rattle.body_builder.specs.lowering.Built.{built}
 use Rattle.graph_builder.specs.Lowered.{IsGraphOf, AreGraphs, HasTooManyNodes}
 
 -- for one body: its graph, or that it has too many nodes

@@ -6,25 +6,28 @@
 --   __task(1) void
 --     t(void){a[i]=1;m[i][1]=a[2];p=&a[i];p=p+i;*p=2;p[1]=3;s.v[i]=4;q=&s;q->x=5;q->n=q;q->n->v[0]=6;p++;i=p==&a[1];}
 use Rattle.std.proofs.Common.{◌≡◌, refl, true, false, List, [], ◌∷◌, map, Some, None}
-use Rattle.tm_terms.specs.declared.tokens.Longs.TheVariants as Suffix
-use Rattle.tm_terms.specs.declared.types_named.SpecWord.TheVariants as Specs
-use Rattle.tm_terms.specs.declared.types_named.Basic.TheVariants as Basics
-use Rattle.tm_terms.specs.declared.types_named.TagKind.TheVariants as Kinds
-use Rattle.tm_terms.specs.declared.types_named.PointerWord.TheVariants as PointerWords
-use Rattle.tm_terms.specs.declared.exprs.Binary.TheVariants as Binaries
-use Rattle.tm_terms.specs.declared.exprs.Infix.TheVariants as Infixes
-use Rattle.tm_terms.specs.declared.exprs.Prefix.TheVariants as Prefixes
-use Rattle.tm_terms.specs.declared.exprs.Postfix.TheVariants as Postfixes
-use Rattle.tm_terms.specs.declared.exprs.Access.TheVariants as Accesses
-use Rattle.tm_terms.specs.ExprTrees.{a_name, an_integer, a_prefix, an_infix, a_subscript, a_member, a_postfix}
-use Rattle.tm_trees.specs.DeclarationTrees.{a_declared_name, a_plain, a_struct, no_specifiers, and_specifier}
-use Rattle.tm_trees.specs.DeclarationTrees.{no_members, and_members}
-use Rattle.tm_trees.specs.FileTrees.{a_value, a_step, no_parts, and_part, ItemTree, a_declaration, a_task}
-use Rattle.tm_typed.specs.Rules.{working_type, right_type, values_fold}
-use Rattle.tm_typed.specs.Files.{first_file_state, items_in}
-use Rattle.tm_laid.specs.CallTrees.{call_tree}
-use Rattle.tm_laid.specs.TypeCells.{cell_count, abstract_count, type_cells, type_abstracts}
-use Rattle.tm_laid.specs.Layouts.{LaidTree, layout_of}
+use Rattle.concrete_steps.specs.tm_terms.declared.tokens.Longs.TheVariants as Suffix
+use Rattle.concrete_steps.specs.tm_terms.declared.types_named.SpecWord.TheVariants as Specs
+use Rattle.concrete_steps.specs.tm_terms.declared.types_named.Basic.TheVariants as Basics
+use Rattle.concrete_steps.specs.tm_terms.declared.types_named.TagKind.TheVariants as Kinds
+use Rattle.concrete_steps.specs.tm_terms.declared.types_named.PointerWord.TheVariants as PointerWords
+use Rattle.concrete_steps.specs.tm_terms.declared.exprs.Binary.TheVariants as Binaries
+use Rattle.concrete_steps.specs.tm_terms.declared.exprs.Infix.TheVariants as Infixes
+use Rattle.concrete_steps.specs.tm_terms.declared.exprs.Prefix.TheVariants as Prefixes
+use Rattle.concrete_steps.specs.tm_terms.declared.exprs.Postfix.TheVariants as Postfixes
+use Rattle.concrete_steps.specs.tm_terms.declared.exprs.Access.TheVariants as Accesses
+use Rattle.concrete_steps.specs.tm_terms.ExprTrees.{a_name, an_integer, a_prefix, an_infix, a_subscript, a_member}
+use Rattle.concrete_steps.specs.tm_terms.ExprTrees.{a_postfix}
+use Rattle.concrete_steps.specs.tm_trees.DeclarationTrees.{a_declared_name, a_plain, a_struct, no_specifiers}
+use Rattle.concrete_steps.specs.tm_trees.DeclarationTrees.{and_specifier}
+use Rattle.concrete_steps.specs.tm_trees.DeclarationTrees.{no_members, and_members}
+use Rattle.concrete_steps.specs.tm_trees.FileTrees.{a_value, a_step, no_parts, and_part, ItemTree, a_declaration}
+use Rattle.concrete_steps.specs.tm_trees.FileTrees.{a_task}
+use Rattle.concrete_steps.specs.tm_typed.Rules.{working_type, right_type, values_fold}
+use Rattle.concrete_steps.specs.tm_typed.Files.{first_file_state, items_in}
+use Rattle.concrete_steps.specs.tm_laid.CallTrees.{call_tree}
+use Rattle.concrete_steps.specs.tm_laid.TypeCells.{cell_count, abstract_count, type_cells, type_abstracts}
+use Rattle.concrete_steps.specs.tm_laid.Layouts.{LaidTree, layout_of}
 use Rattle.lowering.specs.Built.{built, graph_of}
 use Rattle.lowering.proofs.cases.Rows.{at, name, laid_of, row_of}
 

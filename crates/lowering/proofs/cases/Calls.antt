@@ -8,22 +8,24 @@
 --   __task(1) void t(void){r=max(r,max(2,r));put(&r,3);r=none(4);}
 use Rattle.std.proofs.Common.{◌≡◌, refl, ℕ, zero, suc, ◌<◌, true, false, List, [], ◌∷◌, length, map, Some, None, arith}
 use Rattle.std.specs.Prelude.{get_or}
-use Rattle.tm_terms.specs.declared.tokens.Longs.TheVariants as Suffix
-use Rattle.tm_terms.specs.declared.types_named.SpecWord.TheVariants as Specs
-use Rattle.tm_terms.specs.declared.types_named.Basic.TheVariants as Basics
-use Rattle.tm_terms.specs.declared.types_named.PointerWord.TheVariants as PointerWords
-use Rattle.tm_terms.specs.declared.exprs.Binary.TheVariants as Binaries
-use Rattle.tm_terms.specs.declared.exprs.Infix.TheVariants as Infixes
-use Rattle.tm_terms.specs.declared.exprs.Prefix.TheVariants as Prefixes
-use Rattle.tm_terms.specs.ExprTrees.{a_name, an_integer, a_call, a_prefix, an_infix, no_arguments, and_argument}
-use Rattle.tm_trees.specs.DeclarationTrees.{a_declared_name, a_plain, no_specifiers, and_specifier}
-use Rattle.tm_trees.specs.FileTrees.{a_value, an_if, a_return, a_step, no_parts, and_part, a_named_parameter}
-use Rattle.tm_trees.specs.FileTrees.{some_parameters, ItemTree, a_declaration, a_function, a_task}
-use Rattle.tm_typed.specs.Rules.{working_type, right_type, values_fold}
-use Rattle.tm_typed.specs.Files.{first_file_state, items_in}
-use Rattle.tm_laid.specs.CallTrees.{call_tree}
-use Rattle.tm_laid.specs.TypeCells.{cell_count, abstract_count, type_cells, type_abstracts}
-use Rattle.tm_laid.specs.Layouts.{LaidTree, layout_of}
+use Rattle.concrete_steps.specs.tm_terms.declared.tokens.Longs.TheVariants as Suffix
+use Rattle.concrete_steps.specs.tm_terms.declared.types_named.SpecWord.TheVariants as Specs
+use Rattle.concrete_steps.specs.tm_terms.declared.types_named.Basic.TheVariants as Basics
+use Rattle.concrete_steps.specs.tm_terms.declared.types_named.PointerWord.TheVariants as PointerWords
+use Rattle.concrete_steps.specs.tm_terms.declared.exprs.Binary.TheVariants as Binaries
+use Rattle.concrete_steps.specs.tm_terms.declared.exprs.Infix.TheVariants as Infixes
+use Rattle.concrete_steps.specs.tm_terms.declared.exprs.Prefix.TheVariants as Prefixes
+use Rattle.concrete_steps.specs.tm_terms.ExprTrees.{a_name, an_integer, a_call, a_prefix, an_infix, no_arguments}
+use Rattle.concrete_steps.specs.tm_terms.ExprTrees.{and_argument}
+use Rattle.concrete_steps.specs.tm_trees.DeclarationTrees.{a_declared_name, a_plain, no_specifiers, and_specifier}
+use Rattle.concrete_steps.specs.tm_trees.FileTrees.{a_value, an_if, a_return, a_step, no_parts, and_part}
+use Rattle.concrete_steps.specs.tm_trees.FileTrees.{a_named_parameter}
+use Rattle.concrete_steps.specs.tm_trees.FileTrees.{some_parameters, ItemTree, a_declaration, a_function, a_task}
+use Rattle.concrete_steps.specs.tm_typed.Rules.{working_type, right_type, values_fold}
+use Rattle.concrete_steps.specs.tm_typed.Files.{first_file_state, items_in}
+use Rattle.concrete_steps.specs.tm_laid.CallTrees.{call_tree}
+use Rattle.concrete_steps.specs.tm_laid.TypeCells.{cell_count, abstract_count, type_cells, type_abstracts}
+use Rattle.concrete_steps.specs.tm_laid.Layouts.{LaidTree, layout_of}
 use Rattle.concrete_steps.specs.Places.{result_type}
 use Rattle.concrete_steps.specs.NextAction.{function_at}
 use Rattle.lowering.specs.Table.{is_value_type}

@@ -4,20 +4,21 @@
 --   int x;int y;
 --   __task(1) void t(void){do{x=1;}while(0);if(1<2)y=1;while(0)y=2;y=sizeof(int)+2*3;if(2){y=4;}}
 use Rattle.std.proofs.Common.{◌≡◌, refl, true, false, List, [], ◌∷◌, map, Some, None}
-use Rattle.tm_terms.specs.declared.tokens.Longs.TheVariants as Suffix
-use Rattle.tm_terms.specs.declared.types_named.SpecWord.TheVariants as Specs
-use Rattle.tm_terms.specs.declared.types_named.Basic.TheVariants as Basics
-use Rattle.tm_terms.specs.declared.exprs.Binary.TheVariants as Binaries
-use Rattle.tm_terms.specs.declared.exprs.Infix.TheVariants as Infixes
-use Rattle.tm_terms.specs.ExprTrees.{a_name, a_sizeof_type, an_infix, an_integer}
-use Rattle.tm_trees.specs.DeclarationTrees.{a_declared_name, a_plain, and_specifier, no_specifiers}
-use Rattle.tm_trees.specs.FileTrees.{a_block, a_declaration, a_do, a_step, a_task, a_value, a_while, an_if, and_part}
-use Rattle.tm_trees.specs.FileTrees.{no_parts, ItemTree}
-use Rattle.tm_typed.specs.Rules.{working_type, right_type, values_fold}
-use Rattle.tm_typed.specs.Files.{first_file_state, items_in}
-use Rattle.tm_laid.specs.CallTrees.{call_tree}
-use Rattle.tm_laid.specs.TypeCells.{cell_count, abstract_count, type_cells, type_abstracts}
-use Rattle.tm_laid.specs.Layouts.{LaidTree, layout_of}
+use Rattle.concrete_steps.specs.tm_terms.declared.tokens.Longs.TheVariants as Suffix
+use Rattle.concrete_steps.specs.tm_terms.declared.types_named.SpecWord.TheVariants as Specs
+use Rattle.concrete_steps.specs.tm_terms.declared.types_named.Basic.TheVariants as Basics
+use Rattle.concrete_steps.specs.tm_terms.declared.exprs.Binary.TheVariants as Binaries
+use Rattle.concrete_steps.specs.tm_terms.declared.exprs.Infix.TheVariants as Infixes
+use Rattle.concrete_steps.specs.tm_terms.ExprTrees.{a_name, a_sizeof_type, an_infix, an_integer}
+use Rattle.concrete_steps.specs.tm_trees.DeclarationTrees.{a_declared_name, a_plain, and_specifier, no_specifiers}
+use Rattle.concrete_steps.specs.tm_trees.FileTrees.{a_block, a_declaration, a_do, a_step, a_task, a_value, a_while}
+use Rattle.concrete_steps.specs.tm_trees.FileTrees.{an_if, and_part}
+use Rattle.concrete_steps.specs.tm_trees.FileTrees.{no_parts, ItemTree}
+use Rattle.concrete_steps.specs.tm_typed.Rules.{working_type, right_type, values_fold}
+use Rattle.concrete_steps.specs.tm_typed.Files.{first_file_state, items_in}
+use Rattle.concrete_steps.specs.tm_laid.CallTrees.{call_tree}
+use Rattle.concrete_steps.specs.tm_laid.TypeCells.{cell_count, abstract_count, type_cells, type_abstracts}
+use Rattle.concrete_steps.specs.tm_laid.Layouts.{LaidTree, layout_of}
 use Rattle.lowering.specs.Built.{built, graph_of}
 use Rattle.lowering.proofs.cases.Rows.{at, name, laid_of, row_of}
 

@@ -4,21 +4,23 @@
 --   int i;
 --   __task(1) void t(void){for(;;){i++;if(i>3)break;}for(;i;){i--;continue;}while(1){__yield();}}
 use Rattle.std.proofs.Common.{◌≡◌, refl, true, false, List, [], ◌∷◌, map, Some, None}
-use Rattle.tm_terms.specs.declared.tokens.Longs.TheVariants as Suffix
-use Rattle.tm_terms.specs.declared.types_named.SpecWord.TheVariants as Specs
-use Rattle.tm_terms.specs.declared.types_named.Basic.TheVariants as Basics
-use Rattle.tm_terms.specs.declared.exprs.Binary.TheVariants as Binaries
-use Rattle.tm_terms.specs.declared.exprs.Infix.TheVariants as Infixes
-use Rattle.tm_terms.specs.declared.exprs.Postfix.TheVariants as Postfixes
-use Rattle.tm_terms.specs.ExprTrees.{a_name, a_postfix, an_infix, an_integer}
-use Rattle.tm_trees.specs.DeclarationTrees.{a_declared_name, a_plain, and_specifier, no_specifiers}
-use Rattle.tm_trees.specs.FileTrees.{a_block, a_break, a_continue, a_declaration, a_for, a_step, a_task, a_value}
-use Rattle.tm_trees.specs.FileTrees.{a_while, a_yield, an_if, and_part, by_expression, no_parts, ItemTree}
-use Rattle.tm_typed.specs.Rules.{working_type, right_type, values_fold}
-use Rattle.tm_typed.specs.Files.{first_file_state, items_in}
-use Rattle.tm_laid.specs.CallTrees.{call_tree}
-use Rattle.tm_laid.specs.TypeCells.{cell_count, abstract_count, type_cells, type_abstracts}
-use Rattle.tm_laid.specs.Layouts.{LaidTree, layout_of}
+use Rattle.concrete_steps.specs.tm_terms.declared.tokens.Longs.TheVariants as Suffix
+use Rattle.concrete_steps.specs.tm_terms.declared.types_named.SpecWord.TheVariants as Specs
+use Rattle.concrete_steps.specs.tm_terms.declared.types_named.Basic.TheVariants as Basics
+use Rattle.concrete_steps.specs.tm_terms.declared.exprs.Binary.TheVariants as Binaries
+use Rattle.concrete_steps.specs.tm_terms.declared.exprs.Infix.TheVariants as Infixes
+use Rattle.concrete_steps.specs.tm_terms.declared.exprs.Postfix.TheVariants as Postfixes
+use Rattle.concrete_steps.specs.tm_terms.ExprTrees.{a_name, a_postfix, an_infix, an_integer}
+use Rattle.concrete_steps.specs.tm_trees.DeclarationTrees.{a_declared_name, a_plain, and_specifier, no_specifiers}
+use Rattle.concrete_steps.specs.tm_trees.FileTrees.{a_block, a_break, a_continue, a_declaration, a_for, a_step, a_task}
+use Rattle.concrete_steps.specs.tm_trees.FileTrees.{a_value}
+use Rattle.concrete_steps.specs.tm_trees.FileTrees.{a_while, a_yield, an_if, and_part, by_expression, no_parts}
+use Rattle.concrete_steps.specs.tm_trees.FileTrees.{ItemTree}
+use Rattle.concrete_steps.specs.tm_typed.Rules.{working_type, right_type, values_fold}
+use Rattle.concrete_steps.specs.tm_typed.Files.{first_file_state, items_in}
+use Rattle.concrete_steps.specs.tm_laid.CallTrees.{call_tree}
+use Rattle.concrete_steps.specs.tm_laid.TypeCells.{cell_count, abstract_count, type_cells, type_abstracts}
+use Rattle.concrete_steps.specs.tm_laid.Layouts.{LaidTree, layout_of}
 use Rattle.lowering.specs.Built.{built, graph_of}
 use Rattle.lowering.proofs.cases.Rows.{at, name, laid_of, row_of}
 

@@ -7,21 +7,22 @@
 --
 -- The last two lines are one in the source.
 use Rattle.std.proofs.Common.{◌≡◌, refl, true, false, List, [], ◌∷◌, map, Some, None}
-use Rattle.tm_terms.specs.declared.tokens.Longs.TheVariants as Suffix
-use Rattle.tm_terms.specs.declared.types_named.SpecWord.TheVariants as Specs
-use Rattle.tm_terms.specs.declared.types_named.Basic.TheVariants as Basics
-use Rattle.tm_terms.specs.declared.exprs.Binary.TheVariants as Binaries
-use Rattle.tm_terms.specs.declared.exprs.Infix.TheVariants as Infixes
-use Rattle.tm_terms.specs.declared.exprs.Postfix.TheVariants as Postfixes
-use Rattle.tm_terms.specs.ExprTrees.{a_name, an_integer, an_infix, a_postfix}
-use Rattle.tm_trees.specs.DeclarationTrees.{a_declared_name, a_plain, no_specifiers, and_specifier}
-use Rattle.tm_trees.specs.FileTrees.{by_expression, a_block, a_value, an_if, a_while, a_do, a_for, a_break, a_continue}
-use Rattle.tm_trees.specs.FileTrees.{a_step, no_parts, and_part, ItemTree, a_declaration, a_task}
-use Rattle.tm_typed.specs.Rules.{working_type, right_type, values_fold}
-use Rattle.tm_typed.specs.Files.{first_file_state, items_in}
-use Rattle.tm_laid.specs.CallTrees.{call_tree}
-use Rattle.tm_laid.specs.TypeCells.{cell_count, abstract_count, type_cells, type_abstracts}
-use Rattle.tm_laid.specs.Layouts.{LaidTree, layout_of}
+use Rattle.concrete_steps.specs.tm_terms.declared.tokens.Longs.TheVariants as Suffix
+use Rattle.concrete_steps.specs.tm_terms.declared.types_named.SpecWord.TheVariants as Specs
+use Rattle.concrete_steps.specs.tm_terms.declared.types_named.Basic.TheVariants as Basics
+use Rattle.concrete_steps.specs.tm_terms.declared.exprs.Binary.TheVariants as Binaries
+use Rattle.concrete_steps.specs.tm_terms.declared.exprs.Infix.TheVariants as Infixes
+use Rattle.concrete_steps.specs.tm_terms.declared.exprs.Postfix.TheVariants as Postfixes
+use Rattle.concrete_steps.specs.tm_terms.ExprTrees.{a_name, an_integer, an_infix, a_postfix}
+use Rattle.concrete_steps.specs.tm_trees.DeclarationTrees.{a_declared_name, a_plain, no_specifiers, and_specifier}
+use Rattle.concrete_steps.specs.tm_trees.FileTrees.{by_expression, a_block, a_value, an_if, a_while, a_do, a_for}
+use Rattle.concrete_steps.specs.tm_trees.FileTrees.{a_break, a_continue}
+use Rattle.concrete_steps.specs.tm_trees.FileTrees.{a_step, no_parts, and_part, ItemTree, a_declaration, a_task}
+use Rattle.concrete_steps.specs.tm_typed.Rules.{working_type, right_type, values_fold}
+use Rattle.concrete_steps.specs.tm_typed.Files.{first_file_state, items_in}
+use Rattle.concrete_steps.specs.tm_laid.CallTrees.{call_tree}
+use Rattle.concrete_steps.specs.tm_laid.TypeCells.{cell_count, abstract_count, type_cells, type_abstracts}
+use Rattle.concrete_steps.specs.tm_laid.Layouts.{LaidTree, layout_of}
 use Rattle.lowering.specs.Built.{built, graph_of}
 use Rattle.lowering.proofs.cases.Rows.{at, name, laid_of, row_of}
 

@@ -5,22 +5,23 @@
 --   static void f(void){if(x)return;x=1;}
 --   __task(1) void t(void){if(x)return;f();x=2;while(x){if(x==2)return;x--;}}
 use Rattle.std.proofs.Common.{◌≡◌, refl, true, false, List, [], ◌∷◌, map, Some, None}
-use Rattle.tm_terms.specs.declared.tokens.Longs.TheVariants as Suffix
-use Rattle.tm_terms.specs.declared.types_named.SpecWord.TheVariants as Specs
-use Rattle.tm_terms.specs.declared.types_named.Basic.TheVariants as Basics
-use Rattle.tm_terms.specs.declared.types_named.Storage.TheVariants as Storages
-use Rattle.tm_terms.specs.declared.exprs.Binary.TheVariants as Binaries
-use Rattle.tm_terms.specs.declared.exprs.Infix.TheVariants as Infixes
-use Rattle.tm_terms.specs.declared.exprs.Postfix.TheVariants as Postfixes
-use Rattle.tm_terms.specs.ExprTrees.{a_call, a_name, a_postfix, an_infix, an_integer, no_arguments}
-use Rattle.tm_trees.specs.DeclarationTrees.{a_declared_name, a_plain, and_specifier, no_specifiers}
-use Rattle.tm_trees.specs.FileTrees.{a_block, a_declaration, a_function, a_mutex, a_return, a_step, a_task, a_value}
-use Rattle.tm_trees.specs.FileTrees.{a_while, an_if, and_part, no_parts, only_void, ItemTree}
-use Rattle.tm_typed.specs.Rules.{working_type, right_type, values_fold}
-use Rattle.tm_typed.specs.Files.{first_file_state, items_in}
-use Rattle.tm_laid.specs.CallTrees.{call_tree}
-use Rattle.tm_laid.specs.TypeCells.{cell_count, abstract_count, type_cells, type_abstracts}
-use Rattle.tm_laid.specs.Layouts.{LaidTree, layout_of}
+use Rattle.concrete_steps.specs.tm_terms.declared.tokens.Longs.TheVariants as Suffix
+use Rattle.concrete_steps.specs.tm_terms.declared.types_named.SpecWord.TheVariants as Specs
+use Rattle.concrete_steps.specs.tm_terms.declared.types_named.Basic.TheVariants as Basics
+use Rattle.concrete_steps.specs.tm_terms.declared.types_named.Storage.TheVariants as Storages
+use Rattle.concrete_steps.specs.tm_terms.declared.exprs.Binary.TheVariants as Binaries
+use Rattle.concrete_steps.specs.tm_terms.declared.exprs.Infix.TheVariants as Infixes
+use Rattle.concrete_steps.specs.tm_terms.declared.exprs.Postfix.TheVariants as Postfixes
+use Rattle.concrete_steps.specs.tm_terms.ExprTrees.{a_call, a_name, a_postfix, an_infix, an_integer, no_arguments}
+use Rattle.concrete_steps.specs.tm_trees.DeclarationTrees.{a_declared_name, a_plain, and_specifier, no_specifiers}
+use Rattle.concrete_steps.specs.tm_trees.FileTrees.{a_block, a_declaration, a_function, a_mutex, a_return, a_step}
+use Rattle.concrete_steps.specs.tm_trees.FileTrees.{a_task, a_value}
+use Rattle.concrete_steps.specs.tm_trees.FileTrees.{a_while, an_if, and_part, no_parts, only_void, ItemTree}
+use Rattle.concrete_steps.specs.tm_typed.Rules.{working_type, right_type, values_fold}
+use Rattle.concrete_steps.specs.tm_typed.Files.{first_file_state, items_in}
+use Rattle.concrete_steps.specs.tm_laid.CallTrees.{call_tree}
+use Rattle.concrete_steps.specs.tm_laid.TypeCells.{cell_count, abstract_count, type_cells, type_abstracts}
+use Rattle.concrete_steps.specs.tm_laid.Layouts.{LaidTree, layout_of}
 use Rattle.lowering.specs.Built.{built, graph_of}
 use Rattle.lowering.proofs.cases.Rows.{at, name, laid_of, row_of}
 

@@ -2,20 +2,20 @@
 -- numbers.
 use Rattle.std.proofs.Common.{ℕ, ◌+◌, ◌*◌, ℤ, pos, negsuc, Bool, true, false, List, [], ◌∷◌, Option, Result, Ok, Err}
 use Rattle.std.specs.Prelude.{if◌then◌else◌}
-use Rattle.tm_cint.specs.declared.operators.BinOp.{BinOp}
-use Rattle.tm_cint.specs.declared.operators.BinOp.TheVariants as Bins
-use Rattle.tm_terms.specs.declared.places.Place.{Place}
-use Rattle.tm_terms.specs.declared.tokens.Name.{Name}
-use Rattle.tm_terms.specs.declared.refusals.Refusal.{Refusal}
-use Rattle.tm_typed.specs.declared.types.Scalar.{Scalar}
-use Rattle.tm_typed.specs.declared.types.Scalar.TheVariants as Scalars
-use Rattle.tm_typed.specs.declared.expressions.Unary.{Unary}
-use Rattle.tm_typed.specs.declared.expressions.Unary.TheVariants as Unaries
-use Rattle.tm_typed.specs.Types.{int_index}
-use Rattle.tm_typed.specs.Files.{FileState, first_file_state, file_of}
-use Rattle.tm_laid.specs.Layouts.{LaidTree, layout_of}
-use Rattle.concrete_values.specs.declared.values.Value.{Value}
-use Rattle.concrete_values.specs.declared.values.Value.TheVariants.{Number, Pointer as APointer}
+use Rattle.concrete_steps.specs.tm_cint.declared.operators.BinOp.{BinOp}
+use Rattle.concrete_steps.specs.tm_cint.declared.operators.BinOp.TheVariants as Bins
+use Rattle.concrete_steps.specs.tm_terms.declared.places.Place.{Place}
+use Rattle.concrete_steps.specs.tm_terms.declared.tokens.Name.{Name}
+use Rattle.concrete_steps.specs.tm_terms.declared.refusals.Refusal.{Refusal}
+use Rattle.concrete_steps.specs.tm_typed.declared.types.Scalar.{Scalar}
+use Rattle.concrete_steps.specs.tm_typed.declared.types.Scalar.TheVariants as Scalars
+use Rattle.concrete_steps.specs.tm_typed.declared.expressions.Unary.{Unary}
+use Rattle.concrete_steps.specs.tm_typed.declared.expressions.Unary.TheVariants as Unaries
+use Rattle.concrete_steps.specs.tm_typed.Types.{int_index}
+use Rattle.concrete_steps.specs.tm_typed.Files.{FileState, first_file_state, file_of}
+use Rattle.concrete_steps.specs.tm_laid.Layouts.{LaidTree, layout_of}
+use Rattle.concrete_steps.specs.concrete_values.declared.values.Value.{Value}
+use Rattle.concrete_steps.specs.concrete_values.declared.values.Value.TheVariants.{Number, Pointer as APointer}
 use Rattle.flow_graph.specs.declared.graphs.Edge.{Edge}
 use Rattle.flow_graph.specs.declared.operations.Test.{Test}
 use Rattle.flow_graph.specs.declared.operations.Test.TheVariants as Tests

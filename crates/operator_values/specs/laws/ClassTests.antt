@@ -4,25 +4,27 @@ use Rattle.std.specs.Prelude as P
 use Rattle.std.proofs.Common.{inl, inr, ⊎_elim, sym, subst}
 use Rattle.std.specs.FinMap as map
 use Rattle.std.proofs.lemmas.Bool.{false≢true}
-use Rattle.strided_dom.specs.Progression.{Progression, Has}
-use Rattle.strided_dom.proofs.Members.{not_in_empty}
+use Rattle.filters.specs.strided_dom.Progression.{Progression, Has}
+use Rattle.filters.proofs.low.strided_dom.Members.{not_in_empty}
 use Rattle.tm_cint.specs.IntTypes.{IsIn, is_signed, lo_of, hi_of}
 use Rattle.tm_cint.specs.Operators.{is_count}
 use Rattle.tm_cint.specs.declared.Class.{Class}
-use Rattle.tm_cint.specs.declared.Class.TheVariants.{Overflow, Shift, Index, Pointer as PointerClass, Deref, Lock, Race}
+use Rattle.tm_cint.specs.declared.Class.TheVariants.{Overflow, Shift, Index, Pointer as PointerClass, Deref}
+use Rattle.tm_cint.specs.declared.Class.TheVariants.{Lock, Race}
 use Rattle.tm_cint.specs.declared.Class.TheVariants.{Div as DivByZero}
 use Rattle.tm_cint.specs.declared.int_types.IntType.{IntType}
 use Rattle.tm_cint.specs.declared.operators.BinOp.{BinOp}
-use Rattle.tm_cint.specs.declared.operators.BinOp.TheVariants.{Add, Sub, Mul, Div, Rem, Shl, Shr, And, Or, Xor, Lt, Le}
+use Rattle.tm_cint.specs.declared.operators.BinOp.TheVariants.{Add, Sub, Mul, Div, Rem, Shl, Shr, And, Or, Xor}
+use Rattle.tm_cint.specs.declared.operators.BinOp.TheVariants.{Lt, Le}
 use Rattle.tm_cint.specs.declared.operators.BinOp.TheVariants.{Gt, Ge, Eq, Ne}
 use Rattle.transfer_int.specs.Values.{Leaves, HasLeastByMinusOne, HasZeroDivisor, HasBadCount, ShiftsNegative, MayFail}
 use Rattle.transfer_int.specs.Values.{is_fitted, is_division, is_shift}
-use Rattle.pointer_dom.specs.Offset.{IsOffset}
-use Rattle.pointer_dom.specs.OffsetSets.{OffsetSet}
-use Rattle.pointer_dom.specs.Pointer.{Pointer}
-use Rattle.pointer_dom.specs.PointerSets.{Pointers, IsPointer, offsets_or_none}
-use Rattle.pointer_dom.specs.Advances.{IsAdvanced, IsSafeAdvance, IsSubscript, AreSubscripts}
-use Rattle.pointer_dom.specs.Selections.{Reaches}
+use Rattle.filters.specs.pointer_dom.Offset.{IsOffset}
+use Rattle.filters.specs.pointer_dom.OffsetSets.{OffsetSet}
+use Rattle.filters.specs.pointer_dom.Pointer.{Pointer}
+use Rattle.filters.specs.pointer_dom.PointerSets.{Pointers, IsPointer, offsets_or_none}
+use Rattle.filters.specs.pointer_dom.Advances.{IsAdvanced, IsSafeAdvance, IsSubscript, AreSubscripts}
+use Rattle.filters.specs.pointer_dom.Selections.{Reaches}
 use Rattle.operator_values.specs.laws.Listings.{Test, not_test, both_test, either_test, most_test, Listing}
 use Rattle.operator_values.specs.laws.Listings.{members, any_listed, has_test}
 use Rattle.operator_values.specs.laws.Comparisons.{less_test}

@@ -4,7 +4,8 @@ use Rattle.std.proofs.Common.{inl, inr, arith}
 use Rattle.std.proofs.lemmas.Int.{ints, by_lt_z}
 use Rattle.std.specs.Prelude.{◌<ℤ◌}
 use Rattle.tm_cint.specs.declared.operators.BinOp.{BinOp}
-use Rattle.tm_cint.specs.declared.operators.BinOp.TheVariants.{Add, Sub, Mul, Div, Rem, Shl, Shr, And, Or, Xor, Lt, Le}
+use Rattle.tm_cint.specs.declared.operators.BinOp.TheVariants.{Add, Sub, Mul, Div, Rem, Shl, Shr, And, Or, Xor}
+use Rattle.tm_cint.specs.declared.operators.BinOp.TheVariants.{Lt, Le}
 use Rattle.tm_cint.specs.declared.operators.BinOp.TheVariants.{Gt, Ge, Eq, Ne}
 use Rattle.filters.specs.Partners.{Compares}
 use Rattle.operator_values.specs.laws.Listings.{Test, not_test, same_test, most_test}

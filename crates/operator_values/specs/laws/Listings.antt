@@ -5,9 +5,9 @@ use Rattle.std.proofs.lemmas.Bool.{cases_eq, cases_Bool, false≢true}
 use Rattle.std.proofs.lemmas.Bool.Decides.{Decides-int_eq}
 use Rattle.std.proofs.lemmas.Int.{ints, by_lt_z}
 use Rattle.std.specs.Ordering.{int_eq}
-use Rattle.strided_dom.specs.Progression.{Progression, empty, single, row, Has, IsHull}
-use Rattle.strided_dom.proofs.Members.{not_in_empty}
-use Rattle.pointer_dom.specs.StridedSets.{hull, hull_is}
+use Rattle.filters.specs.strided_dom.Progression.{Progression, empty, single, row, Has, IsHull}
+use Rattle.filters.proofs.low.strided_dom.Members.{not_in_empty}
+use Rattle.filters.specs.pointer_dom.StridedSets.{hull, hull_is}
 use Rattle.filters.specs.Partners.{HasPartner}
 use Rattle.transfer_int.specs.Operands.{IsResult}
 

@@ -6,14 +6,14 @@ use Rattle.std.specs.Ordering.{nat_cmp}
 use Rattle.std.proofs.lemmas.Bool.{cases_eq}
 use Rattle.std.specs.FinMap.{find, is_sorted, get, retain_keys, entries, get-entries, get-retain_keys, entries_sorted}
 use Rattle.std.specs.FinMap.{nat_cmp-IsAntisymmetric}
-use Rattle.strided_dom.specs.Progression.{Progression, empty, single, row, Has, IsExactly}
-use Rattle.strided_dom.proofs.Spans.{exactly_empty}
-use Rattle.tm_lattice.specs.Tables.{Table, IsTable, IsEntry, changed_table}
-use Rattle.tm_lattice.specs.laws.Keys.{AllAbove-rest, is_sorted-rest, find-here, find-there, find_below}
-use Rattle.tm_lattice.specs.laws.SelectedLaws.{changed_at, get-changed_table}
-use Rattle.pointer_dom.specs.Offset.{IsOffset}
-use Rattle.pointer_dom.specs.OffsetSets.{OffsetSet, IsOffsetSet, HasNoOffset, IsOffsetsOf, no_offset}
-use Rattle.pointer_dom.specs.PointerSets.{offsets_or_none}
+use Rattle.filters.specs.strided_dom.Progression.{Progression, empty, single, row, Has, IsExactly}
+use Rattle.filters.proofs.low.strided_dom.Spans.{exactly_empty}
+use Rattle.filters.specs.tm_lattice.Tables.{Table, IsTable, IsEntry, changed_table}
+use Rattle.filters.specs.tm_lattice.laws.Keys.{AllAbove-rest, is_sorted-rest, find-here, find-there, find_below}
+use Rattle.filters.specs.tm_lattice.laws.SelectedLaws.{changed_at, get-changed_table}
+use Rattle.filters.specs.pointer_dom.Offset.{IsOffset}
+use Rattle.filters.specs.pointer_dom.OffsetSets.{OffsetSet, IsOffsetSet, HasNoOffset, IsOffsetsOf, no_offset}
+use Rattle.filters.specs.pointer_dom.PointerSets.{offsets_or_none}
 use Rattle.operator_values.specs.laws.Listings.{Test}
 
 -- the set has a member

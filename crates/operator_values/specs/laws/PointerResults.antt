@@ -5,19 +5,19 @@ use Rattle.std.proofs.Common.{sym, ap, subst, ◌∙◌, inl, inr, ⊎_elim, ari
 use Rattle.std.proofs.lemmas.Bool.{cases_eq, false≢true}
 use Rattle.std.proofs.lemmas.Int.{ints, by_lt_z}
 use Rattle.std.specs.FinMap as map
-use Rattle.strided_dom.specs.Progression.{Progression, empty, single, Has}
-use Rattle.strided_dom.specs.Combinations.{IsProduct, IsInBoth}
-use Rattle.strided_dom.proofs.Members.{not_in_empty}
-use Rattle.tm_lattice.specs.Tables.{IsEntry}
-use Rattle.pointer_dom.specs.Offset.{IsOffset}
-use Rattle.pointer_dom.specs.OffsetSets.{OffsetSet, IsOffsetSet, HasNoOffset}
-use Rattle.pointer_dom.specs.Pointer.{Pointer, null, invalid, to}
-use Rattle.pointer_dom.specs.PointerSets.{Pointers, IsPointers, IsPointer, IsMeet, offsets_or_none}
-use Rattle.pointer_dom.specs.PointerSets.{offsets_at}
-use Rattle.pointer_dom.specs.Advances.{IsInHull, IsAdvanced, IsReached, IsAdvance, IsSubscript, IsElementStep}
-use Rattle.pointer_dom.specs.Selections.{IsOffsetTo, IsHullOfPointers, Reaches, IsTarget}
-use Rattle.pointer_dom.specs.Equality.{IsEqualityOf, IsEqualityValue}
-use Rattle.pointer_dom.proofs.AdvanceFacts.{in_hull, from_hull, hull_weaken, never_reached}
+use Rattle.filters.specs.strided_dom.Progression.{Progression, empty, single, Has}
+use Rattle.filters.specs.strided_dom.Combinations.{IsProduct, IsInBoth}
+use Rattle.filters.proofs.low.strided_dom.Members.{not_in_empty}
+use Rattle.filters.specs.tm_lattice.Tables.{IsEntry}
+use Rattle.filters.specs.pointer_dom.Offset.{IsOffset}
+use Rattle.filters.specs.pointer_dom.OffsetSets.{OffsetSet, IsOffsetSet, HasNoOffset}
+use Rattle.filters.specs.pointer_dom.Pointer.{Pointer, null, invalid, to}
+use Rattle.filters.specs.pointer_dom.PointerSets.{Pointers, IsPointers, IsPointer, IsMeet, offsets_or_none}
+use Rattle.filters.specs.pointer_dom.PointerSets.{offsets_at}
+use Rattle.filters.specs.pointer_dom.Advances.{IsInHull, IsAdvanced, IsReached, IsAdvance, IsSubscript, IsElementStep}
+use Rattle.filters.specs.pointer_dom.Selections.{IsOffsetTo, IsHullOfPointers, Reaches, IsTarget}
+use Rattle.filters.specs.pointer_dom.Equality.{IsEqualityOf, IsEqualityValue}
+use Rattle.filters.proofs.low.pointer_dom.AdvanceFacts.{in_hull, from_hull, hull_weaken, never_reached}
 use Rattle.filters.specs.PointerPartners.{MayBeUnequal}
 use Rattle.operator_values.specs.laws.Listings.{Test, not_test, both_test, either_test, same_test, most_test, Listing}
 use Rattle.operator_values.specs.laws.Listings.{relisted, members, any_listed, has_test, passing_listing}

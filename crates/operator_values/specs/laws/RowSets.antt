@@ -6,27 +6,29 @@ use Rattle.std.proofs.Common.{inl, inr, ⊎_elim, refl, sym, ap, ◌∙◌, subs
 use Rattle.std.specs.Int.{int_max}
 use Rattle.std.proofs.lemmas.Bool.{cases_lt}
 use Rattle.std.proofs.lemmas.Int.{ints}
-use Rattle.strided_dom.specs.Progression.{Progression, empty, single, row, Has, first_of, last_of}
-use Rattle.strided_dom.proofs.Members.{IsSome, some_or_empty, spaced_from}
-use Rattle.tm_numbers.specs.Divisors.{Divides}
-use Rattle.tm_numbers.specs.Powers.{power}
-use Rattle.tm_numbers.proofs.Divisibility.{is_by_remainder}
-use Rattle.interval_dom.specs.Interval.{Span}
-use Rattle.interval_dom.specs.Rows as I
-use Rattle.congruence_dom.specs.Class.{InClass}
-use Rattle.congruence_dom.specs.Laws.{DividesAll}
-use Rattle.congruence_dom.specs.Rows as C
-use Rattle.congruence_dom.specs.declared.classes.Cong.{Cong}
-use Rattle.congruence_dom.proofs.Quotients.{power_not_zero}
+use Rattle.filters.specs.strided_dom.Progression.{Progression, empty, single, row, Has, first_of, last_of}
+use Rattle.filters.proofs.low.strided_dom.Members.{IsSome, some_or_empty, spaced_from}
+use Rattle.tm_cint.specs.tm_numbers.Divisors.{Divides}
+use Rattle.tm_cint.specs.tm_numbers.Powers.{power}
+use Rattle.tm_cint.proofs.low.tm_numbers.Divisibility.{is_by_remainder}
+use Rattle.transfer_int.specs.interval_dom.Interval.{Span}
+use Rattle.transfer_int.specs.interval_dom.Rows as I
+use Rattle.transfer_int.specs.congruence_dom.Class.{InClass}
+use Rattle.transfer_int.specs.congruence_dom.Laws.{DividesAll}
+use Rattle.transfer_int.specs.congruence_dom.Rows as C
+use Rattle.transfer_int.specs.congruence_dom.declared.classes.Cong.{Cong}
+use Rattle.transfer_int.proofs.low.congruence_dom.Quotients.{power_not_zero}
 use Rattle.tm_cint.specs.IntTypes.{IsIn, width_of}
 use Rattle.tm_cint.specs.Conversions.{truth, is_zero, converted_value}
 use Rattle.tm_cint.specs.Operators.{outcome, bitwise, is_same}
 use Rattle.tm_cint.specs.declared.Class.{Class}
 use Rattle.tm_cint.specs.declared.int_types.IntType.{IntType}
-use Rattle.tm_cint.specs.declared.int_types.IntType.TheVariants.{Char, UChar, Short, UShort, Int, UInt, Long, ULong}
+use Rattle.tm_cint.specs.declared.int_types.IntType.TheVariants.{Char, UChar, Short, UShort, Int, UInt, Long}
+use Rattle.tm_cint.specs.declared.int_types.IntType.TheVariants.{ULong}
 use Rattle.tm_cint.specs.declared.int_types.IntType.TheVariants.{LLong, ULLong, Bool as BoolType}
 use Rattle.tm_cint.specs.declared.operators.BinOp.{BinOp}
-use Rattle.tm_cint.specs.declared.operators.BinOp.TheVariants.{Add, Sub, Mul, Div, Rem, Shl, Shr, And, Or, Xor, Lt, Le}
+use Rattle.tm_cint.specs.declared.operators.BinOp.TheVariants.{Add, Sub, Mul, Div, Rem, Shl, Shr, And, Or, Xor}
+use Rattle.tm_cint.specs.declared.operators.BinOp.TheVariants.{Lt, Le}
 use Rattle.tm_cint.specs.declared.operators.BinOp.TheVariants.{Gt, Ge, Eq, Ne}
 use Rattle.transfer_int.specs.Operands.{span_of_set, class_of_set, IsDivisor, IsShifted, IsCount, IsResult, IsBetween}
 use Rattle.transfer_int.specs.Rows.{InRowPair, InQuotients, InQuotientClass, IsQuotient, InRemainders, InLeftShifts}

@@ -5,21 +5,22 @@ use Rattle.std.specs.Prelude as P
 use Rattle.std.proofs.Common.{inl, inr, ⊎_elim, refl, sym, ◌∙◌, subst, arith}
 use Rattle.std.specs.Int.{int_min}
 use Rattle.std.proofs.lemmas.Int.{ints, clamps, by_lt_z}
-use Rattle.strided_dom.specs.Progression.{Progression, empty, single, Has, IsExactly, IsSpaced, first_of, last_of}
-use Rattle.strided_dom.specs.Progression.{stride_of}
-use Rattle.strided_dom.specs.Combinations.{IsInBoth}
-use Rattle.strided_dom.specs.reading.Classes.{IsInClassBetween}
-use Rattle.strided_dom.proofs.Members.{some_or_empty, spaced_from, has_from, first_le_last}
-use Rattle.strided_dom.proofs.Spans.{exactly_same, exactly_empty}
-use Rattle.strided_dom.proofs.Thresholds.{class_by_rest, class_exactly}
-use Rattle.tm_numbers.specs.Divisors.{gcd}
-use Rattle.tm_numbers.proofs.Congruences.{cong_sym, cong_trans, cong_up, cong_zero, congruent_from, divided}
-use Rattle.tm_numbers.proofs.Divisibility.{divides_abs, divides_from_abs}
-use Rattle.tm_numbers.proofs.Gcds.{gcd_is}
-use Rattle.interval_dom.specs.Interval.{Span}
-use Rattle.congruence_dom.specs.Class.{InClass}
-use Rattle.congruence_dom.specs.declared.classes.Cong.{Cong}
-use Rattle.pointer_dom.specs.laws.Existence.{spaced_exists}
+use Rattle.filters.specs.strided_dom.Progression.{Progression, empty, single, Has, IsExactly, IsSpaced, first_of}
+use Rattle.filters.specs.strided_dom.Progression.{last_of}
+use Rattle.filters.specs.strided_dom.Progression.{stride_of}
+use Rattle.filters.specs.strided_dom.Combinations.{IsInBoth}
+use Rattle.filters.specs.strided_dom.reading.Classes.{IsInClassBetween}
+use Rattle.filters.proofs.low.strided_dom.Members.{some_or_empty, spaced_from, has_from, first_le_last}
+use Rattle.filters.proofs.low.strided_dom.Spans.{exactly_same, exactly_empty}
+use Rattle.filters.proofs.low.strided_dom.Thresholds.{class_by_rest, class_exactly}
+use Rattle.tm_cint.specs.tm_numbers.Divisors.{gcd}
+use Rattle.tm_cint.proofs.low.tm_numbers.Congruences.{cong_sym, cong_trans, cong_up, cong_zero, congruent_from, divided}
+use Rattle.tm_cint.proofs.low.tm_numbers.Divisibility.{divides_abs, divides_from_abs}
+use Rattle.tm_cint.proofs.low.tm_numbers.Gcds.{gcd_is}
+use Rattle.transfer_int.specs.interval_dom.Interval.{Span}
+use Rattle.transfer_int.specs.congruence_dom.Class.{InClass}
+use Rattle.transfer_int.specs.congruence_dom.declared.classes.Cong.{Cong}
+use Rattle.filters.specs.pointer_dom.laws.Existence.{spaced_exists}
 use Rattle.tm_cint.specs.IntTypes.{IsIn, is_signed, width_of, lo_of, hi_of}
 use Rattle.tm_cint.specs.Conversions.{wrapped}
 use Rattle.tm_cint.specs.declared.int_types.IntType.{IntType}

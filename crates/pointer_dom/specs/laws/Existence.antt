@@ -9,12 +9,13 @@ use Rattle.std.proofs.lemmas.Nat.Gcd.{IsGcd-from_zero, IsGcd-from_mod, dvd_trans
 use Rattle.std.proofs.lemmas.Int.{ints, clamps, by_lt_z}
 use Rattle.strided_dom.specs.Progression.{Progression, empty, single, row, Has, IsExactly, IsHull, IsSpaced, first_of}
 use Rattle.strided_dom.specs.Progression.{last_of, stride_of}
-use Rattle.tm_numbers.specs.Congruence.{IsCongruent}
+use Rattle.strided_dom.specs.tm_numbers.Congruence.{IsCongruent}
 use Rattle.strided_dom.specs.Combinations.{IsInEither}
 use Rattle.strided_dom.specs.Rounding.{IsLowered, IsRaised, IsInRounding}
 use Rattle.strided_dom.specs.reading.Classes.{IsInClassBetween}
-use Rattle.tm_numbers.proofs.Congruences.{cong_refl, cong_sym, cong_trans, cong_up, cong_weaken, cong_zero}
-use Rattle.tm_numbers.proofs.Congruences.{strides_between}
+use Rattle.strided_dom.proofs.low.tm_numbers.Congruences.{cong_refl, cong_sym, cong_trans, cong_up, cong_weaken}
+use Rattle.strided_dom.proofs.low.tm_numbers.Congruences.{cong_zero}
+use Rattle.strided_dom.proofs.low.tm_numbers.Congruences.{strides_between}
 use Rattle.strided_dom.proofs.Distances.{cong_from_distance, cong_min}
 use Rattle.strided_dom.proofs.Members.{IsSome, some_or_empty, some_from, spaced_from, has_from, has_last, has_next}
 use Rattle.strided_dom.proofs.Members.{not_in_empty}

@@ -5,7 +5,7 @@ use Rattle.interfere_set.specs.Stores.{Interferences}
 use Rattle.interfere_set.specs.laws.StoreLaws.{store_code}
 use Rattle.pointer_dom.specs.laws.Codes.{values_code}
 use Rattle.cell_env.specs.laws.Codes.{state_code}
-use Rattle.transfer_rows.specs.StateForms.{State}
+use Rattle.shared_programs.specs.transfer_rows.StateForms.{State}
 use Rattle.post_recheck.specs.Pairs.{Pair}
 
 abbrev pub pair_code : Coded Pair

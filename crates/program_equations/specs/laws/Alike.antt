@@ -7,13 +7,13 @@ use Rattle.std.proofs.Math.Seq.{get_or-append_seam}
 use Rattle.std.proofs.lemmas.Bool.{cases_lt}
 use Rattle.std.proofs.lemmas.List.{length-append, get_or_append_left}
 use Rattle.std.specs.Option.{option_map}
-use Rattle.tm_lattice.specs.declared.lattices.Lattice as lattice
-use Rattle.tm_lattice.specs.Tables.{IsBelow}
-use Rattle.least_tables.specs.declared.links.Link.{Link}
-use Rattle.least_tables.specs.Systems.{System, IsLawfulSystem, from_of}
-use Rattle.least_tables.specs.Solutions.{NodeTable, at, brought, IsSolution, IsLeastSolution}
-use Rattle.least_tables.specs.Passes.{with_added, added_below}
-use Rattle.transfer_rows.specs.StateForms.{State}
+use Rattle.region_cells.specs.tm_lattice.declared.lattices.Lattice as lattice
+use Rattle.region_cells.specs.tm_lattice.Tables.{IsBelow}
+use Rattle.task_equations.specs.least_tables.declared.links.Link.{Link}
+use Rattle.task_equations.specs.least_tables.Systems.{System, IsLawfulSystem, from_of}
+use Rattle.task_equations.specs.least_tables.Solutions.{NodeTable, at, brought, IsSolution, IsLeastSolution}
+use Rattle.task_equations.specs.least_tables.Passes.{with_added, added_below}
+use Rattle.edge_filters.specs.transfer_rows.StateForms.{State}
 use Rattle.program_equations.specs.Systems.{listed}
 
 -- ## Solutions

@@ -4,21 +4,22 @@ use Rattle.std.specs.Prelude.{◌≡◌, ℕ, zero, suc, ◌<◌, ◌≤◌, Boo
 use Rattle.std.specs.Prelude.{None, IfSome, refl}
 use Rattle.std.proofs.Common.{sym, ap, subst, ◌∙◌, arith}
 use Rattle.std.specs.FinMap.{get}
-use Rattle.tm_lattice.specs.Tables.{IsBelow, joined_at}
-use Rattle.tm_lattice.specs.laws.TableLaws.{get-joined_table}
-use Rattle.tm_typed.specs.declared.types.Scalar.{Scalar}
-use Rattle.tm_laid.specs.Layouts.{LaidTree, abstract_at}
-use Rattle.pointer_dom.specs.Values.{IsValuesBelow, joined_values, no_value}
-use Rattle.pointer_dom.specs.laws.ValueLaws.{values_nothing}
-use Rattle.cell_env.specs.Cells.{joined_cell}
-use Rattle.cell_env.specs.States.{joined_state}
-use Rattle.transfer_rows.specs.StateForms.{Cell, State, own_value, own_of, IsStateForm, IsCellUnder, IsStateUnder}
-use Rattle.typed_values.specs.laws.TypeLaws.{none_of_type, joined_of_type}
-use Rattle.flow_graph.specs.Graphs.{Edges}
-use Rattle.mutex_configs.specs.declared.nodes.ConfiguredNode.{ConfiguredNode}
-use Rattle.least_tables.specs.Solutions.{NodeTable}
-use Rattle.state_fits.specs.Fits.{FitsCell, FitsPlace}
-use Rattle.state_fits.specs.laws.PlacesFit.{states_order, states_join}
+use Rattle.region_cells.specs.tm_lattice.Tables.{IsBelow, joined_at}
+use Rattle.region_cells.specs.tm_lattice.laws.TableLaws.{get-joined_table}
+use Rattle.region_cells.specs.tm_typed.declared.types.Scalar.{Scalar}
+use Rattle.region_cells.specs.tm_laid.Layouts.{LaidTree, abstract_at}
+use Rattle.edge_filters.specs.pointer_dom.Values.{IsValuesBelow, joined_values, no_value}
+use Rattle.edge_filters.specs.pointer_dom.laws.ValueLaws.{values_nothing}
+use Rattle.edge_filters.specs.cell_env.Cells.{joined_cell}
+use Rattle.edge_filters.specs.cell_env.States.{joined_state}
+use Rattle.edge_filters.specs.transfer_rows.StateForms.{Cell, State, own_value, own_of, IsStateForm, IsCellUnder}
+use Rattle.edge_filters.specs.transfer_rows.StateForms.{IsStateUnder}
+use Rattle.task_equations.specs.typed_values.laws.TypeLaws.{none_of_type, joined_of_type}
+use Rattle.region_cells.specs.flow_graph.Graphs.{Edges}
+use Rattle.task_equations.specs.mutex_configs.declared.nodes.ConfiguredNode.{ConfiguredNode}
+use Rattle.task_equations.specs.least_tables.Solutions.{NodeTable}
+use Rattle.task_equations.specs.state_fits.Fits.{FitsCell, FitsPlace}
+use Rattle.task_equations.specs.state_fits.laws.PlacesFit.{states_order, states_join}
 use Rattle.program_equations.specs.Entries.{is_end, ended_below, ended_in, later_state}
 use Rattle.program_equations.specs.laws.EntryStates.{IsTyped, typed_is, entry_fits, entry_rises}
 

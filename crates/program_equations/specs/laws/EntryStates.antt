@@ -7,28 +7,29 @@ use Rattle.std.proofs.lemmas.Int.{ints}
 use Rattle.std.proofs.lemmas.Bool.{cases_eq, cases_lt, true≢false}
 use Rattle.std.specs.Ordering.{nat_cmp}
 use Rattle.std.specs.FinMap.{get, insert, get-empty}
-use Rattle.strided_dom.specs.Progression.{Has}
-use Rattle.tm_lattice.specs.Tables.{Table, IsEntry, IsBelow}
-use Rattle.tm_lattice.specs.laws.TableLaws.{get-insert_here, get-insert_there}
-use Rattle.tm_cint.specs.declared.int_types.IntType.{IntType}
-use Rattle.tm_cint.specs.IntTypes.{IsIn, lo_of, hi_of}
-use Rattle.tm_cint.proofs.Values.{IsIn-between, zero_in}
-use Rattle.tm_typed.specs.declared.types.Scalar.{Scalar}
-use Rattle.tm_typed.specs.declared.types.Scalar.TheVariants as Scalars
-use Rattle.tm_laid.specs.Layouts.{LaidTree, abstract_at}
-use Rattle.transfer_int.specs.Operands.{AreValues}
-use Rattle.pointer_dom.specs.OffsetSets.{OffsetSet, IsOffsetSet, HasNoOffset}
-use Rattle.pointer_dom.specs.Values.{Values, IsValues, IsValuesBelow}
-use Rattle.pointer_dom.specs.laws.Existence.{spaced_exists}
-use Rattle.pointer_dom.specs.laws.ValueLaws.{values_order}
-use Rattle.transfer_rows.specs.StateForms.{Cell, State, IsTempForm, IsCellForm, IsStateForm, IsCellUnder}
-use Rattle.transfer_rows.specs.StateForms.{IsTempUnder, IsStateUnder}
-use Rattle.edge_actions.specs.Layouts.{numbers_between, only_invalid, open_value, is_reachable, is_shared_cell}
-use Rattle.edge_actions.proofs.Lists.{decided}
-use Rattle.edge_actions.proofs.Ranges.{one_range}
-use Rattle.typed_values.specs.Types.{AreObjects, IsOfType}
-use Rattle.typed_values.specs.laws.TypeLaws.{typed_values}
-use Rattle.state_fits.specs.Fits.{FitsTemp, IsCellOf, FitsCell, FitsPlace}
+use Rattle.edge_filters.specs.strided_dom.Progression.{Has}
+use Rattle.region_cells.specs.tm_lattice.Tables.{Table, IsEntry, IsBelow}
+use Rattle.region_cells.specs.tm_lattice.laws.TableLaws.{get-insert_here, get-insert_there}
+use Rattle.region_cells.specs.tm_cint.declared.int_types.IntType.{IntType}
+use Rattle.region_cells.specs.tm_cint.IntTypes.{IsIn, lo_of, hi_of}
+use Rattle.region_cells.proofs.low.tm_cint.Values.{IsIn-between, zero_in}
+use Rattle.region_cells.specs.tm_typed.declared.types.Scalar.{Scalar}
+use Rattle.region_cells.specs.tm_typed.declared.types.Scalar.TheVariants as Scalars
+use Rattle.region_cells.specs.tm_laid.Layouts.{LaidTree, abstract_at}
+use Rattle.edge_filters.specs.transfer_int.Operands.{AreValues}
+use Rattle.edge_filters.specs.pointer_dom.OffsetSets.{OffsetSet, IsOffsetSet, HasNoOffset}
+use Rattle.edge_filters.specs.pointer_dom.Values.{Values, IsValues, IsValuesBelow}
+use Rattle.edge_filters.specs.pointer_dom.laws.Existence.{spaced_exists}
+use Rattle.edge_filters.specs.pointer_dom.laws.ValueLaws.{values_order}
+use Rattle.edge_filters.specs.transfer_rows.StateForms.{Cell, State, IsTempForm, IsCellForm, IsStateForm, IsCellUnder}
+use Rattle.edge_filters.specs.transfer_rows.StateForms.{IsTempUnder, IsStateUnder}
+use Rattle.edge_filters.specs.edge_actions.Layouts.{numbers_between, only_invalid, open_value, is_reachable}
+use Rattle.edge_filters.specs.edge_actions.Layouts.{is_shared_cell}
+use Rattle.edge_filters.proofs.low.edge_actions.Lists.{decided}
+use Rattle.edge_filters.proofs.low.edge_actions.Ranges.{one_range}
+use Rattle.task_equations.specs.typed_values.Types.{AreObjects, IsOfType}
+use Rattle.task_equations.specs.typed_values.laws.TypeLaws.{typed_values}
+use Rattle.task_equations.specs.state_fits.Fits.{FitsTemp, IsCellOf, FitsCell, FitsPlace}
 use Rattle.program_equations.specs.Entries.{entry_cell, entry_cells, entry_state}
 
 -- ## Values of cells that were not stored yet

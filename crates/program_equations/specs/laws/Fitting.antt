@@ -2,11 +2,11 @@
 -- have.
 use Rattle.std.specs.Prelude.{◌≡◌, ℕ, ◌<◌, List, length, Option, Some, None, IfSome}
 use Rattle.std.proofs.Common.{sym, subst}
-use Rattle.interfere_set.specs.Stores.{Interferences}
-use Rattle.transfer_rows.specs.StateForms.{State}
-use Rattle.least_tables.specs.Systems.{IsLawfulSystem}
-use Rattle.temporary_types.specs.Sorts.{Sort}
-use Rattle.state_fits.specs.Fits.{FitsStore}
+use Rattle.edge_filters.specs.interfere_set.Stores.{Interferences}
+use Rattle.edge_filters.specs.transfer_rows.StateForms.{State}
+use Rattle.task_equations.specs.least_tables.Systems.{IsLawfulSystem}
+use Rattle.task_equations.specs.temporary_types.Sorts.{Sort}
+use Rattle.task_equations.specs.state_fits.Fits.{FitsStore}
 use Rattle.task_equations.specs.Bodies.{Body}
 use Rattle.task_equations.specs.Equations.{equations_of}
 use Rattle.task_equations.specs.Premises.{IsBody, FitsNode}

@@ -3,26 +3,26 @@
 use Rattle.std.specs.Prelude.{◌≡◌, ℕ, ◌<◌, List, length, map, Option, Some, None, IfSome}
 use Rattle.std.proofs.Common.{sym, ap, subst, arith}
 use Rattle.std.proofs.lemmas.List.{get_or-map, length-map}
-use Rattle.tm_lattice.specs.Tables.{IsBelow}
-use Rattle.tm_typed.specs.declared.types.Scalar.{Scalar}
-use Rattle.mutex_configs.specs.declared.nodes.EdgeCopy.{EdgeCopy}
-use Rattle.interfere_set.specs.Stores.{Interferences, IsStoreBelow, no_interference}
-use Rattle.interfere_set.specs.laws.StoreLaws.{store_order, store_join}
-use Rattle.transfer_rows.specs.StateForms.{State, IsStateForm, IsStateUnder}
-use Rattle.transfer_rows.specs.Actions.{Spot}
-use Rattle.transfer_rows.specs.Meanings.{IsSpotOf}
-use Rattle.transfer_rows.specs.Rows.{after}
-use Rattle.transfer_rows.proofs.RowsRise.{after_rises}
-use Rattle.edge_actions.specs.Layouts.{spots_of}
-use Rattle.edge_actions.proofs.ActionForms.{edge_is}
-use Rattle.least_tables.specs.declared.links.Link.{Link}
-use Rattle.least_tables.specs.Systems.{no_link, from_of}
-use Rattle.least_tables.specs.Solutions.{NodeTable, IsLeastSolution}
-use Rattle.least_tables.specs.laws.Iterates as iterates
-use Rattle.least_tables.specs.laws.AddedTotals as totals
-use Rattle.least_tables.specs.Whole as whole
-use Rattle.state_fits.specs.Fits.{FitsStore}
-use Rattle.state_fits.specs.laws.PlacesFit.{states_order, states_join}
+use Rattle.region_cells.specs.tm_lattice.Tables.{IsBelow}
+use Rattle.region_cells.specs.tm_typed.declared.types.Scalar.{Scalar}
+use Rattle.task_equations.specs.mutex_configs.declared.nodes.EdgeCopy.{EdgeCopy}
+use Rattle.edge_filters.specs.interfere_set.Stores.{Interferences, IsStoreBelow, no_interference}
+use Rattle.edge_filters.specs.interfere_set.laws.StoreLaws.{store_order, store_join}
+use Rattle.edge_filters.specs.transfer_rows.StateForms.{State, IsStateForm, IsStateUnder}
+use Rattle.edge_filters.specs.transfer_rows.Actions.{Spot}
+use Rattle.edge_filters.specs.transfer_rows.Meanings.{IsSpotOf}
+use Rattle.edge_filters.specs.transfer_rows.Rows.{after}
+use Rattle.edge_filters.proofs.low.transfer_rows.RowsRise.{after_rises}
+use Rattle.edge_filters.specs.edge_actions.Layouts.{spots_of}
+use Rattle.edge_filters.proofs.low.edge_actions.ActionForms.{edge_is}
+use Rattle.task_equations.specs.least_tables.declared.links.Link.{Link}
+use Rattle.task_equations.specs.least_tables.Systems.{no_link, from_of}
+use Rattle.task_equations.specs.least_tables.Solutions.{NodeTable, IsLeastSolution}
+use Rattle.task_equations.specs.least_tables.laws.Iterates as iterates
+use Rattle.task_equations.specs.least_tables.laws.AddedTotals as totals
+use Rattle.task_equations.specs.least_tables.Whole as whole
+use Rattle.task_equations.specs.state_fits.Fits.{FitsStore}
+use Rattle.task_equations.specs.state_fits.laws.PlacesFit.{states_order, states_join}
 use Rattle.task_equations.specs.Bodies.{Body, no_copy, edge_of, copy_at}
 use Rattle.task_equations.specs.Equations.{tests_pointer, action_along, around_along, led, after_along, added_along}
 use Rattle.task_equations.specs.Equations.{link_of}

@@ -6,15 +6,15 @@ use Rattle.std.proofs.lemmas.Bool.{cases_lt}
 use Rattle.std.specs.Ordering.{nat_cmp}
 use Rattle.std.specs.FinMap as map
 use Rattle.std.specs.FinMap.{get, get-empty}
-use Rattle.tm_lattice.specs.Tables.{Table}
-use Rattle.tm_lattice.specs.Fitting.{IsFitting, IsMonotone}
-use Rattle.tm_lattice.specs.laws.TableLaws.{same_table}
-use Rattle.pointer_dom.specs.Values.{Values}
-use Rattle.interfere_set.specs.Stores.{Nested, Interferences, no_interference, rounded_store}
-use Rattle.interfere_set.specs.laws.StoreLaws.{store_order, store_join, store_closure}
-use Rattle.typed_values.specs.Types.{HaveEnds}
-use Rattle.least_tables.specs.laws.WholeLeast as least
-use Rattle.state_fits.specs.laws.PlacesFit.{states_order, states_join}
+use Rattle.region_cells.specs.tm_lattice.Tables.{Table}
+use Rattle.region_cells.specs.tm_lattice.Fitting.{IsFitting, IsMonotone}
+use Rattle.region_cells.specs.tm_lattice.laws.TableLaws.{same_table}
+use Rattle.edge_filters.specs.pointer_dom.Values.{Values}
+use Rattle.edge_filters.specs.interfere_set.Stores.{Nested, Interferences, no_interference, rounded_store}
+use Rattle.edge_filters.specs.interfere_set.laws.StoreLaws.{store_order, store_join, store_closure}
+use Rattle.task_equations.specs.typed_values.Types.{HaveEnds}
+use Rattle.task_equations.specs.least_tables.laws.WholeLeast as least
+use Rattle.task_equations.specs.state_fits.laws.PlacesFit.{states_order, states_join}
 use Rattle.program_equations.specs.Programs.{ProgramBodies, IsProgram}
 use Rattle.program_equations.specs.Systems.{states, stores, FitsProgram, least_section, least_local, pass_of, IsSection}
 use Rattle.program_equations.specs.Systems.{IsSectionBelow}

@@ -4,37 +4,40 @@ use Rattle.std.specs.Prelude.{◌≡◌, ℕ, zero, suc, ◌<◌, ◌==◌, Bool
 use Rattle.std.specs.Prelude.{Option, Some, None, refl}
 use Rattle.std.proofs.Common.{ap, subst, ◌∙◌}
 use Rattle.std.specs.FinMap.{empty as no_entry, insert}
-use Rattle.tm_lattice.specs.Tables.{Table}
-use Rattle.tm_typed.specs.declared.types.CType.{CType}
-use Rattle.tm_typed.specs.declared.types.CType.TheVariants as Types
-use Rattle.tm_typed.specs.declared.types.TypeEntry.{TypeEntry}
-use Rattle.tm_typed.specs.declared.types.Scalar.{Scalar}
-use Rattle.tm_typed.specs.declared.types.Scalar.TheVariants as Scalars
-use Rattle.tm_typed.specs.Files.{TypedFileTree}
-use Rattle.tm_laid.specs.declared.objects.Initial.{Initial}
-use Rattle.tm_laid.specs.declared.objects.Initial.TheVariants as Initials
-use Rattle.tm_laid.specs.TypeCells.{TypeCell, count_by, abstract_by, abstract_count, abstract_cells_of_type, cells_by}
-use Rattle.tm_laid.specs.TypeCells.{type_cells, type_depth, entry_of}
-use Rattle.tm_laid.specs.Layouts.{LaidTree, object_at, abstract_at, cell_at, is_alive_by, is_alive, begins_with}
-use Rattle.tm_laid.specs.Layouts.{scalars_from, stands_at}
-use Rattle.concrete_values.specs.declared.values.Pointer.{Pointer}
-use Rattle.concrete_values.specs.declared.values.Pointer.TheVariants as Pointers
-use Rattle.concrete_values.specs.declared.values.Value.{Value}
-use Rattle.concrete_values.specs.declared.values.Value.TheVariants as Constant
-use Rattle.flow_graph.specs.declared.operations.Into.{Into}
-use Rattle.flow_graph.specs.declared.operations.Into.TheVariants as Intos
-use Rattle.flow_graph.specs.declared.operations.Operation.{Operation}
-use Rattle.flow_graph.specs.declared.operations.Operation.TheVariants as Op
-use Rattle.pointer_dom.specs.Values.{Values, joined_values}
-use Rattle.transfer_rows.specs.StateForms.{Cell, State, only_pointers, own_of}
-use Rattle.transfer_rows.specs.Actions.{Spot, constant, dereferenced, gives, loads, loads_any, stores}
-use Rattle.transfer_rows.specs.Meanings.{IsSpotOf}
-use Rattle.typed_values.specs.Types.{IsOfType}
-use Rattle.edge_actions.specs.Layouts.{open_value, is_owned_by, is_reachable, spot_at, spots_in, spots_before, spots_of}
-use Rattle.edge_actions.specs.Layouts.{is_shared_cell, is_smashed_cell}
-use Rattle.edge_actions.specs.Edges.{pointer_value, constant_value, action_of}
-use Rattle.temporary_types.specs.Sorts.{Sort, LeadsInto, Works, FitsSorts}
-use Rattle.state_fits.specs.Typed.{PointsToObject, NamesObject, NamesObjects, SpotsAgree}
+use Rattle.region_cells.specs.tm_lattice.Tables.{Table}
+use Rattle.region_cells.specs.tm_typed.declared.types.CType.{CType}
+use Rattle.region_cells.specs.tm_typed.declared.types.CType.TheVariants as Types
+use Rattle.region_cells.specs.tm_typed.declared.types.TypeEntry.{TypeEntry}
+use Rattle.region_cells.specs.tm_typed.declared.types.Scalar.{Scalar}
+use Rattle.region_cells.specs.tm_typed.declared.types.Scalar.TheVariants as Scalars
+use Rattle.region_cells.specs.tm_typed.Files.{TypedFileTree}
+use Rattle.region_cells.specs.tm_laid.declared.objects.Initial.{Initial}
+use Rattle.region_cells.specs.tm_laid.declared.objects.Initial.TheVariants as Initials
+use Rattle.region_cells.specs.tm_laid.TypeCells.{TypeCell, count_by, abstract_by, abstract_count}
+use Rattle.region_cells.specs.tm_laid.TypeCells.{abstract_cells_of_type, cells_by}
+use Rattle.region_cells.specs.tm_laid.TypeCells.{type_cells, type_depth, entry_of}
+use Rattle.region_cells.specs.tm_laid.Layouts.{LaidTree, object_at, abstract_at, cell_at, is_alive_by, is_alive}
+use Rattle.region_cells.specs.tm_laid.Layouts.{begins_with}
+use Rattle.region_cells.specs.tm_laid.Layouts.{scalars_from, stands_at}
+use Rattle.region_cells.specs.concrete_values.declared.values.Pointer.{Pointer}
+use Rattle.region_cells.specs.concrete_values.declared.values.Pointer.TheVariants as Pointers
+use Rattle.region_cells.specs.concrete_values.declared.values.Value.{Value}
+use Rattle.region_cells.specs.concrete_values.declared.values.Value.TheVariants as Constant
+use Rattle.region_cells.specs.flow_graph.declared.operations.Into.{Into}
+use Rattle.region_cells.specs.flow_graph.declared.operations.Into.TheVariants as Intos
+use Rattle.region_cells.specs.flow_graph.declared.operations.Operation.{Operation}
+use Rattle.region_cells.specs.flow_graph.declared.operations.Operation.TheVariants as Op
+use Rattle.edge_filters.specs.pointer_dom.Values.{Values, joined_values}
+use Rattle.edge_filters.specs.transfer_rows.StateForms.{Cell, State, only_pointers, own_of}
+use Rattle.edge_filters.specs.transfer_rows.Actions.{Spot, constant, dereferenced, gives, loads, loads_any, stores}
+use Rattle.edge_filters.specs.transfer_rows.Meanings.{IsSpotOf}
+use Rattle.task_equations.specs.typed_values.Types.{IsOfType}
+use Rattle.edge_filters.specs.edge_actions.Layouts.{open_value, is_owned_by, is_reachable, spot_at, spots_in}
+use Rattle.edge_filters.specs.edge_actions.Layouts.{spots_before, spots_of}
+use Rattle.edge_filters.specs.edge_actions.Layouts.{is_shared_cell, is_smashed_cell}
+use Rattle.edge_filters.specs.edge_actions.Edges.{pointer_value, constant_value, action_of}
+use Rattle.task_equations.specs.temporary_types.Sorts.{Sort, LeadsInto, Works, FitsSorts}
+use Rattle.task_equations.specs.state_fits.Typed.{PointsToObject, NamesObject, NamesObjects, SpotsAgree}
 use Rattle.program_equations.specs.Readings.{read_file, read_layout}
 use Rattle.program_equations.specs.Entries.{initial_value, initial_or_none, initial_at, initial_below, initial_of}
 use Rattle.program_equations.specs.Entries.{entry_cell, entry_cells, entry_state, first_state, later_state}

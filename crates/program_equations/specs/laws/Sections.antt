@@ -1,13 +1,13 @@
 -- The least table of the initial section: it is the least solution of its equations, and the one such table.
 use Rattle.std.specs.Prelude.{◌≡◌, ℕ, ◌<◌, cond, List, [], length, Option, Some}
 use Rattle.std.proofs.Common.{sym, ap, ◌∙◌}
-use Rattle.transfer_rows.specs.StateForms.{State}
-use Rattle.edge_actions.proofs.Lists.{lt_test}
-use Rattle.interfere_set.specs.Stores.{no_interference}
-use Rattle.least_tables.specs.Systems.{IsLawfulSystem}
-use Rattle.least_tables.specs.Solutions.{NodeTable, at, least_of, IsLeastSolution}
-use Rattle.least_tables.specs.laws.Iterates as iterates
-use Rattle.state_fits.specs.laws.PlacesFit.{states_order, states_join}
+use Rattle.edge_filters.specs.transfer_rows.StateForms.{State}
+use Rattle.edge_filters.proofs.low.edge_actions.Lists.{lt_test}
+use Rattle.edge_filters.specs.interfere_set.Stores.{no_interference}
+use Rattle.task_equations.specs.least_tables.Systems.{IsLawfulSystem}
+use Rattle.task_equations.specs.least_tables.Solutions.{NodeTable, at, least_of, IsLeastSolution}
+use Rattle.task_equations.specs.least_tables.laws.Iterates as iterates
+use Rattle.task_equations.specs.state_fits.laws.PlacesFit.{states_order, states_join}
 use Rattle.task_equations.specs.Bodies.{Body}
 use Rattle.program_equations.specs.Programs.{ProgramBodies, body_at, HasSection, IsProgram}
 use Rattle.program_equations.specs.Entries.{first_state}

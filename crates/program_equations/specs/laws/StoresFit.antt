@@ -8,39 +8,42 @@ use Rattle.std.specs.Option.{option_map}
 use Rattle.std.specs.Ordering.{nat_cmp}
 use Rattle.std.specs.FinMap as map
 use Rattle.std.specs.FinMap.{get, insert, len, keys, get-empty}
-use Rattle.tm_lattice.specs.Fitting.{IsBottom}
-use Rattle.tm_lattice.specs.Tables.{Table, IsEntry, IsTable, joined_at, joined_table, rounded_table}
-use Rattle.tm_lattice.specs.laws.TableLaws.{get-insert_here, get-insert_there, get-joined_table, get-rounded_table}
-use Rattle.tm_typed.specs.declared.types.Scalar.{Scalar}
-use Rattle.tm_laid.specs.Layouts.{LaidTree, abstract_at}
-use Rattle.flow_graph.specs.declared.operations.Operation.{Operation}
-use Rattle.flow_graph.specs.declared.operations.Operation.TheVariants as Op
-use Rattle.pointer_dom.specs.PointerSets.{Pointers}
-use Rattle.pointer_dom.specs.Values.{Values, IsValues, joined_values, rounded_values, no_value}
-use Rattle.cell_env.specs.Cells.{IsWithin}
-use Rattle.interfere_set.specs.Stores.{Nested, Interferences, HasNoEntry, IsNested, IsStore, IsStoreBelow}
-use Rattle.interfere_set.specs.Stores.{no_interference, joined_nested, joined_store, rounded_nested, rounded_store}
-use Rattle.interfere_set.specs.laws.StoreLaws.{store_join, store_closure, store_nothing}
-use Rattle.transfer_rows.specs.StateForms.{Temp, Cell, State, IsStateForm, IsStateUnder, is_no_value, temp_value}
-use Rattle.transfer_rows.specs.StateForms.{value_of}
-use Rattle.transfer_rows.specs.Actions.{Spot, Around, stores as storing, unlocks}
-use Rattle.transfer_rows.specs.Meanings.{IsSpotOf}
-use Rattle.transfer_rows.specs.Accesses.{leads, is_among, targets_at}
-use Rattle.transfer_rows.specs.Rows.{holds}
-use Rattle.transfer_rows.specs.Reports.{targets_of, left_by, weak_of, sync_of}
-use Rattle.transfer_rows.specs.Contributions.{cells_added, nested_under, added}
-use Rattle.transfer_rows.proofs.Steps.{none_is_none, among_cons}
-use Rattle.transfer_rows.proofs.Contributing as contributing
-use Rattle.typed_values.specs.Types.{IsOfType, HaveEnds}
-use Rattle.typed_values.specs.laws.TypeLaws.{none_of_type, joined_of_type, rounded_of_type}
-use Rattle.edge_actions.specs.Layouts.{is_shared_cell, spots_of}
-use Rattle.edge_actions.specs.Edges.{action_of}
-use Rattle.temporary_types.specs.Sorts.{Sort, FitsSorts}
-use Rattle.state_fits.specs.Typed.{SpotsAgree, types_of}
-use Rattle.state_fits.specs.Fits.{FitsTemp, FitsCell, FitsPlace, FitsNested, FitsStore}
-use Rattle.state_fits.specs.laws.ActionsFit.{ActionFits}
-use Rattle.state_fits.specs.laws.Given.{sorted_fits}
-use Rattle.mutex_configs.specs.declared.nodes.EdgeCopy.{EdgeCopy}
+use Rattle.region_cells.specs.tm_lattice.Fitting.{IsBottom}
+use Rattle.region_cells.specs.tm_lattice.Tables.{Table, IsEntry, IsTable, joined_at, joined_table, rounded_table}
+use Rattle.region_cells.specs.tm_lattice.laws.TableLaws.{get-insert_here, get-insert_there, get-joined_table}
+use Rattle.region_cells.specs.tm_lattice.laws.TableLaws.{get-rounded_table}
+use Rattle.region_cells.specs.tm_typed.declared.types.Scalar.{Scalar}
+use Rattle.region_cells.specs.tm_laid.Layouts.{LaidTree, abstract_at}
+use Rattle.region_cells.specs.flow_graph.declared.operations.Operation.{Operation}
+use Rattle.region_cells.specs.flow_graph.declared.operations.Operation.TheVariants as Op
+use Rattle.edge_filters.specs.pointer_dom.PointerSets.{Pointers}
+use Rattle.edge_filters.specs.pointer_dom.Values.{Values, IsValues, joined_values, rounded_values, no_value}
+use Rattle.edge_filters.specs.cell_env.Cells.{IsWithin}
+use Rattle.edge_filters.specs.interfere_set.Stores.{Nested, Interferences, HasNoEntry, IsNested, IsStore, IsStoreBelow}
+use Rattle.edge_filters.specs.interfere_set.Stores.{no_interference, joined_nested, joined_store, rounded_nested}
+use Rattle.edge_filters.specs.interfere_set.Stores.{rounded_store}
+use Rattle.edge_filters.specs.interfere_set.laws.StoreLaws.{store_join, store_closure, store_nothing}
+use Rattle.edge_filters.specs.transfer_rows.StateForms.{Temp, Cell, State, IsStateForm, IsStateUnder, is_no_value}
+use Rattle.edge_filters.specs.transfer_rows.StateForms.{temp_value}
+use Rattle.edge_filters.specs.transfer_rows.StateForms.{value_of}
+use Rattle.edge_filters.specs.transfer_rows.Actions.{Spot, Around, stores as storing, unlocks}
+use Rattle.edge_filters.specs.transfer_rows.Meanings.{IsSpotOf}
+use Rattle.edge_filters.specs.transfer_rows.Accesses.{leads, is_among, targets_at}
+use Rattle.edge_filters.specs.transfer_rows.Rows.{holds}
+use Rattle.edge_filters.specs.transfer_rows.Reports.{targets_of, left_by, weak_of, sync_of}
+use Rattle.edge_filters.specs.transfer_rows.Contributions.{cells_added, nested_under, added}
+use Rattle.edge_filters.proofs.low.transfer_rows.Steps.{none_is_none, among_cons}
+use Rattle.edge_filters.proofs.low.transfer_rows.Contributing as contributing
+use Rattle.task_equations.specs.typed_values.Types.{IsOfType, HaveEnds}
+use Rattle.task_equations.specs.typed_values.laws.TypeLaws.{none_of_type, joined_of_type, rounded_of_type}
+use Rattle.edge_filters.specs.edge_actions.Layouts.{is_shared_cell, spots_of}
+use Rattle.edge_filters.specs.edge_actions.Edges.{action_of}
+use Rattle.task_equations.specs.temporary_types.Sorts.{Sort, FitsSorts}
+use Rattle.task_equations.specs.state_fits.Typed.{SpotsAgree, types_of}
+use Rattle.task_equations.specs.state_fits.Fits.{FitsTemp, FitsCell, FitsPlace, FitsNested, FitsStore}
+use Rattle.task_equations.specs.state_fits.laws.ActionsFit.{ActionFits}
+use Rattle.task_equations.specs.state_fits.laws.Given.{sorted_fits}
+use Rattle.task_equations.specs.mutex_configs.declared.nodes.EdgeCopy.{EdgeCopy}
 use Rattle.task_equations.specs.Bodies.{Body, edge_of, node_at, live_at}
 use Rattle.task_equations.specs.Equations.{tests_pointer, action_along, around_along, added_along}
 use Rattle.task_equations.specs.Premises.{IsCopyOf, IsBody, FitsNode}

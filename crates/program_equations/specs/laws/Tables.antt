@@ -2,12 +2,12 @@
 -- its pass.
 use Rattle.std.specs.Prelude.{◌≡◌, ℕ, ◌<◌, List, length, map, Option}
 use Rattle.std.proofs.Common.{ap, subst, arith}
-use Rattle.interfere_set.specs.Stores.{Interferences, no_interference, joined_store}
-use Rattle.transfer_rows.specs.StateForms.{State}
-use Rattle.least_tables.specs.Systems.{IsLawfulSystem}
-use Rattle.least_tables.specs.Solutions.{NodeTable, least_of, IsLeastSolution}
-use Rattle.least_tables.specs.laws.Iterates as iterates
-use Rattle.state_fits.specs.laws.PlacesFit.{states_order, states_join}
+use Rattle.edge_filters.specs.interfere_set.Stores.{Interferences, no_interference, joined_store}
+use Rattle.edge_filters.specs.transfer_rows.StateForms.{State}
+use Rattle.task_equations.specs.least_tables.Systems.{IsLawfulSystem}
+use Rattle.task_equations.specs.least_tables.Solutions.{NodeTable, least_of, IsLeastSolution}
+use Rattle.task_equations.specs.least_tables.laws.Iterates as iterates
+use Rattle.task_equations.specs.state_fits.laws.PlacesFit.{states_order, states_join}
 use Rattle.task_equations.specs.Bodies.{copy_at}
 use Rattle.task_equations.specs.Equations.{equations_of, link_of, added_along}
 use Rattle.program_equations.specs.Programs.{ProgramBodies, body_at, IsProgram}

@@ -3,18 +3,18 @@ use Rattle.std.specs.Prelude.{◌≡◌, ℕ, zero, suc, ◌<◌, ◌≤◌, ◌
 use Rattle.std.specs.Prelude.{Option, Some, None, IfSome, refl}
 use Rattle.std.proofs.Common.{sym, ap, subst, ◌∙◌, arith}
 use Rattle.std.proofs.lemmas.Bool.{eqb-true}
-use Rattle.tm_lattice.specs.Tables.{IsBelow}
-use Rattle.tm_typed.specs.declared.types.Scalar.{Scalar}
-use Rattle.tm_laid.specs.Layouts.{abstract_at, cell_at}
-use Rattle.pointer_dom.specs.Values.{Values, joined_values}
-use Rattle.transfer_rows.specs.StateForms.{State, own_of, IsStateUnder}
-use Rattle.edge_actions.specs.Layouts.{is_shared_cell}
-use Rattle.edge_actions.proofs.Lists.{lt_from}
-use Rattle.typed_values.specs.laws.TypeLaws.{none_of_type, joined_of_type}
-use Rattle.least_tables.specs.Solutions.{NodeTable, at}
-use Rattle.state_fits.specs.Fits.{FitsPlace}
-use Rattle.state_fits.specs.Typed.{types_of}
-use Rattle.state_fits.specs.laws.PlacesFit.{states_order}
+use Rattle.region_cells.specs.tm_lattice.Tables.{IsBelow}
+use Rattle.region_cells.specs.tm_typed.declared.types.Scalar.{Scalar}
+use Rattle.region_cells.specs.tm_laid.Layouts.{abstract_at, cell_at}
+use Rattle.edge_filters.specs.pointer_dom.Values.{Values, joined_values}
+use Rattle.edge_filters.specs.transfer_rows.StateForms.{State, own_of, IsStateUnder}
+use Rattle.edge_filters.specs.edge_actions.Layouts.{is_shared_cell}
+use Rattle.edge_filters.proofs.low.edge_actions.Lists.{lt_from}
+use Rattle.task_equations.specs.typed_values.laws.TypeLaws.{none_of_type, joined_of_type}
+use Rattle.task_equations.specs.least_tables.Solutions.{NodeTable, at}
+use Rattle.task_equations.specs.state_fits.Fits.{FitsPlace}
+use Rattle.task_equations.specs.state_fits.Typed.{types_of}
+use Rattle.task_equations.specs.state_fits.laws.PlacesFit.{states_order}
 use Rattle.task_equations.specs.Bodies.{Body, node_at, live_at}
 use Rattle.program_equations.specs.Programs.{ProgramBodies, body_at, HasSection, IsProgram}
 use Rattle.program_equations.specs.Entries.{initial_at, initial_below, initial_of, entry_state, first_state, ended}

@@ -5,11 +5,11 @@ use Rattle.tm_terms.specs.declared.alarms.Alarm.{Alarm}
 use Rattle.tm_terms.specs.declared.places.Place.{Place}
 use Rattle.flow_graph.specs.declared.operations.Operation.{Operation}
 use Rattle.flow_graph.specs.declared.operations.Operation.TheVariants as Op
-use Rattle.transfer_rows.specs.StateForms.{State}
-use Rattle.transfer_rows.specs.Reports.{targets_of, IsListed}
-use Rattle.least_tables.specs.Solutions.{NodeTable}
-use Rattle.task_equations.specs.Bodies.{Body, edge_of, node_at, copy_at}
-use Rattle.task_equations.specs.Equations.{action_along, around_along}
+use Rattle.post_recheck.specs.transfer_rows.StateForms.{State}
+use Rattle.post_recheck.specs.transfer_rows.Reports.{targets_of, IsListed}
+use Rattle.post_recheck.specs.least_tables.Solutions.{NodeTable}
+use Rattle.post_recheck.specs.task_equations.Bodies.{Body, edge_of, node_at, copy_at}
+use Rattle.post_recheck.specs.task_equations.Equations.{action_along, around_along}
 use Rattle.access_races.specs.declared.accesses.Way.{Way}
 use Rattle.access_races.specs.declared.accesses.Access.{Access}
 use Rattle.program_reports.specs.Reports.{place_of}

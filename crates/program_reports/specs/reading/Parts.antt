@@ -1,9 +1,9 @@
 -- What is read of a body.
 use Rattle.std.specs.Prelude.{◌≡◌, ℕ, ◌<◌, List, length, get_or, Option, None, IfSome}
-use Rattle.transfer_rows.specs.StateForms.{State}
-use Rattle.task_equations.specs.Bodies.{Body, copy_at}
-use Rattle.task_equations.specs.Premises.{IsCopyOf}
-use Rattle.program_equations.specs.Systems.{FitsBody}
+use Rattle.post_recheck.specs.transfer_rows.StateForms.{State}
+use Rattle.post_recheck.specs.task_equations.Bodies.{Body, copy_at}
+use Rattle.post_recheck.specs.task_equations.Premises.{IsCopyOf}
+use Rattle.post_recheck.specs.program_equations.Systems.{FitsBody}
 use Rattle.program_reports.specs.declared.copies.BodyParts.{BodyParts}
 
 -- the edges, nodes, copies, number and priority of the body

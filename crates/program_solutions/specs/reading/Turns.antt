@@ -2,15 +2,16 @@
 use Rattle.std.specs.Prelude.{◌≡◌, ℕ, ◌+◌, ◌-◌, ◌*◌, ◌<◌, ◌≤◌, nat_lt, cond, List, [], ◌∷◌, ◌++◌, length, Option}
 use Rattle.tm_lattice.specs.Rounds.{IsHistory, IsClosed}
 use Rattle.interfere_set.specs.Stores.{Interferences, IsStoreBelow, store_height}
-use Rattle.transfer_rows.specs.StateForms.{State}
-use Rattle.value_heights.specs.Heights.{value_height}
+use Rattle.store_limits.specs.transfer_rows.StateForms.{State}
+use Rattle.store_limits.specs.value_heights.Heights.{value_height}
 use Rattle.least_tables.specs.Solutions.{IsLeastSolution}
-use Rattle.program_equations.specs.Programs.{ProgramBodies, body_at, HasSection, IsProgram}
-use Rattle.program_equations.specs.Systems.{states, stores, FitsBody, FitsProgram, task_system, IsLeastSection}
-use Rattle.program_equations.specs.Solutions.{passing, table_at, tables_of}
+use Rattle.store_limits.specs.program_equations.Programs.{ProgramBodies, body_at, HasSection, IsProgram}
+use Rattle.store_limits.specs.program_equations.Systems.{states, stores, FitsBody, FitsProgram, task_system}
+use Rattle.store_limits.specs.program_equations.Systems.{IsLeastSection}
+use Rattle.store_limits.specs.program_equations.Solutions.{passing, table_at, tables_of}
 use Rattle.store_limits.specs.Limits.{store_limit, published}
 use Rattle.thread_pass.specs.Analyses.{IsSectionTable, IsLeastTable, IsStartTable}
-use Rattle.post_recheck.specs.Pairs.{Pair, FitsPair}
+use Rattle.program_reports.specs.post_recheck.Pairs.{Pair, FitsPair}
 use Rattle.program_solutions.specs.declared.turns.PassOutcome.{PassOutcome}
 use Rattle.program_solutions.specs.declared.turns.PassOutcome.TheVariants.{Quiet, Raised}
 

@@ -4,29 +4,36 @@ use Rattle.std.proofs.Common.{sym, subst, ◌∙◌, inl, inr, arith}
 use Rattle.std.specs.FinMap.{get}
 use Rattle.std.proofs.lemmas.Bool.{true≢false}
 use Rattle.std.proofs.lemmas.Nat.Bits.{bit_at_and, bit_at_or, same_from_bits}
-use Rattle.strided_dom.specs.Progression.{Progression, single, IsSubset}
-use Rattle.tm_typed.specs.declared.types.Scalar.{Scalar}
-use Rattle.tm_laid.specs.Layouts.{LaidTree, abstract_at}
-use Rattle.pointer_dom.specs.PointerSets.{Pointers, no_pointer, IsPointersBelow}
-use Rattle.pointer_dom.specs.Values.{Values, IsValues, IsValuesBelow}
-use Rattle.pointer_dom.specs.laws.PointerLaws.{pointers_order, pointers_nothing}
-use Rattle.filters.proofs.PointerLaws.{none_added}
-use Rattle.cell_env.specs.Cells.{IsWithin}
-use Rattle.cell_env.specs.laws.Bits.{within_trans}
-use Rattle.interfere_set.specs.Stores.{Interferences}
-use Rattle.interfere_set.specs.laws.Joins.{none_is, IsOf}
-use Rattle.operator_values.specs.Integers as I
-use Rattle.operator_values.specs.Integers.{assumed_is}
-use Rattle.operator_values.specs.SetsOfPointers.{left_pointers, right_pointers, pointers_are_assumed, left_pointers_fit, right_pointers_fit}
-use Rattle.transfer_rows.specs.StateForms.{Temp, Cell, State, IsStateForm, only_numbers, only_pointers, value_of}
-use Rattle.transfer_rows.specs.Actions.{Around, Side, temporary, fixed, Filter, usable, numbers_compare, pointers_compare}
-use Rattle.transfer_rows.specs.Actions.{Action, skips, gives, refines, loads, loads_any, stores, clears, locks, unlocks, yields, probes}
-use Rattle.transfer_rows.specs.Calculations.{calculated, usable_values, side_value, left_numbers, right_numbers, left_addresses, right_addresses}
-use Rattle.transfer_rows.specs.Accesses.{is_among, targets_at, single_of}
-use Rattle.transfer_rows.specs.Rows.{aged, released, is_cleared, cleared_to, found_in, loaded, new_copy, after_load_any, stored_cell, after_store}
-use Rattle.transfer_rows.specs.Rows.{taken, after_lock, after_free, after_unlock, holds, side_refined, then_refined, after_filter, effect, arrived, after, without}
-use Rattle.transfer_rows.proofs.TableChanges.{get-kept}
-use Rattle.transfer_rows.proofs.Steps.{among_here, among_there, single_is}
+use Rattle.value_heights.specs.strided_dom.Progression.{Progression, single, IsSubset}
+use Rattle.temporary_types.specs.tm_typed.declared.types.Scalar.{Scalar}
+use Rattle.temporary_types.specs.tm_laid.Layouts.{LaidTree, abstract_at}
+use Rattle.value_heights.specs.pointer_dom.PointerSets.{Pointers, no_pointer, IsPointersBelow}
+use Rattle.value_heights.specs.pointer_dom.Values.{Values, IsValues, IsValuesBelow}
+use Rattle.value_heights.specs.pointer_dom.laws.PointerLaws.{pointers_order, pointers_nothing}
+use Rattle.typed_values.proofs.low.filters.PointerLaws.{none_added}
+use Rattle.edge_actions.specs.cell_env.Cells.{IsWithin}
+use Rattle.edge_actions.specs.cell_env.laws.Bits.{within_trans}
+use Rattle.edge_actions.specs.interfere_set.Stores.{Interferences}
+use Rattle.edge_actions.specs.interfere_set.laws.Joins.{none_is, IsOf}
+use Rattle.typed_values.specs.operator_values.Integers as I
+use Rattle.typed_values.specs.operator_values.Integers.{assumed_is}
+use Rattle.typed_values.specs.operator_values.SetsOfPointers.{left_pointers, right_pointers, pointers_are_assumed}
+use Rattle.typed_values.specs.operator_values.SetsOfPointers.{left_pointers_fit, right_pointers_fit}
+use Rattle.edge_actions.specs.transfer_rows.StateForms.{Temp, Cell, State, IsStateForm, only_numbers, only_pointers}
+use Rattle.edge_actions.specs.transfer_rows.StateForms.{value_of}
+use Rattle.edge_actions.specs.transfer_rows.Actions.{Around, Side, temporary, fixed, Filter, usable, numbers_compare}
+use Rattle.edge_actions.specs.transfer_rows.Actions.{pointers_compare}
+use Rattle.edge_actions.specs.transfer_rows.Actions.{Action, skips, gives, refines, loads, loads_any, stores, clears}
+use Rattle.edge_actions.specs.transfer_rows.Actions.{locks, unlocks, yields, probes}
+use Rattle.edge_actions.specs.transfer_rows.Calculations.{calculated, usable_values, side_value, left_numbers}
+use Rattle.edge_actions.specs.transfer_rows.Calculations.{right_numbers, left_addresses, right_addresses}
+use Rattle.edge_actions.specs.transfer_rows.Accesses.{is_among, targets_at, single_of}
+use Rattle.edge_actions.specs.transfer_rows.Rows.{aged, released, is_cleared, cleared_to, found_in, loaded, new_copy}
+use Rattle.edge_actions.specs.transfer_rows.Rows.{after_load_any, stored_cell, after_store}
+use Rattle.edge_actions.specs.transfer_rows.Rows.{taken, after_lock, after_free, after_unlock, holds, side_refined}
+use Rattle.edge_actions.specs.transfer_rows.Rows.{then_refined, after_filter, effect, arrived, after, without}
+use Rattle.edge_actions.proofs.low.transfer_rows.TableChanges.{get-kept}
+use Rattle.edge_actions.proofs.low.transfer_rows.Steps.{among_here, among_there, single_is}
 use Rattle.typed_values.specs.Types.{AreObjects, IsOfType}
 use Rattle.typed_values.specs.laws.TypeLaws.{typed_values, typed_objects, less_of_type}
 use Rattle.typed_values.specs.laws.ObjectsKept.{none_objects, left_objects, right_objects}
@@ -105,7 +112,7 @@ module _ (laid : LaidTree) (task : ℕ) (types : ℕ → Scalar) (around : Aroun
 
   side_next : (side : Side) (v : Values) (s : State) → Next None s → SideTyped side v → May (side_refined around side v s)
   side_next (temporary t) v s h typed = E.refine_next laid task types around.is_live around s t v h typed
-  side_next (fixed value) v s h typed = E.cond_next laid task types around.is_live (Rattle.transfer_rows.specs.StateForms.is_no_value v) s h
+  side_next (fixed value) v s h typed = E.cond_next laid task types around.is_live (Rattle.edge_actions.specs.transfer_rows.StateForms.is_no_value v) s h
 
   then_next : (side : Side) (v : Values) (a : Option State) → May a → SideTyped side v → May (then_refined around side v a)
   then_next side v None h typed = E.none_next laid task types around.is_live
@@ -116,7 +123,7 @@ module _ (laid : LaidTree) (task : ℕ) (types : ℕ → Scalar) (around : Aroun
   numbers_less n v v-is le = record { numbers = le; pointers = pointers_nothing.below no_pointer v.pointers none_is v-is refl }
 
   pointers_less : (p : Pointers) (v : Values) → IsPointersBelow p v.pointers → IsValuesBelow (only_pointers p) v
-  pointers_less p v le = record { numbers = record { within = λ n h. absurd (Rattle.strided_dom.proofs.Members.not_in_empty n h) }; pointers = le }
+  pointers_less p v le = record { numbers = record { within = λ n h. absurd (Rattle.value_heights.proofs.low.strided_dom.Members.not_in_empty n h) }; pointers = le }
 
   filter_next : (s : State) → Next None s → (filter : Filter) → FilterFits laid types filter → May (after_filter around s filter)
   filter_next s h (usable source) fits =
@@ -172,7 +179,7 @@ module _ (laid : LaidTree) (task : ℕ) (types : ℕ → Scalar) (around : Aroun
 
     load_next : (s : State) (target : ℕ) (xs : List ℕ) → Next (Some target) s
         → ((x : ℕ) (v : Values) → is_among xs x ≡ true → (let a = abstract_at laid x in IsOfType laid a.scalar v) → IsOfType laid (types target) v)
-        → May (Rattle.transfer_rows.specs.Rows.after_load around s store target xs)
+        → May (Rattle.edge_actions.specs.transfer_rows.Rows.after_load around s store target xs)
     load_next s target xs h same =
         E.given_next laid task types around.is_live s target (loaded around s store xs) (new_copy around s (single_of around.is_smashed xs)) h
         (all_typed laid (types target) (λ x. found_in around store x (get s.cells x)) xs (λ x k.
@@ -185,8 +192,8 @@ module _ (laid : LaidTree) (task : ℕ) (types : ℕ → Scalar) (around : Aroun
     store_next s v (x ∷ xs) h typed =
         E.some_next laid task types around.is_live
         record {
-          temps = Rattle.transfer_rows.specs.Rows.dropped (is_among (x ∷ xs)) s.temps;
-          cells = Rattle.tm_lattice.specs.Tables.changed_table (stored_cell around v (x ∷ xs) (single_of around.is_smashed (x ∷ xs))) s.cells;
+          temps = Rattle.edge_actions.specs.transfer_rows.Rows.dropped (is_among (x ∷ xs)) s.temps;
+          cells = Rattle.value_heights.specs.tm_lattice.Tables.changed_table (stored_cell around v (x ∷ xs) (single_of around.is_smashed (x ∷ xs))) s.cells;
         }
         (E.ended_next laid task types around.is_live s (is_among (x ∷ xs)) (stored_cell around v (x ∷ xs) (single_of around.is_smashed (x ∷ xs))) h (λ y c k.
         E.stored_fits laid task types around.is_live around store weak sync held_in v (x ∷ xs) (single_of around.is_smashed (x ∷ xs)) y c
@@ -203,7 +210,7 @@ module _ (laid : LaidTree) (task : ℕ) (types : ℕ → Scalar) (around : Aroun
         store_next s (value_of s source) (targets_at spots (value_of s address).pointers) h (λ x k. fits x (value_of s source) k (E.value_typed laid task types around.is_live None s h source))
     effect_next s (clears cleared) fits h =
         E.some_next laid task types around.is_live
-        record { temps = Rattle.transfer_rows.specs.Rows.dropped (λ x. is_cleared (cleared x)) s.temps; cells = Rattle.tm_lattice.specs.Tables.changed_table (λ x. cleared_to (cleared x)) s.cells }
+        record { temps = Rattle.edge_actions.specs.transfer_rows.Rows.dropped (λ x. is_cleared (cleared x)) s.temps; cells = Rattle.value_heights.specs.tm_lattice.Tables.changed_table (λ x. cleared_to (cleared x)) s.cells }
         (E.ended_next laid task types around.is_live s (λ x. is_cleared (cleared x)) (λ x. cleared_to (cleared x)) h (λ x c k. E.cleared_cell laid task types around.is_live (cleared x) x c (fits x) k))
     effect_next s (locks m) fits h =
         E.cond_next laid task types around.is_live (holds around m) (after_lock around s store m)
@@ -212,7 +219,7 @@ module _ (laid : LaidTree) (task : ℕ) (types : ℕ → Scalar) (around : Aroun
     effect_next s (unlocks m) fits h =
         E.where_next laid task types around.is_live (holds around m) (after_unlock s m) (E.cells_next laid task types around.is_live s (λ x c. released m c) h (released_cell m))
     effect_next s yields fits h =
-        E.some_next laid task types around.is_live (Rattle.transfer_rows.specs.Rows.after_yield s)
+        E.some_next laid task types around.is_live (Rattle.edge_actions.specs.transfer_rows.Rows.after_yield s)
         (E.cells_next laid task types around.is_live s (λ x c. aged c) h (E.aged_cell laid task types around.is_live around store weak sync held_in))
     effect_next s (probes m target true) fits h = E.given_next laid task types around.is_live s target (only_numbers (single (pos 1))) None h fits.0
     effect_next s (probes m target false) fits h =

@@ -4,15 +4,15 @@ use Rattle.std.proofs.Common.{sym, subst, ◌∙◌}
 use Rattle.std.specs.FinMap.{get}
 use Rattle.std.specs.Option.{option_map}
 use Rattle.std.proofs.lemmas.Bool.{true≢false}
-use Rattle.tm_typed.specs.declared.types.Scalar.{Scalar}
-use Rattle.tm_laid.specs.Layouts.{LaidTree, abstract_at}
-use Rattle.flow_graph.specs.declared.operations.Operation.{Operation}
-use Rattle.interfere_set.specs.Stores.{Interferences}
-use Rattle.transfer_rows.specs.StateForms.{Temp, State, IsStateForm}
-use Rattle.transfer_rows.specs.Actions.{Around, Action}
-use Rattle.transfer_rows.specs.Accesses.{is_among}
-use Rattle.transfer_rows.specs.Rows.{effect, arrived, after}
-use Rattle.transfer_rows.proofs.Fitting.{after_is}
+use Rattle.temporary_types.specs.tm_typed.declared.types.Scalar.{Scalar}
+use Rattle.temporary_types.specs.tm_laid.Layouts.{LaidTree, abstract_at}
+use Rattle.temporary_types.specs.flow_graph.declared.operations.Operation.{Operation}
+use Rattle.edge_actions.specs.interfere_set.Stores.{Interferences}
+use Rattle.edge_actions.specs.transfer_rows.StateForms.{Temp, State, IsStateForm}
+use Rattle.edge_actions.specs.transfer_rows.Actions.{Around, Action}
+use Rattle.edge_actions.specs.transfer_rows.Accesses.{is_among}
+use Rattle.edge_actions.specs.transfer_rows.Rows.{effect, arrived, after}
+use Rattle.edge_actions.proofs.low.transfer_rows.Fitting.{after_is}
 use Rattle.edge_actions.specs.Edges.{action_of}
 use Rattle.edge_actions.proofs.ActionForms.{edge_is}
 use Rattle.typed_values.specs.Types.{IsOfType}

@@ -3,21 +3,23 @@ use Rattle.std.specs.Prelude.{◌≡◌, ℕ, Bool, true, false, ◌||◌, cond,
 use Rattle.std.proofs.Common.{sym, ap, subst, ◌∙◌, inl, inr}
 use Rattle.std.specs.FinMap.{get, insert}
 use Rattle.std.proofs.lemmas.Bool.{cases_eq, false≢true, or_cases}
-use Rattle.tm_lattice.specs.Tables.{Table, changed_table}
-use Rattle.tm_lattice.specs.laws.TableLaws.{get-insert_here, get-insert_there}
-use Rattle.tm_lattice.specs.laws.SelectedLaws.{changed_at, get-changed_table}
-use Rattle.tm_typed.specs.declared.types.Scalar.{Scalar}
-use Rattle.tm_laid.specs.Layouts.{LaidTree, abstract_at}
-use Rattle.pointer_dom.specs.Values.{Values, IsValues, no_value}
-use Rattle.cell_env.specs.Cells.{IsWithin}
-use Rattle.cell_env.specs.laws.Bits.{within_least}
-use Rattle.interfere_set.specs.Stores.{Interferences, visible, handed}
-use Rattle.operator_values.specs.MetValues.{met_values}
-use Rattle.transfer_rows.specs.StateForms.{Temp, Cell, State, is_no_value, temp_value, value_of}
-use Rattle.transfer_rows.specs.Actions.{Around}
-use Rattle.transfer_rows.specs.Accesses.{is_among}
-use Rattle.transfer_rows.specs.Rows.{given, aged, overwriting, joining, cleared_to, met_where, refined, kept_copy, dropped}
-use Rattle.transfer_rows.specs.Rows.{found_in, taken, stored_cell, is_contradicted, refined_from, after_refined}
+use Rattle.value_heights.specs.tm_lattice.Tables.{Table, changed_table}
+use Rattle.value_heights.specs.tm_lattice.laws.TableLaws.{get-insert_here, get-insert_there}
+use Rattle.value_heights.specs.tm_lattice.laws.SelectedLaws.{changed_at, get-changed_table}
+use Rattle.temporary_types.specs.tm_typed.declared.types.Scalar.{Scalar}
+use Rattle.temporary_types.specs.tm_laid.Layouts.{LaidTree, abstract_at}
+use Rattle.value_heights.specs.pointer_dom.Values.{Values, IsValues, no_value}
+use Rattle.edge_actions.specs.cell_env.Cells.{IsWithin}
+use Rattle.edge_actions.specs.cell_env.laws.Bits.{within_least}
+use Rattle.edge_actions.specs.interfere_set.Stores.{Interferences, visible, handed}
+use Rattle.typed_values.specs.operator_values.MetValues.{met_values}
+use Rattle.edge_actions.specs.transfer_rows.StateForms.{Temp, Cell, State, is_no_value, temp_value, value_of}
+use Rattle.edge_actions.specs.transfer_rows.Actions.{Around}
+use Rattle.edge_actions.specs.transfer_rows.Accesses.{is_among}
+use Rattle.edge_actions.specs.transfer_rows.Rows.{given, aged, overwriting, joining, cleared_to, met_where, refined}
+use Rattle.edge_actions.specs.transfer_rows.Rows.{kept_copy, dropped}
+use Rattle.edge_actions.specs.transfer_rows.Rows.{found_in, taken, stored_cell, is_contradicted, refined_from}
+use Rattle.edge_actions.specs.transfer_rows.Rows.{after_refined}
 use Rattle.typed_values.specs.Types.{AreObjects, IsOfType}
 use Rattle.typed_values.specs.laws.TypeLaws.{none_of_type, typed_values, typed_objects, joined_of_type, met_of_type}
 use Rattle.state_fits.specs.Fits.{FitsCell, IsCellOf}

@@ -3,19 +3,19 @@ use Rattle.std.proofs.Common.{◌≡◌, refl, sym, ap, subst, ℕ, true, List, 
 use Rattle.std.specs.Prelude.{◌≤ℤ◌, int_le}
 use Rattle.std.proofs.lemmas.Bool.{and_parts}
 use Rattle.std.proofs.lemmas.Int.{ints}
-use Rattle.tm_cint.specs.declared.int_types.IntType.{IntType}
-use Rattle.tm_cint.specs.declared.int_types.IntType.TheVariants as Ints
-use Rattle.tm_cint.specs.IntTypes.{IsIn, lo_of, hi_of}
-use Rattle.tm_cint.specs.Conversions.{represents_all}
-use Rattle.tm_cint.specs.Operators.{result_type}
-use Rattle.tm_typed.specs.declared.types.Scalar.{Scalar}
-use Rattle.tm_typed.specs.declared.types.Scalar.TheVariants as Scalars
-use Rattle.tm_laid.specs.Layouts.{LaidTree}
-use Rattle.concrete_values.specs.declared.values.Value.{Value}
-use Rattle.concrete_values.specs.declared.values.Value.TheVariants.{Number, Pointer}
-use Rattle.flow_graph.specs.declared.operations.Operation.{Operation}
-use Rattle.flow_graph.specs.declared.operations.Operation.TheVariants as Op
-use Rattle.pointer_dom.specs.Values.{Values}
+use Rattle.temporary_types.specs.tm_cint.declared.int_types.IntType.{IntType}
+use Rattle.temporary_types.specs.tm_cint.declared.int_types.IntType.TheVariants as Ints
+use Rattle.temporary_types.specs.tm_cint.IntTypes.{IsIn, lo_of, hi_of}
+use Rattle.temporary_types.specs.tm_cint.Conversions.{represents_all}
+use Rattle.temporary_types.specs.tm_cint.Operators.{result_type}
+use Rattle.temporary_types.specs.tm_typed.declared.types.Scalar.{Scalar}
+use Rattle.temporary_types.specs.tm_typed.declared.types.Scalar.TheVariants as Scalars
+use Rattle.temporary_types.specs.tm_laid.Layouts.{LaidTree}
+use Rattle.temporary_types.specs.concrete_values.declared.values.Value.{Value}
+use Rattle.temporary_types.specs.concrete_values.declared.values.Value.TheVariants.{Number, Pointer}
+use Rattle.temporary_types.specs.flow_graph.declared.operations.Operation.{Operation}
+use Rattle.temporary_types.specs.flow_graph.declared.operations.Operation.TheVariants as Op
+use Rattle.value_heights.specs.pointer_dom.Values.{Values}
 use Rattle.typed_values.specs.Types.{IsOfType, HoldsNumber, HoldsPointers, HaveSameValues}
 use Rattle.state_fits.specs.laws.ExactTypes.{IsConstantOf, FitsTypes, HasSort, IsExact}
 use Rattle.temporary_types.specs.Sorts.{Sort, numbers, pointers, sort_of_scalar, Within, IsOfSort, Holds, FitsSorts}

@@ -7,35 +7,35 @@ use Rattle.std.specs.FinMap.{get-empty}
 use Rattle.std.specs.Ordering.{nat_cmp}
 use Rattle.std.proofs.lemmas.Bool.{false≢true}
 use Rattle.std.proofs.lemmas.Int.{ints}
-use Rattle.strided_dom.specs.Progression.{Progression, single}
-use Rattle.tm_cint.specs.declared.Class.{Class}
-use Rattle.tm_cint.specs.declared.int_types.IntType.{IntType}
-use Rattle.tm_cint.specs.declared.int_types.IntType.TheVariants as Ints
-use Rattle.tm_cint.specs.declared.operators.BinOp.{BinOp}
-use Rattle.tm_cint.specs.declared.operators.BinOp.TheVariants as Bins
-use Rattle.tm_cint.specs.IntTypes.{IsIn}
-use Rattle.tm_cint.specs.Conversions.{truth}
-use Rattle.tm_terms.specs.declared.places.Place.{Place}
-use Rattle.tm_typed.specs.declared.expressions.Unary.TheVariants as Unaries
-use Rattle.tm_typed.specs.declared.types.Scalar.{Scalar}
-use Rattle.tm_typed.specs.declared.types.Scalar.TheVariants as Scalars
-use Rattle.tm_laid.specs.Layouts.{LaidTree, abstract_at}
-use Rattle.concrete_values.specs.declared.values.Value.TheVariants.{Number}
-use Rattle.flow_graph.specs.declared.operations.Operation.{Operation}
-use Rattle.flow_graph.specs.declared.operations.Operation.TheVariants as Op
-use Rattle.transfer_int.specs.Values.{ones_of}
-use Rattle.transfer_int.specs.Operands.{AreValues}
-use Rattle.pointer_dom.specs.PointerSets.{Pointers}
-use Rattle.pointer_dom.specs.Equality.{IsEqualityValue}
-use Rattle.pointer_dom.specs.Values.{Values}
-use Rattle.operator_values.specs.Integers.{operated, operated_is}
-use Rattle.operator_values.specs.SetsOfPointers.{equality, equality_is}
-use Rattle.transfer_rows.specs.StateForms.{State, temp_value, value_of, only_numbers}
-use Rattle.transfer_rows.specs.Actions.{Spot}
-use Rattle.transfer_rows.specs.Meanings.{IsSpotOf}
-use Rattle.transfer_rows.specs.Accesses.{leads, is_among, targets_at}
-use Rattle.transfer_rows.specs.Calculations.{calculated}
-use Rattle.transfer_rows.proofs.Steps.{among_cons}
+use Rattle.value_heights.specs.strided_dom.Progression.{Progression, single}
+use Rattle.temporary_types.specs.tm_cint.declared.Class.{Class}
+use Rattle.temporary_types.specs.tm_cint.declared.int_types.IntType.{IntType}
+use Rattle.temporary_types.specs.tm_cint.declared.int_types.IntType.TheVariants as Ints
+use Rattle.temporary_types.specs.tm_cint.declared.operators.BinOp.{BinOp}
+use Rattle.temporary_types.specs.tm_cint.declared.operators.BinOp.TheVariants as Bins
+use Rattle.temporary_types.specs.tm_cint.IntTypes.{IsIn}
+use Rattle.temporary_types.specs.tm_cint.Conversions.{truth}
+use Rattle.temporary_types.specs.tm_terms.declared.places.Place.{Place}
+use Rattle.temporary_types.specs.tm_typed.declared.expressions.Unary.TheVariants as Unaries
+use Rattle.temporary_types.specs.tm_typed.declared.types.Scalar.{Scalar}
+use Rattle.temporary_types.specs.tm_typed.declared.types.Scalar.TheVariants as Scalars
+use Rattle.temporary_types.specs.tm_laid.Layouts.{LaidTree, abstract_at}
+use Rattle.temporary_types.specs.concrete_values.declared.values.Value.TheVariants.{Number}
+use Rattle.temporary_types.specs.flow_graph.declared.operations.Operation.{Operation}
+use Rattle.temporary_types.specs.flow_graph.declared.operations.Operation.TheVariants as Op
+use Rattle.typed_values.specs.transfer_int.Values.{ones_of}
+use Rattle.typed_values.specs.transfer_int.Operands.{AreValues}
+use Rattle.value_heights.specs.pointer_dom.PointerSets.{Pointers}
+use Rattle.value_heights.specs.pointer_dom.Equality.{IsEqualityValue}
+use Rattle.value_heights.specs.pointer_dom.Values.{Values}
+use Rattle.typed_values.specs.operator_values.Integers.{operated, operated_is}
+use Rattle.typed_values.specs.operator_values.SetsOfPointers.{equality, equality_is}
+use Rattle.edge_actions.specs.transfer_rows.StateForms.{State, temp_value, value_of, only_numbers}
+use Rattle.edge_actions.specs.transfer_rows.Actions.{Spot}
+use Rattle.edge_actions.specs.transfer_rows.Meanings.{IsSpotOf}
+use Rattle.edge_actions.specs.transfer_rows.Accesses.{leads, is_among, targets_at}
+use Rattle.edge_actions.specs.transfer_rows.Calculations.{calculated}
+use Rattle.edge_actions.proofs.low.transfer_rows.Steps.{among_cons}
 use Rattle.edge_actions.specs.Layouts.{spots_of, open_value}
 use Rattle.edge_actions.specs.Edges.{action_of}
 use Rattle.typed_values.specs.Types.{IsOfType, HaveSameValues}

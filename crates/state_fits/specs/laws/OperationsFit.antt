@@ -6,41 +6,43 @@ use Rattle.std.proofs.lemmas.Bool.{cases_eq}
 use Rattle.std.specs.Ordering.{nat_cmp}
 use Rattle.std.specs.FinMap as map
 use Rattle.std.specs.FinMap.{get, get-empty}
-use Rattle.strided_dom.specs.Progression.{Progression, single, Has}
-use Rattle.tm_lattice.specs.laws.TableLaws.{get-insert_here, get-insert_there}
-use Rattle.tm_cint.specs.declared.int_types.IntType.{IntType}
-use Rattle.tm_cint.specs.declared.int_types.IntType.TheVariants as Ints
-use Rattle.tm_cint.specs.declared.operators.BinOp.TheVariants.{Sub}
-use Rattle.tm_cint.specs.IntTypes.{IsIn, lo_of, hi_of}
-use Rattle.tm_cint.specs.Operators.{result_type}
-use Rattle.tm_cint.proofs.Values.{IsIn-between, truth-in, zero_in}
-use Rattle.tm_typed.specs.declared.types.Scalar.{Scalar}
-use Rattle.tm_typed.specs.declared.types.Scalar.TheVariants as Scalars
-use Rattle.tm_typed.specs.declared.expressions.Unary.TheVariants as Unaries
-use Rattle.tm_laid.specs.Layouts.{LaidTree, object_at, abstract_at, is_alive, stands_at}
-use Rattle.concrete_values.specs.declared.values.Pointer.{Pointer}
-use Rattle.concrete_values.specs.declared.values.Pointer.TheVariants as Pointers
-use Rattle.concrete_values.specs.declared.values.Value.{Value}
-use Rattle.concrete_values.specs.declared.values.Value.TheVariants as Constant
-use Rattle.flow_graph.specs.declared.operations.Test.{Test}
-use Rattle.flow_graph.specs.declared.operations.Test.TheVariants as Tests
-use Rattle.flow_graph.specs.declared.operations.Operation.{Operation}
-use Rattle.flow_graph.specs.declared.operations.Operation.TheVariants as Op
-use Rattle.flow_graph.specs.Operations.{given}
-use Rattle.transfer_int.specs.Values.{ones_of}
-use Rattle.transfer_int.specs.Operands.{AreValues}
-use Rattle.pointer_dom.specs.OffsetSets.{OffsetSet}
-use Rattle.pointer_dom.specs.PointerSets.{Pointers as PointerSet, IsPointers, no_pointer, pointer_to}
-use Rattle.pointer_dom.specs.Values.{Values, IsValues}
-use Rattle.pointer_dom.specs.laws.Existence.{spaced_exists}
-use Rattle.operator_values.specs.SetsOfPointers as P
-use Rattle.operator_values.specs.SetsOfPointers.{offset_by_fits, indexed_fits, moved_fits, dereferenced_fits}
-use Rattle.transfer_rows.specs.StateForms.{State, value_of, only_numbers, only_pointers}
-use Rattle.transfer_rows.specs.Actions.{Spot, constant, constant_is, Action, gives, loads_any, IsAction, gives_is, loads_any_is}
-use Rattle.transfer_rows.specs.Meanings.{IsSpotOf}
-use Rattle.transfer_rows.specs.Accesses.{leads, is_among, targets_at}
-use Rattle.transfer_rows.specs.Calculations.{calculated}
-use Rattle.transfer_rows.proofs.Steps.{among_cons}
+use Rattle.value_heights.specs.strided_dom.Progression.{Progression, single, Has}
+use Rattle.value_heights.specs.tm_lattice.laws.TableLaws.{get-insert_here, get-insert_there}
+use Rattle.temporary_types.specs.tm_cint.declared.int_types.IntType.{IntType}
+use Rattle.temporary_types.specs.tm_cint.declared.int_types.IntType.TheVariants as Ints
+use Rattle.temporary_types.specs.tm_cint.declared.operators.BinOp.TheVariants.{Sub}
+use Rattle.temporary_types.specs.tm_cint.IntTypes.{IsIn, lo_of, hi_of}
+use Rattle.temporary_types.specs.tm_cint.Operators.{result_type}
+use Rattle.temporary_types.proofs.low.tm_cint.Values.{IsIn-between, truth-in, zero_in}
+use Rattle.temporary_types.specs.tm_typed.declared.types.Scalar.{Scalar}
+use Rattle.temporary_types.specs.tm_typed.declared.types.Scalar.TheVariants as Scalars
+use Rattle.temporary_types.specs.tm_typed.declared.expressions.Unary.TheVariants as Unaries
+use Rattle.temporary_types.specs.tm_laid.Layouts.{LaidTree, object_at, abstract_at, is_alive, stands_at}
+use Rattle.temporary_types.specs.concrete_values.declared.values.Pointer.{Pointer}
+use Rattle.temporary_types.specs.concrete_values.declared.values.Pointer.TheVariants as Pointers
+use Rattle.temporary_types.specs.concrete_values.declared.values.Value.{Value}
+use Rattle.temporary_types.specs.concrete_values.declared.values.Value.TheVariants as Constant
+use Rattle.temporary_types.specs.flow_graph.declared.operations.Test.{Test}
+use Rattle.temporary_types.specs.flow_graph.declared.operations.Test.TheVariants as Tests
+use Rattle.temporary_types.specs.flow_graph.declared.operations.Operation.{Operation}
+use Rattle.temporary_types.specs.flow_graph.declared.operations.Operation.TheVariants as Op
+use Rattle.temporary_types.specs.flow_graph.Operations.{given}
+use Rattle.typed_values.specs.transfer_int.Values.{ones_of}
+use Rattle.typed_values.specs.transfer_int.Operands.{AreValues}
+use Rattle.value_heights.specs.pointer_dom.OffsetSets.{OffsetSet}
+use Rattle.value_heights.specs.pointer_dom.PointerSets.{Pointers as PointerSet, IsPointers, no_pointer, pointer_to}
+use Rattle.value_heights.specs.pointer_dom.Values.{Values, IsValues}
+use Rattle.value_heights.specs.pointer_dom.laws.Existence.{spaced_exists}
+use Rattle.typed_values.specs.operator_values.SetsOfPointers as P
+use Rattle.typed_values.specs.operator_values.SetsOfPointers.{offset_by_fits, indexed_fits, moved_fits}
+use Rattle.typed_values.specs.operator_values.SetsOfPointers.{dereferenced_fits}
+use Rattle.edge_actions.specs.transfer_rows.StateForms.{State, value_of, only_numbers, only_pointers}
+use Rattle.edge_actions.specs.transfer_rows.Actions.{Spot, constant, constant_is, Action, gives, loads_any, IsAction}
+use Rattle.edge_actions.specs.transfer_rows.Actions.{gives_is, loads_any_is}
+use Rattle.edge_actions.specs.transfer_rows.Meanings.{IsSpotOf}
+use Rattle.edge_actions.specs.transfer_rows.Accesses.{leads, is_among, targets_at}
+use Rattle.edge_actions.specs.transfer_rows.Calculations.{calculated}
+use Rattle.edge_actions.proofs.low.transfer_rows.Steps.{among_cons}
 use Rattle.edge_actions.specs.Layouts.{numbers_between, only_invalid, open_value, spots_of}
 use Rattle.edge_actions.specs.Edges.{only_null, pointer_within, pointer_value, constant_value, filter_of, cleared_value, action_of}
 use Rattle.edge_actions.proofs.ActionForms.{edge_is}
@@ -200,8 +202,8 @@ module _ (laid : LaidTree) where
         cleared_is : (object x : ℕ) (v : Values) → cleared_value laid object x ≡ Some v → IsValues v
         cleared_is object x v at = of_clear (cleared_value laid object) (edge_is laid task pointers answer (Op.Clear object)) x v at
           where
-            of_clear : (cleared : ℕ → Option Values) → IsAction (Rattle.transfer_rows.specs.Actions.clears cleared) → (x : ℕ) (v : Values) → cleared x ≡ Some v → IsValues v
-            of_clear cleared (Rattle.transfer_rows.specs.Actions.clears_is h) = h
+            of_clear : (cleared : ℕ → Option Values) → IsAction (Rattle.edge_actions.specs.transfer_rows.Actions.clears cleared) → (x : ℕ) (v : Values) → cleared x ≡ Some v → IsValues v
+            of_clear cleared (Rattle.edge_actions.specs.transfer_rows.Actions.clears_is h) = h
 
         pub operation_fits : (op : Operation) → FitsTypes laid types op → Fits op
         unfolding FitsTypes ActionFits calculated

@@ -3,19 +3,19 @@ use Rattle.std.specs.Prelude.{ℕ, ◌==◌, Bool, true, false, cond, ℤ, List,
 use Rattle.std.proofs.Common.{sym, subst}
 use Rattle.std.specs.FinMap.{get}
 use Rattle.std.specs.List.{list_any}
-use Rattle.tm_lattice.specs.LatticeLaws.{IsOrder, IsJoin, IsClosure}
-use Rattle.tm_lattice.specs.Tables.{joined_at, rounded_among}
-use Rattle.tm_lattice.specs.laws.TableLaws.{get-joined_table}
-use Rattle.tm_typed.specs.declared.types.Scalar.{Scalar}
-use Rattle.tm_laid.specs.Layouts.{LaidTree, abstract_at}
-use Rattle.pointer_dom.specs.Values.{Values, IsValues, IsValuesBelow, joined_values, rounded_values}
-use Rattle.pointer_dom.specs.laws.ValueLaws.{values_order, values_join, values_closure}
-use Rattle.cell_env.specs.Cells.{joined_cell, rounded_cell}
-use Rattle.cell_env.specs.Temps.{joined_temp}
-use Rattle.cell_env.specs.States.{joined_state, rounded_state_at}
-use Rattle.cell_env.specs.laws.Bits.{within_least}
-use Rattle.cell_env.specs.laws.StateLaws.{state_order, state_join, state_closure_at}
-use Rattle.transfer_rows.specs.StateForms.{Temp, Cell, State, IsStateForm, IsStateUnder}
+use Rattle.value_heights.specs.tm_lattice.LatticeLaws.{IsOrder, IsJoin, IsClosure}
+use Rattle.value_heights.specs.tm_lattice.Tables.{joined_at, rounded_among}
+use Rattle.value_heights.specs.tm_lattice.laws.TableLaws.{get-joined_table}
+use Rattle.temporary_types.specs.tm_typed.declared.types.Scalar.{Scalar}
+use Rattle.temporary_types.specs.tm_laid.Layouts.{LaidTree, abstract_at}
+use Rattle.value_heights.specs.pointer_dom.Values.{Values, IsValues, IsValuesBelow, joined_values, rounded_values}
+use Rattle.value_heights.specs.pointer_dom.laws.ValueLaws.{values_order, values_join, values_closure}
+use Rattle.edge_actions.specs.cell_env.Cells.{joined_cell, rounded_cell}
+use Rattle.edge_actions.specs.cell_env.Temps.{joined_temp}
+use Rattle.edge_actions.specs.cell_env.States.{joined_state, rounded_state_at}
+use Rattle.edge_actions.specs.cell_env.laws.Bits.{within_least}
+use Rattle.edge_actions.specs.cell_env.laws.StateLaws.{state_order, state_join, state_closure_at}
+use Rattle.edge_actions.specs.transfer_rows.StateForms.{Temp, Cell, State, IsStateForm, IsStateUnder}
 use Rattle.typed_values.specs.Types.{HaveEnds}
 use Rattle.typed_values.specs.laws.TypeLaws.{joined_of_type, rounded_of_type}
 use Rattle.state_fits.specs.Fits.{FitsTemp, FitsCell, IsCellOf, FitsPlace}

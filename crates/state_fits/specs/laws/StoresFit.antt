@@ -2,13 +2,14 @@
 use Rattle.std.specs.Prelude.{◌≡◌, ℕ, Bool, true, false, cond, eqb, List, [], ◌∷◌, Option, Some, None, refl}
 use Rattle.std.proofs.Common.{inl, inr}
 use Rattle.std.specs.FinMap.{get, entries}
-use Rattle.tm_lattice.specs.Tables.{Table}
-use Rattle.tm_typed.specs.declared.types.Scalar.{Scalar}
-use Rattle.tm_laid.specs.Layouts.{LaidTree}
-use Rattle.pointer_dom.specs.Values.{Values, joined_values, no_value}
-use Rattle.interfere_set.specs.Stores.{Nested, Interferences, value_or_none, joined_onto, joined_all, Reader, is_visible, shown_at}
-use Rattle.interfere_set.specs.Stores.{seen_of_task, visible, left_in, left_at, handed}
-use Rattle.interfere_set.specs.laws.Joins.{IsOf, of_entry}
+use Rattle.value_heights.specs.tm_lattice.Tables.{Table}
+use Rattle.temporary_types.specs.tm_typed.declared.types.Scalar.{Scalar}
+use Rattle.temporary_types.specs.tm_laid.Layouts.{LaidTree}
+use Rattle.value_heights.specs.pointer_dom.Values.{Values, joined_values, no_value}
+use Rattle.edge_actions.specs.interfere_set.Stores.{Nested, Interferences, value_or_none, joined_onto, joined_all}
+use Rattle.edge_actions.specs.interfere_set.Stores.{Reader, is_visible, shown_at}
+use Rattle.edge_actions.specs.interfere_set.Stores.{seen_of_task, visible, left_in, left_at, handed}
+use Rattle.edge_actions.specs.interfere_set.laws.Joins.{IsOf, of_entry}
 use Rattle.typed_values.specs.Types.{IsOfType}
 use Rattle.typed_values.specs.laws.TypeLaws.{none_of_type, joined_of_type}
 

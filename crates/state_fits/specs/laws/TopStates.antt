@@ -5,29 +5,30 @@ use Rattle.std.proofs.lemmas.Int.{ints}
 use Rattle.std.proofs.lemmas.Bool.{cases_eq, false≢true}
 use Rattle.std.specs.FinMap.{get, get-empty}
 use Rattle.std.specs.Ordering.{nat_cmp}
-use Rattle.strided_dom.specs.Progression.{Progression, Has, IsSubset, IsSpaced}
-use Rattle.strided_dom.proofs.Members.{not_in_empty}
-use Rattle.tm_numbers.proofs.Congruences.{cong_up}
-use Rattle.tm_lattice.specs.Heights.{IsHeight}
-use Rattle.tm_lattice.specs.Tables.{IsEntry, IsTable, IsBelow}
-use Rattle.tm_lattice.specs.laws.TableLaws.{get-insert_here, get-insert_there}
-use Rattle.tm_cint.specs.declared.int_types.IntType.{IntType}
-use Rattle.transfer_int.proofs.Placing.{ends_of}
-use Rattle.tm_typed.specs.declared.types.Scalar.{Scalar}
-use Rattle.tm_typed.specs.declared.types.Scalar.TheVariants as Scalars
-use Rattle.tm_laid.specs.Layouts.{LaidTree, object_at, abstract_at}
-use Rattle.pointer_dom.specs.OffsetSets.{OffsetSet, IsOffsetSet, HasNoOffset, IsOffsetsBelow}
-use Rattle.pointer_dom.specs.PointerSets.{Pointers, IsPointers, IsPointersBelow}
-use Rattle.pointer_dom.specs.Values.{Values, IsValues, IsValuesBelow}
-use Rattle.pointer_dom.specs.laws.Existence.{spaced_exists}
-use Rattle.pointer_dom.specs.laws.PointerLaws.{pointers_nothing}
-use Rattle.cell_env.specs.States.{state_height}
-use Rattle.cell_env.specs.laws.StateLaws.{state_heights}
-use Rattle.transfer_rows.specs.StateForms.{Temp, Cell, State, IsTempForm, IsCellForm, IsStateForm, IsTempUnder, IsCellUnder, IsStateUnder}
-use Rattle.transfer_rows.specs.Accesses.{is_among}
-use Rattle.transfer_rows.proofs.Steps.{among_cons, among_here, among_there}
-use Rattle.transfer_rows.proofs.TableChanges.{inserted_is}
-use Rattle.interfere_set.specs.laws.Joins.{none_is}
+use Rattle.value_heights.specs.strided_dom.Progression.{Progression, Has, IsSubset, IsSpaced}
+use Rattle.value_heights.proofs.low.strided_dom.Members.{not_in_empty}
+use Rattle.value_heights.proofs.low.tm_numbers.Congruences.{cong_up}
+use Rattle.value_heights.specs.tm_lattice.Heights.{IsHeight}
+use Rattle.value_heights.specs.tm_lattice.Tables.{IsEntry, IsTable, IsBelow}
+use Rattle.value_heights.specs.tm_lattice.laws.TableLaws.{get-insert_here, get-insert_there}
+use Rattle.temporary_types.specs.tm_cint.declared.int_types.IntType.{IntType}
+use Rattle.typed_values.proofs.low.transfer_int.Placing.{ends_of}
+use Rattle.temporary_types.specs.tm_typed.declared.types.Scalar.{Scalar}
+use Rattle.temporary_types.specs.tm_typed.declared.types.Scalar.TheVariants as Scalars
+use Rattle.temporary_types.specs.tm_laid.Layouts.{LaidTree, object_at, abstract_at}
+use Rattle.value_heights.specs.pointer_dom.OffsetSets.{OffsetSet, IsOffsetSet, HasNoOffset, IsOffsetsBelow}
+use Rattle.value_heights.specs.pointer_dom.PointerSets.{Pointers, IsPointers, IsPointersBelow}
+use Rattle.value_heights.specs.pointer_dom.Values.{Values, IsValues, IsValuesBelow}
+use Rattle.value_heights.specs.pointer_dom.laws.Existence.{spaced_exists}
+use Rattle.value_heights.specs.pointer_dom.laws.PointerLaws.{pointers_nothing}
+use Rattle.edge_actions.specs.cell_env.States.{state_height}
+use Rattle.edge_actions.specs.cell_env.laws.StateLaws.{state_heights}
+use Rattle.edge_actions.specs.transfer_rows.StateForms.{Temp, Cell, State, IsTempForm, IsCellForm, IsStateForm}
+use Rattle.edge_actions.specs.transfer_rows.StateForms.{IsTempUnder, IsCellUnder, IsStateUnder}
+use Rattle.edge_actions.specs.transfer_rows.Accesses.{is_among}
+use Rattle.edge_actions.proofs.low.transfer_rows.Steps.{among_cons, among_here, among_there}
+use Rattle.edge_actions.proofs.low.transfer_rows.TableChanges.{inserted_is}
+use Rattle.edge_actions.specs.interfere_set.laws.Joins.{none_is}
 use Rattle.edge_actions.specs.Layouts.{numbers_between}
 use Rattle.edge_actions.proofs.Ranges.{one_range}
 use Rattle.value_heights.specs.Heights.{value_height}
@@ -107,7 +108,7 @@ pointers_below laid p p-is are = record {
   objects = λ object. object_below laid p p-is are object (get p.objects object) refl;
 }
 
-numbers_below : (laid : LaidTree) (t : IntType) (s : Progression) → Rattle.transfer_int.specs.Operands.AreValues t s → IsSubset s (all_values laid).numbers
+numbers_below : (laid : LaidTree) (t : IntType) (s : Progression) → Rattle.typed_values.specs.transfer_int.Operands.AreValues t s → IsSubset s (all_values laid).numbers
 numbers_below laid t s h = record {
   within = λ v p.
       let i = h.all v p in

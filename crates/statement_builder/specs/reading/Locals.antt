@@ -11,9 +11,9 @@ use Rattle.concrete_values.specs.declared.values.Value.TheVariants.{Number, Poin
 use Rattle.concrete_values.specs.declared.values.Pointer.TheVariants as Pointers
 use Rattle.flow_graph.specs.declared.operations.Into.TheVariants as Intos
 use Rattle.flow_graph.specs.declared.operations.Operation.TheVariants as Op
-use Rattle.concrete_steps.specs.NextAction.{scalar_at, is_given, rest_of}
-use Rattle.lowering.specs.Table.{codes, is_alone}
-use Rattle.lowering.specs.Built.{Building, place, temp_of, code_piece}
+use Rattle.body_builder.specs.concrete_steps.NextAction.{scalar_at, is_given, rest_of}
+use Rattle.body_builder.specs.lowering.Table.{codes, is_alone}
+use Rattle.body_builder.specs.lowering.Built.{Building, place, temp_of, code_piece}
 use Rattle.body_builder.specs.Fragments.{calls_on}
 use Rattle.body_builder.specs.Placing.{Given, new_value}
 

@@ -1,7 +1,7 @@
 -- Edges as the code places them, one behind the other.
 use Rattle.std.specs.Prelude.{◌++◌}
 use Rattle.flow_graph.specs.Graphs.{Edges}
-use Rattle.lowering.specs.Built.{Building}
+use Rattle.body_builder.specs.lowering.Built.{Building}
 
 -- edges behind the others
 abbrev pub with_edges : Edges → Building → Building

@@ -2,20 +2,26 @@
 use Rattle.std.specs.Prelude.{ℕ, Bool, true, false, if◌then◌else◌, List, [], ◌∷◌, ◌++◌, Option, Some, None, map}
 use Rattle.tm_typed.specs.TypedTrees.{RvalueTree}
 use Rattle.tm_typed.specs.TypedStatements.{LocalTree, TypedTree, evaluates, declares, runs_block, branches}
-use Rattle.tm_typed.specs.TypedStatements.{branches_else, loops_while, loops_do, loops_for, selects, breaks, continues}
-use Rattle.tm_typed.specs.TypedStatements.{returns, locks, unlocks, yields, TypedTrees, no_statements, and_statement}
-use Rattle.tm_typed.specs.TypedStatements.{TypedCase, a_label, a_default_label, a_labelled_step, TypedCases}
+use Rattle.tm_typed.specs.TypedStatements.{branches_else, loops_while, loops_do, loops_for, selects}
+use Rattle.tm_typed.specs.TypedStatements.{breaks, continues}
+use Rattle.tm_typed.specs.TypedStatements.{returns, locks, unlocks, yields, TypedTrees, no_statements}
+use Rattle.tm_typed.specs.TypedStatements.{and_statement}
+use Rattle.tm_typed.specs.TypedStatements.{TypedCase, a_label, a_default_label, a_labelled_step}
+use Rattle.tm_typed.specs.TypedStatements.{TypedCases}
 use Rattle.tm_typed.specs.TypedStatements.{no_typed_cases, and_typed_case}
 use Rattle.tm_laid.specs.Layouts.{LaidTree}
 use Rattle.flow_graph.specs.declared.operations.Operation.{Operation}
 use Rattle.flow_graph.specs.declared.operations.Operation.TheVariants as Op
-use Rattle.lowering.specs.Table.{codes, effect_steps, locals_steps, optional_code, parts}
-use Rattle.lowering.specs.Built as Built
-use Rattle.lowering.specs.Built.{Building, place, goto, meet, nowhere, back_to, close_loop, temp_of, steps_piece}
-use Rattle.lowering.specs.Built.{code_piece, fork_piece, tests_piece, nodes_by, still_by, is_break, is_continue}
-use Rattle.lowering.specs.Built.{is_return, is_no_break, ToHead, Later, ByBreak, ByContinue, ByReturn, continued_at}
-use Rattle.lowering.specs.Built.{given_back, first_of, behind_first, unless_default, plan_piece}
-use Rattle.lowering.specs.Steps.{Plan}
+use Rattle.body_builder.specs.lowering.Table.{codes, effect_steps, locals_steps, optional_code, parts}
+use Rattle.body_builder.specs.lowering.Built as Built
+use Rattle.body_builder.specs.lowering.Built.{Building, place, goto, meet, nowhere, back_to, close_loop, temp_of}
+use Rattle.body_builder.specs.lowering.Built.{steps_piece}
+use Rattle.body_builder.specs.lowering.Built.{code_piece, fork_piece, tests_piece, nodes_by, still_by, is_break}
+use Rattle.body_builder.specs.lowering.Built.{is_continue}
+use Rattle.body_builder.specs.lowering.Built.{is_return, is_no_break, ToHead, Later, ByBreak, ByContinue, ByReturn}
+use Rattle.body_builder.specs.lowering.Built.{continued_at}
+use Rattle.body_builder.specs.lowering.Built.{given_back, first_of, behind_first, unless_default, plan_piece}
+use Rattle.body_builder.specs.lowering.Steps.{Plan}
 use Rattle.body_builder.specs.declared.fragments.Fragment.{Fragment}
 use Rattle.body_builder.specs.Fragments.{so_far, calls_on}
 use Rattle.statement_builder.specs.declared.passed.Passed.{Passed}

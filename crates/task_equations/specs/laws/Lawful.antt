@@ -4,20 +4,20 @@ use Rattle.std.specs.Prelude.{Option, Some, None, IfSome, refl}
 use Rattle.std.proofs.Common.{sym, ap, subst, ◌∙◌, arith}
 use Rattle.std.proofs.lemmas.List.{get_or-map, length-map}
 use Rattle.std.proofs.lemmas.Bool.{true≢false}
-use Rattle.tm_lattice.specs.Tables.{IsBelow}
-use Rattle.tm_typed.specs.declared.types.Scalar.{Scalar}
-use Rattle.temporary_types.specs.Sorts.{Sort}
+use Rattle.least_tables.specs.tm_lattice.Tables.{IsBelow}
+use Rattle.mutex_configs.specs.tm_typed.declared.types.Scalar.{Scalar}
+use Rattle.state_fits.specs.temporary_types.Sorts.{Sort}
 use Rattle.state_fits.specs.Typed.{types_of}
 use Rattle.mutex_configs.specs.declared.nodes.EdgeCopy.{EdgeCopy}
-use Rattle.pointer_dom.specs.Values.{joined_values, rounded_values}
-use Rattle.cell_env.specs.States.{joined_state}
-use Rattle.interfere_set.specs.Stores.{Interferences, IsStoreBelow}
-use Rattle.interfere_set.specs.laws.StoreLaws.{store_order}
-use Rattle.transfer_rows.specs.Accesses.{is_among}
-use Rattle.transfer_rows.specs.StateForms.{State, IsStateForm, IsStateUnder}
-use Rattle.transfer_rows.specs.Rows.{after}
-use Rattle.transfer_rows.proofs.RowsRise.{after_rises}
-use Rattle.edge_actions.proofs.ActionForms.{edge_is}
+use Rattle.state_fits.specs.pointer_dom.Values.{joined_values, rounded_values}
+use Rattle.state_fits.specs.cell_env.States.{joined_state}
+use Rattle.state_fits.specs.interfere_set.Stores.{Interferences, IsStoreBelow}
+use Rattle.state_fits.specs.interfere_set.laws.StoreLaws.{store_order}
+use Rattle.state_fits.specs.transfer_rows.Accesses.{is_among}
+use Rattle.state_fits.specs.transfer_rows.StateForms.{State, IsStateForm, IsStateUnder}
+use Rattle.state_fits.specs.transfer_rows.Rows.{after}
+use Rattle.state_fits.proofs.low.transfer_rows.RowsRise.{after_rises}
+use Rattle.state_fits.proofs.low.edge_actions.ActionForms.{edge_is}
 use Rattle.least_tables.specs.declared.links.Link.{Link}
 use Rattle.least_tables.specs.Systems.{IsLawfulSystem, no_link, from_of, to_of}
 use Rattle.state_fits.specs.Fits.{FitsPlace, FitsStore}

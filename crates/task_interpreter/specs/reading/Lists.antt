@@ -5,11 +5,15 @@ use Rattle.tm_typed.specs.declared.expressions.Rvalue.{Rvalue}
 use Rattle.tm_typed.specs.declared.statements.LocalObject.{LocalObject}
 use Rattle.tm_typed.specs.declared.statements.TypedStatement.{TypedStatement}
 use Rattle.tm_typed.specs.declared.statements.TypedSwitchPart.{TypedSwitchPart}
-use Rattle.tm_typed.specs.TypedTrees.{RvalueTree, a_folded, a_unary, a_binary, a_comparison_of_pointers, a_move, a_not}
+use Rattle.tm_typed.specs.TypedTrees.{RvalueTree, a_folded, a_unary, a_binary, a_comparison_of_pointers}
+use Rattle.tm_typed.specs.TypedTrees.{a_move, a_not}
 use Rattle.tm_typed.specs.TypedTrees.{an_and}
-use Rattle.tm_typed.specs.TypedTrees.{an_or, a_choice, an_assignment, a_compound, a_compound_move, a_unit_step}
-use Rattle.tm_typed.specs.TypedTrees.{a_pointer_step, a_comma, a_conversion, a_discard, rvalue_tree, as_rvalues}
-use Rattle.tm_typed.specs.TypedStatements.{TypedTree, loops_while, loops_do, loops_for, selects, local_tree, typed_tree}
+use Rattle.tm_typed.specs.TypedTrees.{an_or, a_choice, an_assignment, a_compound, a_compound_move}
+use Rattle.tm_typed.specs.TypedTrees.{a_unit_step}
+use Rattle.tm_typed.specs.TypedTrees.{a_pointer_step, a_comma, a_conversion, a_discard, rvalue_tree}
+use Rattle.tm_typed.specs.TypedTrees.{as_rvalues}
+use Rattle.tm_typed.specs.TypedStatements.{TypedTree, loops_while, loops_do, loops_for, selects, local_tree}
+use Rattle.tm_typed.specs.TypedStatements.{typed_tree}
 use Rattle.tm_typed.specs.TypedStatements.{TypedCase, a_label, a_default_label, a_labelled_step, typed_case}
 use Rattle.tm_typed.specs.TypedStatements.{TypedCases, no_typed_cases, and_typed_case}
 use Rattle.concrete_values.specs.declared.values.Value.{Value}

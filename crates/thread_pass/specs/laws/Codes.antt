@@ -5,7 +5,7 @@ use Rattle.pointer_dom.specs.laws.Codes.{values_code}
 use Rattle.cell_env.specs.laws.Codes.{state_code}
 use Rattle.interfere_set.specs.Stores.{Interferences}
 use Rattle.interfere_set.specs.laws.StoreLaws.{store_code}
-use Rattle.transfer_rows.specs.StateForms.{State}
+use Rattle.program_equality.specs.transfer_rows.StateForms.{State}
 use Rattle.thread_pass.specs.Kept.{KeptTable}
 
 abbrev pub table_code : Coded (List (Option State))

@@ -3,12 +3,14 @@ use Rattle.std.specs.Prelude.{ℤ, List}
 use Rattle.tm_lattice.specs.declared.passers.Passer as passer
 use Rattle.interfere_set.specs.Stores.{Interferences, no_interference}
 use Rattle.least_tables.specs.Whole as whole
-use Rattle.program_equations.specs.Programs.{ProgramBodies, IsProgram}
-use Rattle.program_equations.specs.Systems.{states, stores, FitsProgram, pass_of, IsSection, IsSectionBelow}
-use Rattle.program_equations.specs.Systems.{least_section, least_local}
-use Rattle.program_equations.specs.Solutions.{node_count, links_in, after_in, entry_in, outward_in, heads_in, suits_in}
-use Rattle.program_equations.specs.Solutions.{height_of, limit_in, added_in}
-use Rattle.program_equations.specs.laws.Lawful.{program_is_lawful}
+use Rattle.program_equality.specs.program_equations.Programs.{ProgramBodies, IsProgram}
+use Rattle.program_equality.specs.program_equations.Systems.{states, stores, FitsProgram, pass_of, IsSection}
+use Rattle.program_equality.specs.program_equations.Systems.{IsSectionBelow}
+use Rattle.program_equality.specs.program_equations.Systems.{least_section, least_local}
+use Rattle.program_equality.specs.program_equations.Solutions.{node_count, links_in, after_in, entry_in, outward_in}
+use Rattle.program_equality.specs.program_equations.Solutions.{heads_in, suits_in}
+use Rattle.program_equality.specs.program_equations.Solutions.{height_of, limit_in, added_in}
+use Rattle.program_equality.specs.program_equations.laws.Lawful.{program_is_lawful}
 use Rattle.program_systems.specs.ReadPrograms.{ReadProgram, program_of}
 
 -- programs as plain data, whose tasks pass over one store

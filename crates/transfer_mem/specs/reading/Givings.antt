@@ -2,8 +2,8 @@
 use Rattle.std.specs.Prelude.{◌≡◌, ◌⊎◌}
 use Rattle.flow_graph.specs.declared.operations.Operation.{Operation}
 use Rattle.flow_graph.specs.declared.operations.Operation.TheVariants as Op
-use Rattle.transfer_rows.specs.StateForms.{State}
-use Rattle.transfer_rows.specs.Actions.{Calculation, gives}
+use Rattle.calculations.specs.transfer_rows.StateForms.{State}
+use Rattle.calculations.specs.transfer_rows.Actions.{Calculation, gives}
 use Rattle.calculations.specs.Given.{IsCalculated}
 use Rattle.edge_actions.specs.declared.views.EdgeView.{EdgeView}
 use Rattle.edge_actions.specs.Edges.{action_at}

@@ -3,27 +3,30 @@ use Rattle.std.proofs.Common.{◌≡◌, ℤ, pos, negsuc, ◌≤ℤ◌, List, R
 use Rattle.std.specs.Prelude as P
 use Rattle.std.specs.Prelude.{Contains, zero, suc}
 use Rattle.std.proofs.lemmas.Int.{ints}
-use Rattle.strided_dom.specs.Progression.{Progression, single, Has, IsSubset, IsExactly, first_of, last_of}
-use Rattle.strided_dom.specs.Rounding.{IsInRounding, IsLowered, IsRaised}
-use Rattle.strided_dom.proofs.Members.{has_last}
-use Rattle.pointer_dom.specs.StridedSets.{hull, hull_is, rounding, rounding_is}
-use Rattle.pointer_dom.specs.PointerSets.{Pointers}
-use Rattle.pointer_dom.specs.Equality.{IsEqualityOf, IsEqualityValue}
-use Rattle.pointer_dom.specs.laws.Existence.{spaced_exists}
-use Rattle.pointer_dom.specs.laws.OffsetLaws.{hull_least}
+use Rattle.operator_values.specs.strided_dom.Progression.{Progression, single, Has, IsSubset, IsExactly, first_of}
+use Rattle.operator_values.specs.strided_dom.Progression.{last_of}
+use Rattle.operator_values.specs.strided_dom.Rounding.{IsInRounding, IsLowered, IsRaised}
+use Rattle.operator_values.proofs.low.strided_dom.Members.{has_last}
+use Rattle.operator_values.specs.pointer_dom.StridedSets.{hull, hull_is, rounding, rounding_is}
+use Rattle.operator_values.specs.pointer_dom.PointerSets.{Pointers}
+use Rattle.operator_values.specs.pointer_dom.Equality.{IsEqualityOf, IsEqualityValue}
+use Rattle.operator_values.specs.pointer_dom.laws.Existence.{spaced_exists}
+use Rattle.operator_values.specs.pointer_dom.laws.OffsetLaws.{hull_least}
 use Rattle.tm_cint.specs.IntTypes.{IsIn, is_signed, lo_of, hi_of}
 use Rattle.tm_cint.specs.Conversions.{truth, is_zero, converted_value}
 use Rattle.tm_cint.specs.Operators.{result_type}
 use Rattle.tm_cint.specs.declared.Class.{Class}
 use Rattle.tm_cint.specs.declared.int_types.IntType.{IntType}
-use Rattle.tm_cint.specs.declared.int_types.IntType.TheVariants.{Bool, Char, UChar, Short, UShort, Int, UInt, Long, ULong, LLong, ULLong}
+use Rattle.tm_cint.specs.declared.int_types.IntType.TheVariants.{Bool, Char, UChar, Short, UShort, Int, UInt}
+use Rattle.tm_cint.specs.declared.int_types.IntType.TheVariants.{Long, ULong, LLong, ULLong}
 use Rattle.tm_cint.specs.declared.operators.BinOp.{BinOp}
-use Rattle.tm_cint.specs.declared.operators.BinOp.TheVariants.{Add, Sub, Mul, Div, Rem, Shl, Shr, And, Or, Xor, Lt, Le, Gt, Ge, Eq, Ne}
+use Rattle.tm_cint.specs.declared.operators.BinOp.TheVariants.{Add, Sub, Mul, Div, Rem, Shl, Shr, And, Or, Xor}
+use Rattle.tm_cint.specs.declared.operators.BinOp.TheVariants.{Lt, Le, Gt, Ge, Eq, Ne}
 use Rattle.tm_cint.proofs.Values.{truth-in}
-use Rattle.transfer_int.specs.Values.{IsFitted, IsWrapped, IsTruth, IsValue, IsConverted}
-use Rattle.transfer_int.specs.Rows.{InRows}
-use Rattle.transfer_int.specs.Operands.{AreValues}
-use Rattle.transfer_int.proofs.Inside.{unspaced}
+use Rattle.operator_values.specs.transfer_int.Values.{IsFitted, IsWrapped, IsTruth, IsValue, IsConverted}
+use Rattle.operator_values.specs.transfer_int.Rows.{InRows}
+use Rattle.operator_values.specs.transfer_int.Operands.{AreValues}
+use Rattle.operator_values.proofs.low.transfer_int.Inside.{unspaced}
 use Rattle.operator_values.specs.Integers.{operated, operated_is, converted, converted_is}
 use Rattle.operator_values.specs.SetsOfPointers.{equality, equality_is}
 

@@ -4,18 +4,22 @@ use Rattle.std.specs.Prelude.{min, max, ◌<◌, length, Bool, true, false, IsTr
 use Rattle.std.specs.FinMap.{get, get-empty}
 use Rattle.std.specs.Ordering.{nat_cmp}
 use Rattle.std.specs.Option.{option_map}
-use Rattle.strided_dom.specs.Progression.{Progression, empty, Has}
-use Rattle.strided_dom.specs.Combinations.{IsInBoth, IsProduct}
-use Rattle.strided_dom.proofs.Members.{no_member, not_in_empty}
-use Rattle.tm_lattice.specs.Tables.{IsEntry, joined_at}
-use Rattle.tm_lattice.specs.laws.TableLaws.{get-joined_table, get-rounded_table}
+use Rattle.operator_values.specs.strided_dom.Progression.{Progression, empty, Has}
+use Rattle.operator_values.specs.strided_dom.Combinations.{IsInBoth, IsProduct}
+use Rattle.operator_values.proofs.low.strided_dom.Members.{no_member, not_in_empty}
+use Rattle.tm_typed.specs.tm_lattice.Tables.{IsEntry, joined_at}
+use Rattle.tm_typed.specs.tm_lattice.laws.TableLaws.{get-joined_table, get-rounded_table}
 use Rattle.tm_laid.specs.Layouts.{LaidTree, object_at}
-use Rattle.pointer_dom.specs.Pointer.{Pointer, to}
-use Rattle.pointer_dom.specs.OffsetSets.{OffsetSet, IsOffsetSet, HasNoOffset, no_offset, IsOffsetsOf, joined_offsets, rounded_offsets}
-use Rattle.pointer_dom.specs.PointerSets.{Pointers, IsPointers, no_pointer, offsets_or_none, offsets_at, IsPointer, IsMeet, IsMeetAt, joined_pointers, rounded_pointers}
-use Rattle.pointer_dom.specs.Advances.{IsAdvance, IsInHull, IsReached, IsGivenAt, IsElementStep, directed}
-use Rattle.pointer_dom.specs.Selections.{IsHullOfPointers, IsOffsetTo}
-use Rattle.filters.specs.PointerPartners.{MayBeUnequal}
+use Rattle.operator_values.specs.pointer_dom.Pointer.{Pointer, to}
+use Rattle.operator_values.specs.pointer_dom.OffsetSets.{OffsetSet, IsOffsetSet, HasNoOffset, no_offset, IsOffsetsOf}
+use Rattle.operator_values.specs.pointer_dom.OffsetSets.{joined_offsets, rounded_offsets}
+use Rattle.operator_values.specs.pointer_dom.PointerSets.{Pointers, IsPointers, no_pointer, offsets_or_none, offsets_at}
+use Rattle.operator_values.specs.pointer_dom.PointerSets.{IsPointer, IsMeet, IsMeetAt, joined_pointers}
+use Rattle.operator_values.specs.pointer_dom.PointerSets.{rounded_pointers}
+use Rattle.operator_values.specs.pointer_dom.Advances.{IsAdvance, IsInHull, IsReached, IsGivenAt, IsElementStep}
+use Rattle.operator_values.specs.pointer_dom.Advances.{directed}
+use Rattle.operator_values.specs.pointer_dom.Selections.{IsHullOfPointers, IsOffsetTo}
+use Rattle.operator_values.specs.filters.PointerPartners.{MayBeUnequal}
 use Rattle.operator_values.specs.SetsOfPointers.{common_pointers, common_pointers_are, common_pointers_fit, offset_by, offset_by_is, offset_by_fits, indexed, indexed_is, indexed_fits}
 use Rattle.operator_values.specs.SetsOfPointers.{moved, moved_is, moved_fits, IsReachable, dereferenced, dereferenced_is, dereferenced_fits, unequal_to, unequal_to_is, unequal_to_fits, left_pointers, right_pointers}
 use Rattle.typed_values.specs.Types.{AreObjects}

@@ -3,24 +3,27 @@ use Rattle.std.proofs.Common.{◌≡◌, ℕ, ℤ, pos, List, refl, sym, ap, sub
 use Rattle.std.specs.Prelude.{Bool}
 use Rattle.std.specs.FinMap.{empty as no_entry, get-empty}
 use Rattle.std.specs.Ordering.{nat_cmp}
-use Rattle.strided_dom.specs.Progression.{Progression, empty, Has, IsSubset, first_of}
-use Rattle.strided_dom.specs.Rounding.{IsInRounding}
-use Rattle.strided_dom.proofs.Members.{no_member, not_in_empty}
-use Rattle.tm_lattice.specs.Tables.{IsEntry}
+use Rattle.operator_values.specs.strided_dom.Progression.{Progression, empty, Has, IsSubset, first_of}
+use Rattle.operator_values.specs.strided_dom.Rounding.{IsInRounding}
+use Rattle.operator_values.proofs.low.strided_dom.Members.{no_member, not_in_empty}
+use Rattle.tm_typed.specs.tm_lattice.Tables.{IsEntry}
 use Rattle.tm_cint.specs.declared.int_types.IntType.{IntType}
 use Rattle.tm_cint.specs.declared.operators.BinOp.{BinOp}
 use Rattle.tm_typed.specs.declared.types.Scalar.{Scalar}
 use Rattle.tm_typed.specs.declared.types.Scalar.TheVariants.{Int, Pointer}
 use Rattle.tm_laid.specs.Layouts.{LaidTree}
-use Rattle.transfer_int.specs.Operands.{AreValues}
-use Rattle.pointer_dom.specs.StridedSets.{hull, rounding, rounding_is}
-use Rattle.pointer_dom.specs.OffsetSets.{IsOffsetSet, HasNoOffset}
-use Rattle.pointer_dom.specs.PointerSets.{Pointers, IsPointers, no_pointer, joined_pointers, rounded_pointers, IsPointersBelow}
-use Rattle.pointer_dom.specs.Values.{Values, IsValues, IsValuesBelow, no_value, joined_values, rounded_values}
-use Rattle.pointer_dom.specs.laws.OffsetLaws.{below_empty, hull_least}
-use Rattle.pointer_dom.specs.laws.PointerLaws.{pointers_order, pointers_join, pointers_closure, pointers_nothing}
+use Rattle.operator_values.specs.transfer_int.Operands.{AreValues}
+use Rattle.operator_values.specs.pointer_dom.StridedSets.{hull, rounding, rounding_is}
+use Rattle.operator_values.specs.pointer_dom.OffsetSets.{IsOffsetSet, HasNoOffset}
+use Rattle.operator_values.specs.pointer_dom.PointerSets.{Pointers, IsPointers, no_pointer, joined_pointers}
+use Rattle.operator_values.specs.pointer_dom.PointerSets.{rounded_pointers, IsPointersBelow}
+use Rattle.operator_values.specs.pointer_dom.Values.{Values, IsValues, IsValuesBelow, no_value, joined_values}
+use Rattle.operator_values.specs.pointer_dom.Values.{rounded_values}
+use Rattle.operator_values.specs.pointer_dom.laws.OffsetLaws.{below_empty, hull_least}
+use Rattle.operator_values.specs.pointer_dom.laws.PointerLaws.{pointers_order, pointers_join, pointers_closure}
+use Rattle.operator_values.specs.pointer_dom.laws.PointerLaws.{pointers_nothing}
 use Rattle.operator_values.specs.MetValues.{met_values, met_values_is, met_values_fit}
-use Rattle.pointer_dom.proofs.Meaning.{meet_below}
+use Rattle.operator_values.proofs.low.pointer_dom.Meaning.{meet_below}
 use Rattle.typed_values.specs.Types.{AreObjects, IsOfType, HaveSameValues, HaveEnds}
 use Rattle.typed_values.specs.laws.NumbersInTypes.{values_less, hull_values, rounding_values}
 use Rattle.typed_values.specs.laws.ObjectsKept.{joined_objects, rounded_objects, none_objects, common_objects, no_objects}

@@ -5,12 +5,12 @@ use Rattle.std.specs.Int.{◌∣◌}
 use Rattle.std.proofs.Math.Nat.{mul_comm}
 use Rattle.std.proofs.lemmas.Int.{ints}
 use Rattle.std.proofs.lemmas.Nat.Gcd.{le_of_dvd}
-use Rattle.strided_dom.specs.Progression.{Progression, empty, single, row, Has, IsSubset, first_of, last_of}
-use Rattle.strided_dom.specs.Progression.{stride_of}
-use Rattle.strided_dom.proofs.Members.{IsSome, spaced_from, has_last, stride_dvd, not_in_empty}
-use Rattle.tm_lattice.specs.Heights.{IsHeight, table_height}
-use Rattle.tm_lattice.specs.Tables.{IsTable, IsTableBelow}
-use Rattle.tm_lattice.specs.laws.TableHeights.{table_heights}
+use Rattle.pointer_dom.specs.strided_dom.Progression.{Progression, empty, single, row, Has, IsSubset, first_of, last_of}
+use Rattle.pointer_dom.specs.strided_dom.Progression.{stride_of}
+use Rattle.pointer_dom.proofs.low.strided_dom.Members.{IsSome, spaced_from, has_last, stride_dvd, not_in_empty}
+use Rattle.pointer_dom.specs.tm_lattice.Heights.{IsHeight, table_height}
+use Rattle.pointer_dom.specs.tm_lattice.Tables.{IsTable, IsTableBelow}
+use Rattle.pointer_dom.specs.tm_lattice.laws.TableHeights.{table_heights}
 use Rattle.pointer_dom.specs.OffsetSets.{IsOffsetSet, HasNoOffset, IsOffsetsBelow}
 use Rattle.pointer_dom.specs.PointerSets.{IsPointers, IsPointersBelow}
 use Rattle.pointer_dom.specs.Values.{IsValues, IsValuesBelow}

@@ -1,5 +1,5 @@
 use Rattle.std.specs.Prelude.{string_bytes}
-use Rattle.tm_laid.specs.Layouts.{laid_tree}
+use Rattle.thread_pass.specs.tm_laid.Layouts.{laid_tree}
 use Rattle.analyser.proofs.AnswerLemmas.{if_ok_by, if_ok_both, report_answered, refusal_answered}
 use Rattle.analyser.proofs.Sound.{few_objects, lists_all}
 use Rattle.analyser.proofs.replies.answer_to.Goals as goal

@@ -1,6 +1,7 @@
 use Rattle.std.proofs.Common.{◌≡◌, ◌≢◌, [], ◌∷◌, List, length, map, None, refl, sym, arith}
 use Rattle.tm_trees.specs.declared.declarations.Value.{Value}
-use Rattle.tm_trees.specs.DeclarationTrees.{ValueTree, ValueTrees, an_expression, a_list, and_value, value_tree, as_values}
+use Rattle.tm_trees.specs.DeclarationTrees.{ValueTree, ValueTrees, an_expression, a_list, and_value}
+use Rattle.tm_trees.specs.DeclarationTrees.{value_tree, as_values}
 use Rattle.tm_typed.specs.Initialisers.{lone}
 use Rattle.c_initialisers.proofs.parts.lone.Goals as goal
 

@@ -1,6 +1,7 @@
 use Rattle.std.proofs.Common.{◌≡◌, ◌+◌, ◌-◌, List, length, Option, None, Some, IfOk, map, sym, ap, ◌∙◌, subst, arith}
 use Rattle.tm_terms.specs.declared.tokens.Token.{Token}
-use Rattle.tm_trees.specs.FileTrees.{StatementTree, PartTree, PartTrees, part_tree, block_tree, CaseTree, case_tree}
+use Rattle.tm_trees.specs.FileTrees.{StatementTree, PartTree, PartTrees, part_tree, block_tree, CaseTree}
+use Rattle.tm_trees.specs.FileTrees.{case_tree}
 use Rattle.c_decl_parser.specs.reading.Parts.{seen}
 use Rattle.c_decl_parser.specs.reading.Repetitions.{until_brace}
 use Rattle.c_parser.specs.reading.Founds.{boxed_tree}

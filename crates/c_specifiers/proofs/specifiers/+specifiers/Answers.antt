@@ -1,6 +1,7 @@
 use Rattle.std.proofs.Common.{◌≡◌, ◌∙◌, ap, sym, subst, map}
 use Rattle.tm_trees.specs.declared.declarations.Specifier.TheVariants as Specifiers
-use Rattle.tm_trees.specs.DeclarationTrees.{SpecifierTree, a_struct, specifier_tree, member_tree, as_members}
+use Rattle.tm_trees.specs.DeclarationTrees.{SpecifierTree, a_struct, specifier_tree, member_tree}
+use Rattle.tm_trees.specs.DeclarationTrees.{as_members}
 use Rattle.tm_trees.proofs.Rows.{specifier_tree-struct}
 use Rattle.tm_typed.specs.declared.specifiers.Said.{Said}
 use Rattle.tm_typed.specs.Structures.{specifier}

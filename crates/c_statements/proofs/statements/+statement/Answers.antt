@@ -6,7 +6,8 @@ use Rattle.tm_terms.specs.declared.refusals.Refusal.{Refusal}
 use Rattle.tm_terms.specs.ExprTrees.{tree_of}
 use Rattle.tm_trees.specs.declared.statements.BlockPart.{BlockPart}
 use Rattle.tm_trees.specs.declared.statements.SwitchPart.{SwitchPart}
-use Rattle.tm_trees.specs.FileTrees.{StatementTree, statement_tree, part_tree, and_part, as_parts, case_tree, and_case, as_cases}
+use Rattle.tm_trees.specs.FileTrees.{StatementTree, statement_tree, part_tree, and_part, as_parts}
+use Rattle.tm_trees.specs.FileTrees.{case_tree, and_case, as_cases}
 use Rattle.tm_trees.proofs.StatementNodes.{statement_tree-block, statement_tree-switch}
 use Rattle.tm_typed.specs.declared.statements.TypedStatement.{TypedStatement}
 use Rattle.tm_typed.specs.declared.statements.TypedSwitchPart.{TypedSwitchPart}

@@ -1,6 +1,6 @@
 use Rattle.std.proofs.Common.{◌∙◌, ap}
 use Rattle.transfer_rows.specs.StateForms.{only_pointers}
-use Rattle.operator_values.proofs.OneAnswer.{one_assumed}
+use Rattle.transfer_rows.proofs.low.operator_values.OneAnswer.{one_assumed}
 use Rattle.calculations.proofs.comparisons.pointers_assumed.Goals as goal
 
 pub returns-clause-left : goal.returns-clause-left

@@ -1,5 +1,5 @@
 use Rattle.std.proofs.Common.{refl}
-use Rattle.transfer_rows.specs.Actions.{constant}
+use Rattle.calculations.specs.transfer_rows.Actions.{constant}
 use Rattle.edge_effects.proofs.Effects.{constant_given}
 use Rattle.edge_effects.proofs.givings.give_constant.Goals as goal
 

@@ -1,8 +1,8 @@
 use Rattle.std.proofs.Common.{◌∙◌, ap, refl}
 use Rattle.std.specs.Option.{option_map}
 use Rattle.tm_laid.specs.Layouts.{laid_tree}
-use Rattle.transfer_rows.specs.Accesses.{single_of}
-use Rattle.transfer_rows.specs.Rows.{given, arrived, loaded, new_copy}
+use Rattle.calculations.specs.transfer_rows.Accesses.{single_of}
+use Rattle.calculations.specs.transfer_rows.Rows.{given, arrived, loaded, new_copy}
 use Rattle.edge_actions.specs.Layouts.{spots_of}
 use Rattle.edge_actions.specs.Edges.{around_of}
 use Rattle.edge_effects.proofs.Effects.{load_is}

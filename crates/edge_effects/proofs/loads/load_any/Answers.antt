@@ -1,7 +1,7 @@
 use Rattle.std.proofs.Common.{◌∙◌, ap, refl}
 use Rattle.std.specs.Option.{option_map}
 use Rattle.tm_laid.specs.Layouts.{laid_tree}
-use Rattle.transfer_rows.specs.Rows.{arrived, after_load_any}
+use Rattle.calculations.specs.transfer_rows.Rows.{arrived, after_load_any}
 use Rattle.edge_actions.specs.Layouts.{spots_of, open_value}
 use Rattle.edge_actions.specs.Edges.{around_of}
 use Rattle.edge_effects.proofs.Effects.{load_any_is}

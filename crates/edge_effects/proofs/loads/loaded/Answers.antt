@@ -2,7 +2,7 @@ use Rattle.std.proofs.Common.{ℕ, ◌+◌, ◌∙◌, get_or, sym, ap, subst, a
 use Rattle.std.proofs.lemmas.List.{drop_all, get_or_default}
 use Rattle.std.specs.FinMap.{get}
 use Rattle.pointer_dom.specs.Values.{Values, IsValues, joined_values, no_value}
-use Rattle.transfer_rows.specs.Rows.{found_in}
+use Rattle.calculations.specs.transfer_rows.Rows.{found_in}
 use Rattle.edge_actions.specs.Edges.{around_of}
 use Rattle.interfere_set.proofs.Reading.{IsJoinedUpTo, joined_start, joined_next, joined_end}
 use Rattle.edge_effects.proofs.loads.loaded.Goals as goal

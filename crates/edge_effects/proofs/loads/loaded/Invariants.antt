@@ -1,6 +1,6 @@
 use Rattle.interfere_set.proofs.Reading.{IsJoinedUpTo}
 use Rattle.std.specs.FinMap.{get}
-use Rattle.transfer_rows.specs.Rows.{found_in}
+use Rattle.calculations.specs.transfer_rows.Rows.{found_in}
 use Rattle.edge_actions.specs.Edges.{around_of}
 use Rattle.edge_effects.proofs.loads.loaded.Given as goal
 

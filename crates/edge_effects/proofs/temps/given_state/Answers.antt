@@ -1,7 +1,7 @@
 use Rattle.std.proofs.Common.{◌∙◌, ap, refl, Some}
 use Rattle.edge_actions.specs.Edges.{around_of}
 use Rattle.std.specs.FinMap.{retain_keys}
-use Rattle.transfer_rows.specs.Accesses.{is_among}
+use Rattle.calculations.specs.transfer_rows.Accesses.{is_among}
 use Rattle.edge_effects.proofs.Common.{something}
 use Rattle.edge_effects.proofs.LiveTemps.{given_nothing, given_something, none_dropped}
 use Rattle.edge_effects.proofs.temps.given_state.Goals as goal

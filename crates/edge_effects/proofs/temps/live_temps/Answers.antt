@@ -1,7 +1,7 @@
 use Rattle.std.proofs.Common.{◌∙◌, [], ◌∷◌, ◌++◌, take, get_or, sym, ap, subst}
 use Rattle.std.proofs.lemmas.List.{take_all, take_more}
 use Rattle.std.specs.Option.{option_copied}
-use Rattle.transfer_rows.specs.Rows.{dropped}
+use Rattle.calculations.specs.transfer_rows.Rows.{dropped}
 use Rattle.edge_effects.specs.Endings.{is_ended}
 use Rattle.edge_effects.proofs.LiveTemps.{Keeps, keeps_none, keeps_put, keeps_skip, keeps_all, dropped_there, dropped_absent}
 use Rattle.edge_effects.proofs.temps.live_temps.Goals.{in-Some+in_ok-kept+in_ok-put, in_default}

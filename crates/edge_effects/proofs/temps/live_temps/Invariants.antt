@@ -1,5 +1,5 @@
 use Rattle.std.proofs.Common.{take}
-use Rattle.transfer_rows.specs.Rows.{dropped}
+use Rattle.calculations.specs.transfer_rows.Rows.{dropped}
 use Rattle.edge_effects.specs.Endings.{is_ended}
 use Rattle.edge_effects.proofs.LiveTemps.{Keeps}
 use Rattle.edge_effects.proofs.temps.live_temps.Given as goal

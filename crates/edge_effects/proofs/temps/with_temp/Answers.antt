@@ -1,6 +1,6 @@
 use Rattle.std.proofs.Common.{◌∙◌, sym, ap}
 use Rattle.std.specs.FinMap.{insert}
-use Rattle.transfer_rows.specs.StateForms.{Temp}
+use Rattle.calculations.specs.transfer_rows.StateForms.{Temp}
 use Rattle.edge_effects.proofs.LiveTemps.{with_kept, without_kept}
 use Rattle.edge_effects.proofs.temps.with_temp.Goals.{then-is_among+in_ok-put, else-is_among}
 use Rattle.edge_effects.proofs.temps.with_temp.Goals as goal

@@ -1,6 +1,6 @@
 use Rattle.std.proofs.Common.{◌∙◌, Some, sym, ap}
 use Rattle.std.specs.Option.{option_map}
-use Rattle.transfer_rows.specs.Rows.{arrived}
+use Rattle.calculations.specs.transfer_rows.Rows.{arrived}
 use Rattle.edge_actions.specs.Edges.{around_of}
 use Rattle.edge_filters.proofs.refining.arrived_where.Goals as goal
 

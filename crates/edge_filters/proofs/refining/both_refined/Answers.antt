@@ -1,6 +1,6 @@
 use Rattle.std.proofs.Common.{◌∙◌, sym, ap}
-use Rattle.transfer_rows.specs.Actions.{temporary}
-use Rattle.transfer_rows.specs.Rows.{then_refined}
+use Rattle.calculations.specs.transfer_rows.Actions.{temporary}
+use Rattle.calculations.specs.transfer_rows.Rows.{then_refined}
 use Rattle.edge_actions.specs.Edges.{around_of}
 use Rattle.edge_filters.proofs.refining.both_refined.Goals as goal
 

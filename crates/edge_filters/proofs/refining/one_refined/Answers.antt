@@ -1,6 +1,6 @@
 use Rattle.std.proofs.Common.{◌∙◌}
-use Rattle.transfer_rows.specs.Actions.{temporary}
-use Rattle.transfer_rows.specs.Rows.{side_refined}
+use Rattle.calculations.specs.transfer_rows.Actions.{temporary}
+use Rattle.calculations.specs.transfer_rows.Rows.{side_refined}
 use Rattle.edge_actions.specs.Edges.{around_of}
 use Rattle.edge_effects.proofs.Common.{something}
 use Rattle.edge_filters.proofs.Refined.{fixed_nothing, fixed_something}

@@ -1,6 +1,6 @@
 use Rattle.std.proofs.Common.{◌∙◌, ap}
 use Rattle.std.specs.Option.{option_map}
-use Rattle.transfer_rows.specs.Rows.{arrived}
+use Rattle.calculations.specs.transfer_rows.Rows.{arrived}
 use Rattle.edge_actions.specs.Edges.{around_of, filter_of}
 use Rattle.edge_filters.proofs.FilterEdges.{filter_is}
 use Rattle.edge_filters.proofs.Sides.{no_test_fails}

@@ -4,9 +4,9 @@ use Rattle.tm_cint.specs.declared.Class.TheVariants.{Pointer}
 use Rattle.transfer_int.specs.declared.outcomes.Classes.{Classes}
 use Rattle.calculations.specs.Given.{no_class}
 use Rattle.calculations.proofs.Calculating.{noted_so, pointer_noted}
-use Rattle.transfer_rows.specs.StateForms.{value_of}
-use Rattle.transfer_rows.specs.Actions.{usable}
-use Rattle.transfer_rows.specs.Rows.{arrived, after_refined}
+use Rattle.calculations.specs.transfer_rows.StateForms.{value_of}
+use Rattle.calculations.specs.transfer_rows.Actions.{usable}
+use Rattle.calculations.specs.transfer_rows.Rows.{arrived, after_refined}
 use Rattle.edge_actions.specs.Edges.{around_of}
 use Rattle.edge_filters.proofs.FilterEdges.{filter_is}
 use Rattle.edge_filters.proofs.tests.usable.Goals as goal

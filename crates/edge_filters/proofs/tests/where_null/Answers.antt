@@ -1,6 +1,6 @@
 use Rattle.std.proofs.Common.{◌∙◌}
-use Rattle.transfer_rows.specs.StateForms.{only_pointers}
-use Rattle.transfer_rows.specs.Actions.{temporary, fixed}
+use Rattle.calculations.specs.transfer_rows.StateForms.{only_pointers}
+use Rattle.calculations.specs.transfer_rows.Actions.{temporary, fixed}
 use Rattle.edge_actions.specs.Edges.{around_of, only_null}
 use Rattle.edge_filters.proofs.Sides.{pointers_so}
 use Rattle.edge_filters.proofs.tests.where_null.Goals as goal

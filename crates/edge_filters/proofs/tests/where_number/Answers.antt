@@ -1,8 +1,8 @@
 use Rattle.std.proofs.Common.{◌∙◌, ap}
 use Rattle.strided_dom.specs.Progression.{single}
 use Rattle.strided_dom.proofs.Reach.{kept}
-use Rattle.transfer_rows.specs.StateForms.{only_numbers}
-use Rattle.transfer_rows.specs.Actions.{temporary, fixed}
+use Rattle.calculations.specs.transfer_rows.StateForms.{only_numbers}
+use Rattle.calculations.specs.transfer_rows.Actions.{temporary, fixed}
 use Rattle.edge_actions.specs.Edges.{around_of}
 use Rattle.edge_filters.proofs.Sides.{numbers_so}
 use Rattle.edge_filters.proofs.tests.where_number.Goals as goal

@@ -1,5 +1,5 @@
 use Rattle.std.proofs.Common.{◌∙◌}
-use Rattle.transfer_rows.specs.Actions.{temporary}
+use Rattle.calculations.specs.transfer_rows.Actions.{temporary}
 use Rattle.edge_actions.specs.Edges.{around_of}
 use Rattle.edge_filters.proofs.Sides.{pointers_so}
 use Rattle.edge_filters.proofs.tests.where_pointers.Goals as goal

@@ -3,10 +3,10 @@ use Rattle.std.proofs.lemmas.List.{get_or_read}
 use Rattle.tm_lattice.specs.Tables.{joined_at}
 use Rattle.pointer_dom.specs.Values.{joined_values}
 use Rattle.cell_env.specs.States.{joined_state}
-use Rattle.least_tables.specs.Solutions.{at}
+use Rattle.body_systems.specs.least_tables.Solutions.{at}
 use Rattle.mutex_configs.specs.declared.nodes.ConfiguredNode.{ConfiguredNode}
 use Rattle.mutex_configs.specs.Nodes.{entry_node}
-use Rattle.transfer_rows.specs.StateForms.{State}
+use Rattle.edge_actions.specs.transfer_rows.StateForms.{State}
 use Rattle.std.specs.Prelude.{Option, None}
 use Rattle.entry_states.proofs.Marks.{end_joined, end_passed}
 use Rattle.entry_states.proofs.ends.ended_state.Goals.{then-is_end+in_ok-ended, else-is_end}

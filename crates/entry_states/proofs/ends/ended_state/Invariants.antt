@@ -1,6 +1,6 @@
 use Rattle.std.proofs.Common.{◌≡◌}
-use Rattle.least_tables.specs.Solutions.{at}
-use Rattle.program_equations.specs.Entries.{ended_below}
+use Rattle.body_systems.specs.least_tables.Solutions.{at}
+use Rattle.body_systems.specs.program_equations.Entries.{ended_below}
 use Rattle.entry_states.proofs.ends.ended_state.Given as goal
 
 abbrev pub invariant-loop-number : goal.invariant-loop-number

@@ -1,6 +1,6 @@
 use Rattle.std.proofs.Common.{◌∙◌, ◌<◌, length, sym, arith}
 use Rattle.tm_laid.specs.Layouts.{laid_tree}
-use Rattle.program_equations.specs.Readings.{read_layout}
+use Rattle.body_systems.specs.program_equations.Readings.{read_layout}
 use Rattle.entry_states.specs.reading.Holdings.{held_value}
 use Rattle.entry_states.proofs.States.{one_entered, one_passed}
 use Rattle.entry_states.proofs.entries.entry_state.Goals.{then-is_reachable+in_ok-entry+in_ok-put, else-is_reachable}

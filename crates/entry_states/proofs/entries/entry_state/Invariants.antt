@@ -1,7 +1,7 @@
 use Rattle.std.proofs.Common.{◌≡◌}
 use Rattle.tm_laid.specs.Layouts.{laid_tree}
-use Rattle.program_equations.specs.Readings.{read_layout}
-use Rattle.program_equations.specs.Entries.{entry_cells}
+use Rattle.body_systems.specs.program_equations.Readings.{read_layout}
+use Rattle.body_systems.specs.program_equations.Entries.{entry_cells}
 use Rattle.entry_states.specs.reading.Holdings.{held_value}
 use Rattle.entry_states.proofs.entries.entry_state.Given as goal
 

@@ -1,6 +1,6 @@
 use Rattle.std.proofs.Common.{◌∙◌}
 use Rattle.tm_laid.specs.Layouts.{laid_tree}
-use Rattle.program_equations.specs.Readings.{read_layout}
+use Rattle.body_systems.specs.program_equations.Readings.{read_layout}
 use Rattle.entry_states.proofs.States.{first_listed}
 use Rattle.entry_states.proofs.entries.first_state.Goals as goal
 

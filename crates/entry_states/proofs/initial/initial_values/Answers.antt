@@ -1,6 +1,6 @@
 use Rattle.std.proofs.Common.{arith}
 use Rattle.tm_laid.specs.Layouts.{laid_tree}
-use Rattle.program_equations.specs.Readings.{read_layout}
+use Rattle.body_systems.specs.program_equations.Readings.{read_layout}
 use Rattle.entry_states.proofs.Joins.{none_joined, next_joined, all_joined, reaches}
 use Rattle.entry_states.proofs.initial.initial_values.Goals as goal
 

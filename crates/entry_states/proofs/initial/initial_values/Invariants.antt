@@ -1,5 +1,5 @@
 use Rattle.tm_laid.specs.Layouts.{laid_tree}
-use Rattle.program_equations.specs.Readings.{read_layout}
+use Rattle.body_systems.specs.program_equations.Readings.{read_layout}
 use Rattle.entry_states.specs.reading.Joining.{AreJoinedBelow}
 use Rattle.entry_states.proofs.initial.initial_values.Given as goal
 

@@ -1,5 +1,5 @@
 use Rattle.std.proofs.Common.{◌≡◌, ◌++◌, drop, map}
-use Rattle.lowering.specs.Built.{is_return, nodes_by}
+use Rattle.body_builder.specs.lowering.Built.{is_return, nodes_by}
 use Rattle.statement_builder.specs.Waiting.{waiting}
 use Rattle.graph_builder.proofs.bodies.returning.Given as goal
 

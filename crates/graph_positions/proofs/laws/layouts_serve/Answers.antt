@@ -1,8 +1,8 @@
 use Rattle.std.proofs.Common.{◌≡◌, ℕ, List, ap, sym, subst}
 use Rattle.std.specs.Prelude.{Ok}
-use Rattle.tm_typed.specs.declared.files.TypedFile.{TypedFile}
-use Rattle.tm_typed.specs.TypedFiles.{typed_file_tree}
-use Rattle.tm_typed.specs.Files.{TypedFileTree}
+use Rattle.tm_laid.specs.tm_typed.declared.files.TypedFile.{TypedFile}
+use Rattle.tm_laid.specs.tm_typed.TypedFiles.{typed_file_tree}
+use Rattle.tm_laid.specs.tm_typed.Files.{TypedFileTree}
 use Rattle.tm_laid.specs.declared.layouts.Laid.{Laid}
 use Rattle.tm_laid.specs.Layouts.{LaidTree, laid_tree, layout_of, laid_out}
 use Rattle.tm_laid.specs.Layable.{IsLayable}

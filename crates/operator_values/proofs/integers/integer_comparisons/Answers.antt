@@ -1,5 +1,5 @@
-use Rattle.strided_dom.specs.Combinations.{IsInBoth}
-use Rattle.pointer_dom.specs.laws.OffsetLaws.{same_members, same_hull}
+use Rattle.filters.specs.strided_dom.Combinations.{IsInBoth}
+use Rattle.filters.specs.pointer_dom.laws.OffsetLaws.{same_members, same_hull}
 use Rattle.filters.specs.Partners.{Compares, HasPartner}
 use Rattle.operator_values.specs.Integers.{left_assumed, right_assumed, assumed_is, met_numbers, met_numbers_is}
 use Rattle.operator_values.proofs.integers.integer_comparisons.Goals as goal

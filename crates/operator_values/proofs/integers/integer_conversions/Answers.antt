@@ -1,4 +1,4 @@
-use Rattle.pointer_dom.specs.laws.OffsetLaws.{same_members}
+use Rattle.filters.specs.pointer_dom.laws.OffsetLaws.{same_members}
 use Rattle.transfer_int.specs.Values.{IsConverted}
 use Rattle.operator_values.specs.Integers.{converted, converted_is}
 use Rattle.operator_values.proofs.integers.integer_conversions.Goals as goal

@@ -1,6 +1,6 @@
 use Rattle.std.specs.Prelude.{pos}
-use Rattle.strided_dom.specs.Progression.{single}
-use Rattle.pointer_dom.specs.laws.OffsetLaws.{same_members}
+use Rattle.filters.specs.strided_dom.Progression.{single}
+use Rattle.filters.specs.pointer_dom.laws.OffsetLaws.{same_members}
 use Rattle.tm_cint.specs.declared.operators.BinOp.TheVariants.{Sub}
 use Rattle.transfer_int.specs.Values.{IsValue, ones_of}
 use Rattle.operator_values.specs.Integers.{operated, operated_is, negated, complemented}

@@ -1,6 +1,6 @@
 use Rattle.std.specs.Prelude.{◌≡◌, pos}
-use Rattle.strided_dom.specs.Combinations.{IsProduct}
-use Rattle.pointer_dom.specs.Advances.{IsElementStep, directed}
+use Rattle.filters.specs.strided_dom.Combinations.{IsProduct}
+use Rattle.filters.specs.pointer_dom.Advances.{IsElementStep, directed}
 use Rattle.operator_values.specs.SetsOfPointers.{offset_by, offset_by_is, offset_by_fits, indexed, indexed_is, indexed_fits, moved, moved_is, moved_fits}
 use Rattle.operator_values.proofs.OneAnswer.{one_advance}
 use Rattle.operator_values.proofs.pointers.advanced_pointers.Goals as goal

@@ -1,4 +1,4 @@
-use Rattle.pointer_dom.proofs.Meaning.{meet_one}
+use Rattle.filters.proofs.low.pointer_dom.Meaning.{meet_one}
 use Rattle.operator_values.specs.SetsOfPointers.{common_pointers, common_pointers_are, common_pointers_fit}
 use Rattle.operator_values.specs.MetValues.{met_values_is, met_values_fit}
 use Rattle.operator_values.proofs.OneAnswer.{one_meet}

@@ -1,5 +1,5 @@
-use Rattle.pointer_dom.specs.laws.OffsetLaws.{same_members}
-use Rattle.pointer_dom.specs.Equality.{IsEqualityValue}
+use Rattle.filters.specs.pointer_dom.laws.OffsetLaws.{same_members}
+use Rattle.filters.specs.pointer_dom.Equality.{IsEqualityValue}
 use Rattle.operator_values.specs.SetsOfPointers.{equality, equality_is, pointers_are_assumed, left_pointers_fit, right_pointers_fit}
 use Rattle.operator_values.proofs.OneAnswer.{one_assumed}
 use Rattle.operator_values.proofs.pointers.compared_pointers.Goals as goal

@@ -1,8 +1,8 @@
 use Rattle.std.specs.Arc.{arc_value}
 use Rattle.std.proofs.Common.{subst}
-use Rattle.program_systems.specs.ReadPrograms.{program_of}
-use Rattle.program_systems.specs.ProgramFacts.{program_with}
-use Rattle.post_recheck.specs.Pairs.{FitsPair}
+use Rattle.thread_pass.specs.program_systems.ReadPrograms.{program_of}
+use Rattle.thread_pass.specs.program_systems.ProgramFacts.{program_with}
+use Rattle.program_solutions.specs.post_recheck.Pairs.{FitsPair}
 use Rattle.pass_tests.proofs.Without.{both_without}
 use Rattle.pass_tests.proofs.rechecks.answer_by_threads.Goals as goal
 

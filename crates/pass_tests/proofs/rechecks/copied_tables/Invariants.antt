@@ -1,5 +1,5 @@
 use Rattle.std.proofs.Common.{◌≡◌, take}
-use Rattle.post_recheck.specs.Pairs.{lists_of}
+use Rattle.program_solutions.specs.post_recheck.Pairs.{lists_of}
 use Rattle.pass_tests.proofs.rechecks.copied_tables.Given as goal
 
 abbrev pub invariant-loop-table : goal.invariant-loop-table

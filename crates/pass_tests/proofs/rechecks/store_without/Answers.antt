@@ -1,6 +1,6 @@
 use Rattle.std.proofs.Common.{sym, subst, ◌∙◌}
-use Rattle.state_fits.specs.Fits.{FitsStore}
-use Rattle.program_equations.specs.laws.StoresFit.{nothing_fits}
+use Rattle.thread_pass.specs.state_fits.Fits.{FitsStore}
+use Rattle.thread_pass.specs.program_equations.laws.StoresFit.{nothing_fits}
 use Rattle.pass_tests.proofs.rechecks.store_without.Goals as goal
 
 pub returns-in_ok-new-in-Entries : goal.returns-in_ok-new-in-Entries

@@ -1,10 +1,10 @@
 use Rattle.std.proofs.Common.{◌<◌, length, None, IfSome, subst, sym, ap, ◌∙◌}
 use Rattle.std.proofs.lemmas.List.{get_or_default}
-use Rattle.body_systems.specs.Systems.{body_of, system_of}
+use Rattle.shared_programs.specs.body_systems.Systems.{body_of, system_of}
 use Rattle.least_tables.specs.Solutions.{at, IsFirstUncovered}
-use Rattle.program_equations.specs.Programs.{body_at}
-use Rattle.program_equations.specs.Systems.{states, FitsBody}
-use Rattle.program_systems.specs.ProgramFacts.{program_with}
+use Rattle.shared_programs.specs.program_equations.Programs.{body_at}
+use Rattle.shared_programs.specs.program_equations.Systems.{states, FitsBody}
+use Rattle.shared_programs.specs.program_systems.ProgramFacts.{program_with}
 use Rattle.post_recheck.specs.Pairs.{pair_of}
 use Rattle.post_recheck.specs.reading.Numbers.{number_in, IsNumberedIn}
 use Rattle.post_recheck.proofs.Given.{is, in_bodies, in_tables, entry_is, entry_fits, edges_are, copies_are}

@@ -1,7 +1,7 @@
 use Rattle.std.proofs.Common.{◌≡◌, ℕ, ◌<◌, length, get_or, IfOk}
 use Rattle.std.specs.declared.result.Result.{Result}
 use Rattle.tm_lattice.specs.declared.memory.NoMemory.{NoMemory}
-use Rattle.program_systems.specs.ProgramFacts.{program_with}
+use Rattle.shared_programs.specs.program_systems.ProgramFacts.{program_with}
 use Rattle.post_recheck.specs.Pairs.{pair_of}
 use Rattle.post_recheck.specs.Bodies.{IsBodyCheck}
 use Rattle.post_recheck.specs.declared.bodies.BodyCheck.{BodyCheck}

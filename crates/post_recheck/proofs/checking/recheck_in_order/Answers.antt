@@ -1,7 +1,7 @@
 use Rattle.std.proofs.Common.{length, subst, sym, ap, refl, arith}
 use Rattle.std.specs.Arc.{arc_value}
-use Rattle.program_systems.specs.ProgramFacts.{program_with}
-use Rattle.program_systems.proofs.Bodies.{is_program}
+use Rattle.shared_programs.specs.program_systems.ProgramFacts.{program_with}
+use Rattle.shared_programs.proofs.low.program_systems.Bodies.{is_program}
 use Rattle.post_recheck.specs.Pairs.{pair_of}
 use Rattle.post_recheck.specs.Bodies.{AreChecked}
 use Rattle.post_recheck.proofs.Given.{bodies_small}

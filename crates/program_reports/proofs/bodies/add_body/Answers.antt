@@ -1,7 +1,7 @@
 use Rattle.std.proofs.Common.{◌≡◌, length, get_or, nat_lt, refl, ap, sym, ◌∙◌, arith}
 use Rattle.std.proofs.lemmas.Result.{on_ok_weaker}
-use Rattle.body_systems.specs.Systems.{body_of}
-use Rattle.program_systems.proofs.Bodies.{body_count}
+use Rattle.post_recheck.specs.body_systems.Systems.{body_of}
+use Rattle.post_recheck.proofs.low.program_systems.Bodies.{body_count}
 use Rattle.post_recheck.specs.Pairs.{pair_of}
 use Rattle.post_recheck.proofs.Found.{table_read, tables_counted}
 use Rattle.program_reports.proofs.Numbered.{in_priorities, in_tables, parts_are, copies_count, alarm_of, access_of}

@@ -1,8 +1,8 @@
 use Rattle.std.proofs.Common.{◌≡◌, ◌↔◌, ◌⊎◌, ◌+◌, ap, sym, subst, ◌∙◌, true, length, Some, arith}
 use Rattle.std.specs.Prelude.{Contains}
 use Rattle.tm_terms.specs.declared.alarms.Alarm.{Alarm}
-use Rattle.least_tables.specs.Solutions.{at}
-use Rattle.body_systems.specs.Systems.{body_of}
+use Rattle.post_recheck.specs.least_tables.Solutions.{at}
+use Rattle.post_recheck.specs.body_systems.Systems.{body_of}
 use Rattle.access_races.specs.declared.accesses.Access.{Access}
 use Rattle.access_races.proofs.Joins.{joined, unchanged}
 use Rattle.program_reports.specs.declared.copies.Found.{Found}

@@ -1,7 +1,7 @@
 use Rattle.std.proofs.Common.{◌≡◌, ◌↔◌, ◌⊎◌, sym, subst, ◌∙◌, true}
 use Rattle.std.specs.Prelude.{Contains}
 use Rattle.tm_terms.specs.declared.alarms.Alarm.{Alarm}
-use Rattle.body_systems.specs.Systems.{body_of}
+use Rattle.post_recheck.specs.body_systems.Systems.{body_of}
 use Rattle.access_races.specs.declared.accesses.Access.{Access}
 use Rattle.program_reports.specs.declared.copies.Found.{Found}
 use Rattle.program_reports.specs.reading.Found.{GivesAlarm, GivesAccess}

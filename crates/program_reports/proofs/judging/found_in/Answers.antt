@@ -1,8 +1,8 @@
 use Rattle.std.proofs.Common.{◌≡◌, ◌↔◌, length, subst, arith}
 use Rattle.std.specs.Prelude.{Contains}
 use Rattle.std.proofs.lemmas.List.{length-map}
-use Rattle.program_equations.specs.Solutions.{tables_of}
-use Rattle.program_systems.specs.ProgramFacts.{program_with}
+use Rattle.post_recheck.specs.program_equations.Solutions.{tables_of}
+use Rattle.post_recheck.specs.program_systems.ProgramFacts.{program_with}
 use Rattle.post_recheck.specs.Pairs.{lists_of}
 use Rattle.post_recheck.proofs.Given.{bodies_small}
 use Rattle.access_races.proofs.Joins.{grown}

@@ -1,9 +1,9 @@
 use Rattle.std.proofs.Common.{◌↔◌, length, List, sym, subst}
 use Rattle.std.specs.Prelude.{Contains}
 use Rattle.std.proofs.lemmas.Result.{IfOk-weaker}
-use Rattle.program_equations.specs.Solutions.{tables_of}
-use Rattle.program_systems.specs.ProgramFacts.{program_with}
-use Rattle.program_systems.proofs.Bodies.{is_program}
+use Rattle.post_recheck.specs.program_equations.Solutions.{tables_of}
+use Rattle.post_recheck.specs.program_systems.ProgramFacts.{program_with}
+use Rattle.post_recheck.proofs.low.program_systems.Bodies.{is_program}
 use Rattle.post_recheck.specs.Pairs.{lists_of}
 use Rattle.access_races.specs.declared.accesses.Access.{Access}
 use Rattle.program_reports.specs.reading.Bodies.{IsAccessUpTo}

@@ -1,7 +1,7 @@
 use Rattle.std.proofs.Common.{◌≡◌, ◌<◌, ℕ, length, get_or, Some, None}
-use Rattle.tm_laid.specs.Layouts.{laid_tree}
-use Rattle.program_equations.specs.Readings.{read_layout}
-use Rattle.program_equations.specs.Entries.{first_state}
+use Rattle.mutex_configs.specs.tm_laid.Layouts.{laid_tree}
+use Rattle.entry_states.specs.program_equations.Readings.{read_layout}
+use Rattle.entry_states.specs.program_equations.Entries.{first_state}
 use Rattle.program_systems.proofs.beginnings.first_entries.Given as goal
 
 abbrev pub invariant-loop-task : goal.invariant-loop-task

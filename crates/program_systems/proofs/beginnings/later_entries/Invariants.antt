@@ -1,8 +1,8 @@
 use Rattle.std.proofs.Common.{◌≡◌, ◌<◌, ℕ, length, get_or, None}
 use Rattle.std.specs.Option.{option_copied}
-use Rattle.tm_laid.specs.Layouts.{laid_tree}
-use Rattle.program_equations.specs.Readings.{read_layout}
-use Rattle.program_equations.specs.Entries.{later_state}
+use Rattle.mutex_configs.specs.tm_laid.Layouts.{laid_tree}
+use Rattle.entry_states.specs.program_equations.Readings.{read_layout}
+use Rattle.entry_states.specs.program_equations.Entries.{later_state}
 use Rattle.program_systems.proofs.beginnings.later_entries.Given as goal
 
 abbrev pub invariant-loop-task : goal.invariant-loop-task

@@ -1,8 +1,8 @@
 use Rattle.std.proofs.Common.{◌≡◌, ◌<◌, ◌≤◌, subst, ap, arith, ◌∙◌, length}
-use Rattle.tm_laid.specs.Layouts.{laid_tree}
-use Rattle.program_equations.specs.Readings.{read_layout}
-use Rattle.program_equations.specs.Programs.{HasSection}
-use Rattle.program_equations.specs.Entries.{later_state}
+use Rattle.mutex_configs.specs.tm_laid.Layouts.{laid_tree}
+use Rattle.entry_states.specs.program_equations.Readings.{read_layout}
+use Rattle.entry_states.specs.program_equations.Programs.{HasSection}
+use Rattle.entry_states.specs.program_equations.Entries.{later_state}
 use Rattle.program_systems.specs.ProgramFacts.{program_with}
 use Rattle.program_systems.proofs.TaskEntries.{if_ok, read_at, counted, begins_first, section_is, begins_later}
 use Rattle.program_systems.proofs.beginnings.task_entries.Goals as goal

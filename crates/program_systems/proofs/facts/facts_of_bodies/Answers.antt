@@ -1,9 +1,9 @@
 use Rattle.std.proofs.Common.{◌<◌, ◌+◌, subst, sym, arith, ◌∙◌, get_or, length}
 use Rattle.std.proofs.lemmas.List.{get_or_default}
-use Rattle.flow_graph.specs.declared.graphs.Graph.{Graph}
+use Rattle.mutex_configs.specs.flow_graph.declared.graphs.Graph.{Graph}
 use Rattle.mutex_configs.specs.declared.nodes.ConfiguredGraph.{ConfiguredGraph}
-use Rattle.tm_laid.specs.Layouts.{laid_tree}
-use Rattle.body_systems.specs.Facts.{AreFactsOf}
+use Rattle.mutex_configs.specs.tm_laid.Layouts.{laid_tree}
+use Rattle.entry_states.specs.body_systems.Facts.{AreFactsOf}
 use Rattle.program_systems.proofs.FactsInOrder.{AreFirst, one_more}
 use Rattle.program_systems.proofs.facts.facts_of_bodies.Goals as goal
 

@@ -1,8 +1,8 @@
 use Rattle.std.proofs.Common.{◌≡◌, ◌<◌, ℕ, length, get_or}
-use Rattle.tm_laid.specs.Layouts.{laid_tree}
-use Rattle.flow_graph.specs.declared.graphs.Graph.{Graph}
+use Rattle.mutex_configs.specs.tm_laid.Layouts.{laid_tree}
+use Rattle.mutex_configs.specs.flow_graph.declared.graphs.Graph.{Graph}
 use Rattle.mutex_configs.specs.declared.nodes.ConfiguredGraph.{ConfiguredGraph}
-use Rattle.body_systems.specs.Facts.{Facts, AreFactsOf}
+use Rattle.entry_states.specs.body_systems.Facts.{Facts, AreFactsOf}
 use Rattle.program_systems.proofs.facts.facts_of_bodies.Given as goal
 
 abbrev pub invariant-loop-number : goal.invariant-loop-number

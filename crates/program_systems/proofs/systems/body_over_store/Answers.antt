@@ -1,6 +1,6 @@
 use Rattle.std.proofs.Common.{◌<◌, subst, sym, ap, arith, ◌∙◌, length, get_or, option_map}
 use Rattle.std.proofs.lemmas.List.{get_or_default}
-use Rattle.body_systems.specs.Systems.{body_of, system_with, IsSystemOf}
+use Rattle.entry_states.specs.body_systems.Systems.{body_of, system_with, IsSystemOf}
 use Rattle.program_systems.proofs.Bodies.{body_count}
 use Rattle.program_systems.proofs.SystemsOfBodies.{is_system, same_body}
 use Rattle.program_systems.proofs.systems.body_over_store.Goals as goal

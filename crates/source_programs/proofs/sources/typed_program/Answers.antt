@@ -1,5 +1,5 @@
 use Rattle.tm_trees.specs.FileTrees.{file_tree}
-use Rattle.tm_typed.specs.TypedFiles.{typed_file_tree}
+use Rattle.tm_laid.specs.tm_typed.TypedFiles.{typed_file_tree}
 use Rattle.tm_laid.specs.Layouts.{laid_tree}
 use Rattle.source_programs.proofs.Analysing.{program_analysable}
 use Rattle.source_programs.proofs.Stations.{typing_refused, layout_refused, laid_source, laid_file, layable, order_kept}

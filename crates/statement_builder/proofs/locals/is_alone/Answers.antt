@@ -1,5 +1,5 @@
 use Rattle.std.proofs.Common.{◌≡◌, sym, subst}
-use Rattle.lowering.specs.Table.{is_alone}
+use Rattle.body_builder.specs.lowering.Table.{is_alone}
 use Rattle.body_builder.specs.Fragments.{tree_in}
 use Rattle.statement_builder.proofs.locals.is_alone.Goals as goal
 

@@ -1,5 +1,5 @@
 use Rattle.std.proofs.Common.{◌≡◌, ◌++◌, map, drop}
-use Rattle.lowering.specs.Built.{still_by}
+use Rattle.body_builder.specs.lowering.Built.{still_by}
 use Rattle.statement_builder.specs.Waiting.{waiting}
 use Rattle.statement_builder.specs.reading.Statements.{stays}
 use Rattle.statement_builder.proofs.loops.keep.Given as goal

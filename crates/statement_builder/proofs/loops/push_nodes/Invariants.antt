@@ -1,5 +1,5 @@
 use Rattle.std.proofs.Common.{◌≡◌, ◌++◌, map, drop}
-use Rattle.lowering.specs.Built.{nodes_by}
+use Rattle.body_builder.specs.lowering.Built.{nodes_by}
 use Rattle.statement_builder.specs.Waiting.{way_of, waiting}
 use Rattle.statement_builder.specs.reading.Statements.{is_way}
 use Rattle.statement_builder.proofs.loops.push_nodes.Given as goal

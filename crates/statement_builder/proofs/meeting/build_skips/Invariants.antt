@@ -1,4 +1,4 @@
-use Rattle.lowering.specs.Built.{skips}
+use Rattle.body_builder.specs.lowering.Built.{skips}
 use Rattle.body_builder.specs.Fragments.{tree_in, so_far}
 use Rattle.statement_builder.specs.reading.Meeting.{with_edges}
 use Rattle.statement_builder.proofs.Skips.{HasSkips}

@@ -5,7 +5,7 @@ use Rattle.tm_typed.specs.declared.statements.TypedStatement.TheVariants as Type
 use Rattle.tm_typed.specs.TypedTrees.{rvalue_tree}
 use Rattle.tm_typed.specs.TypedStatements.{TypedTree, typed_tree, as_typed_cases}
 use Rattle.tm_typed.proofs.TypedStatementTrees.{typed_tree-switch}
-use Rattle.lowering.specs.Built as Built
+use Rattle.body_builder.specs.lowering.Built as Built
 use Rattle.body_builder.specs.Fragments.{tree_in}
 use Rattle.statement_builder.specs.reading.Statements.{reached, waits, onward_of, statement_at}
 use Rattle.statement_builder.proofs.Rows.{switch_built}

@@ -1,9 +1,9 @@
 use Rattle.std.proofs.Common.{◌≡◌, ◌<◌, length, get_or, ap, sym, ◌∙◌, arith, refl}
 use Rattle.std.proofs.lemmas.Bool.{false≢true}
-use Rattle.temporary_types.specs.PointerMarks.{pointer_marks}
+use Rattle.program_equality.specs.temporary_types.PointerMarks.{pointer_marks}
 use Rattle.flow_graph.specs.declared.graphs.Graph.{Graph}
-use Rattle.body_systems.specs.Facts.{Facts}
-use Rattle.program_equations.specs.Programs.{temporaries_in}
+use Rattle.program_systems.specs.body_systems.Facts.{Facts}
+use Rattle.program_equality.specs.program_equations.Programs.{temporaries_in}
 use Rattle.thread_pass.proofs.SameBodies.{none_yet, counts, bodies_are, one_more, all_same}
 use Rattle.thread_pass.proofs.equality.are_same_bodies.Goals as goal
 

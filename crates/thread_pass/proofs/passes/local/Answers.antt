@@ -1,7 +1,7 @@
 use Rattle.std.proofs.Common.{◌<◌, subst, sym, ap, ◌∙◌, arith, length, None}
 use Rattle.std.proofs.lemmas.List.{get_or_default}
-use Rattle.body_systems.specs.Systems.{body_of}
-use Rattle.program_equations.specs.Systems.{FitsProgram, pass_of}
+use Rattle.program_systems.specs.body_systems.Systems.{body_of}
+use Rattle.program_equality.specs.program_equations.Systems.{FitsProgram, pass_of}
 use Rattle.program_systems.specs.ReadPrograms.{program_of}
 use Rattle.program_systems.specs.ProgramFacts.{program_with}
 use Rattle.program_systems.proofs.Bodies.{is_program}

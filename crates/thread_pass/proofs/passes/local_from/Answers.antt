@@ -1,12 +1,12 @@
 use Rattle.std.proofs.Common.{◌≡◌, ◌<◌, subst, sym, ap, ◌∙◌, arith, length, map, None, IfSome}
 use Rattle.std.proofs.lemmas.List.{get_or_default}
 use Rattle.interfere_set.specs.Stores.{no_interference, joined_store}
-use Rattle.body_systems.specs.Systems.{body_of}
+use Rattle.program_systems.specs.body_systems.Systems.{body_of}
 use Rattle.least_tables.specs.Solutions.{at}
 use Rattle.least_tables.specs.Passes.{added_below}
-use Rattle.task_equations.specs.Bodies.{copy_at}
-use Rattle.task_equations.specs.Equations.{link_of, added_along}
-use Rattle.program_equations.specs.Systems.{FitsBody, FitsProgram, pass_of}
+use Rattle.program_equality.specs.task_equations.Bodies.{copy_at}
+use Rattle.program_equality.specs.task_equations.Equations.{link_of, added_along}
+use Rattle.program_equality.specs.program_equations.Systems.{FitsBody, FitsProgram, pass_of}
 use Rattle.program_systems.specs.ReadPrograms.{program_of}
 use Rattle.program_systems.specs.ProgramFacts.{program_with}
 use Rattle.program_systems.proofs.Bodies.{is_program}

@@ -1,8 +1,9 @@
 use Rattle.std.proofs.Common.{◌∙◌, ap, subst}
 use Rattle.tm_laid.specs.Layouts.{laid_tree, is_alive, stands_at}
 use Rattle.flow_graph.specs.declared.operations.Operation.{Operation}
-use Rattle.transfer_rows.specs.StateForms.{only_numbers}
-use Rattle.transfer_rows.specs.Actions.{Action, constant, copied, operated, converted, compared, part, element, moved}
+use Rattle.calculations.specs.transfer_rows.StateForms.{only_numbers}
+use Rattle.calculations.specs.transfer_rows.Actions.{Action, constant, copied, operated, converted, compared, part}
+use Rattle.calculations.specs.transfer_rows.Actions.{element, moved}
 use Rattle.calculations.specs.Given.{IsCalculated}
 use Rattle.edge_actions.specs.Layouts.{numbers_between}
 use Rattle.edge_actions.specs.Edges.{action_of, constant_value, base_value, unary_of, followed}

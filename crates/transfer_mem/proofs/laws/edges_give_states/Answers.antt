@@ -1,6 +1,6 @@
 use Rattle.tm_laid.specs.Layouts.{laid_tree}
-use Rattle.transfer_rows.proofs.Contributing.{added_is}
-use Rattle.transfer_rows.proofs.Fitting.{after_is}
+use Rattle.calculations.proofs.low.transfer_rows.Contributing.{added_is}
+use Rattle.calculations.proofs.low.transfer_rows.Fitting.{after_is}
 use Rattle.edge_actions.proofs.ActionForms.{edge_is}
 use Rattle.edge_actions.specs.Edges.{around_of, action_at}
 use Rattle.transfer_mem.proofs.laws.edges_give_states.Goals as goal

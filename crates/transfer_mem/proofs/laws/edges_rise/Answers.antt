@@ -1,6 +1,6 @@
 use Rattle.tm_laid.specs.Layouts.{laid_tree}
-use Rattle.transfer_rows.proofs.Contributing.{added_rises}
-use Rattle.transfer_rows.proofs.RowsRise.{after_rises, target_rises, listed_rises}
+use Rattle.calculations.proofs.low.transfer_rows.Contributing.{added_rises}
+use Rattle.calculations.proofs.low.transfer_rows.RowsRise.{after_rises, target_rises, listed_rises}
 use Rattle.edge_actions.proofs.ActionForms.{edge_is}
 use Rattle.edge_actions.specs.Edges.{around_of, action_at}
 use Rattle.transfer_mem.proofs.laws.edges_rise.Goals as goal

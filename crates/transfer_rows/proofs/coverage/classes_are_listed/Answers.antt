@@ -1,5 +1,5 @@
 use Rattle.std.proofs.Common.{subst, refl}
-use Rattle.pointer_dom.specs.Values.{IsValueIn}
+use Rattle.interfere_set.specs.pointer_dom.Values.{IsValueIn}
 use Rattle.transfer_rows.specs.StateForms.{value_of}
 use Rattle.transfer_rows.specs.Reports.{IsListed}
 use Rattle.transfer_rows.proofs.CoverSteps.{in_temp}

@@ -1,4 +1,4 @@
-use Rattle.transfer_rows.proofs.Filters.{filter_covers}
+use Rattle.transfer_rows.proofs.FilterLaws.{filter_covers}
 use Rattle.transfer_rows.proofs.coverage.filters_are_covered.Goals as goal
 
 pub returns : goal.returns

@@ -2,8 +2,8 @@ use Rattle.std.proofs.Common.{◌≡◌, ℤ, pos, negsuc, FitsSigned, to_z, of_
 use Rattle.std.specs.Prelude.{int_rem}
 use Rattle.std.specs.Int.{w128}
 use lib.Signed.{mag_rem}
-use Rattle.tm_numbers.specs.Divisors.{Divides}
-use Rattle.tm_numbers.proofs.Divisibility.{is_by_remainder}
+use Rattle.congruence_dom.specs.tm_numbers.Divisors.{Divides}
+use Rattle.congruence_dom.proofs.low.tm_numbers.Divisibility.{is_by_remainder}
 use Rattle.congruence_dom.proofs.Ranges.{back, modulus_fits, residue_fits}
 use Rattle.value_tests.proofs.congruence_rows.quotient.Goals as goal
 

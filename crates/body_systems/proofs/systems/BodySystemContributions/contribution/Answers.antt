@@ -3,7 +3,7 @@ use Rattle.std.specs.Prelude.{get_or, map}
 use Rattle.edge_actions.specs.Edges.{action_at, around_of}
 use Rattle.edge_effects.specs.Effects.{IsAfter}
 use Rattle.transfer_mem.specs.Applicable.{IsApplicable}
-use Rattle.transfer_rows.specs.StateForms.{State}
+use Rattle.edge_actions.specs.transfer_rows.StateForms.{State}
 use Rattle.least_tables.specs.Systems.{from_of}
 use Rattle.task_equations.specs.Equations.{link_of}
 use Rattle.program_equations.specs.Systems.{FitsBody}

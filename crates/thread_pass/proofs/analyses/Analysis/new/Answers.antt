@@ -1,6 +1,6 @@
 use Rattle.std.proofs.Common.{ap, ◌∙◌, List, Option}
-use Rattle.transfer_rows.specs.StateForms.{State}
-use Rattle.program_equations.specs.Systems.{task_entry}
+use Rattle.program_equality.specs.transfer_rows.StateForms.{State}
+use Rattle.program_equality.specs.program_equations.Systems.{task_entry}
 use Rattle.program_systems.specs.ProgramFacts.{program_with}
 use Rattle.program_systems.proofs.Bodies.{is_program, is_program_of}
 use Rattle.thread_pass.proofs.TaskTables.{entry_from}

@@ -1,6 +1,6 @@
 use Rattle.std.proofs.Common.{subst}
-use Rattle.tm_laid.specs.Layouts.{laid_tree}
-use Rattle.program_equations.specs.Programs.{IsProgramOf}
+use Rattle.flow_graph.specs.tm_laid.Layouts.{laid_tree}
+use Rattle.program_equality.specs.program_equations.Programs.{IsProgramOf}
 use Rattle.program_systems.specs.ReadPrograms.{program_of}
 use Rattle.program_systems.proofs.Bodies.{is_program_of}
 use Rattle.thread_pass.proofs.analyses.Analysis.program.Goals as goal

@@ -1,5 +1,5 @@
 use Rattle.std.proofs.Common.{◌<◌, ◌≤◌, subst, arith, length}
-use Rattle.program_equations.specs.Programs.{HasSection}
+use Rattle.program_equality.specs.program_equations.Programs.{HasSection}
 use Rattle.program_systems.specs.ReadPrograms.{program_of}
 use Rattle.thread_pass.specs.Analyses.{IsSectionTable}
 use Rattle.thread_pass.proofs.SectionTables.{has_section, no_section}

@@ -1,5 +1,5 @@
 use Rattle.std.proofs.Common.{subst}
-use Rattle.program_equations.specs.Programs.{IsProgram}
+use Rattle.program_equality.specs.program_equations.Programs.{IsProgram}
 use Rattle.program_systems.specs.ReadPrograms.{program_of}
 use Rattle.program_systems.proofs.Bodies.{is_program}
 use Rattle.thread_pass.proofs.passes.AnalysisPasser.tasks.Goals as goal

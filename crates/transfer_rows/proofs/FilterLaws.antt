@@ -5,12 +5,12 @@ use Rattle.std.specs.Option.{option_map}
 use Rattle.std.specs.Int.{bit_at}
 use Rattle.std.specs.FinMap.{get}
 use Rattle.std.proofs.lemmas.Bool.{eqb-true, cases_eq, cases_Bool, and_left, and_right}
-use Rattle.tm_lattice.specs.laws.TableLaws.{get-insert_here, get-insert_there}
-use Rattle.pointer_dom.specs.Pointer.{invalid, ScalarValue, number, pointer}
-use Rattle.pointer_dom.specs.Values.{Values, IsValueIn}
-use Rattle.pointer_dom.proofs.Meaning.{in_value_meet}
-use Rattle.pointer_dom.proofs.OperationMeaning.{usable_holds}
-use Rattle.filters.proofs.PointerLaws.{pair_kept}
+use Rattle.cell_env.specs.tm_lattice.laws.TableLaws.{get-insert_here, get-insert_there}
+use Rattle.interfere_set.specs.pointer_dom.Pointer.{invalid, ScalarValue, number, pointer}
+use Rattle.interfere_set.specs.pointer_dom.Values.{Values, IsValueIn}
+use Rattle.interfere_set.proofs.low.pointer_dom.Meaning.{in_value_meet}
+use Rattle.interfere_set.proofs.low.pointer_dom.OperationMeaning.{usable_holds}
+use Rattle.operator_values.proofs.low.filters.PointerLaws.{pair_kept}
 use Rattle.interfere_set.specs.Stores.{Interferences}
 use Rattle.operator_values.specs.Integers.{assumed_is}
 use Rattle.operator_values.specs.SetsOfPointers.{pointers_are_assumed, left_pointers, right_pointers}

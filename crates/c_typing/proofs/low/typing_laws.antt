@@ -1,0 +1,3 @@
+-- The crates below, passed on to those above.
+pub use Rattle.typing_laws.proofs.OneAnswer
+pub use Rattle.typing_laws.proofs.SomeAnswer

@@ -1,0 +1,3 @@
+-- The crates below, passed on to those above.
+pub use Rattle.tm_numbers.proofs.Congruences
+pub use Rattle.tm_numbers.proofs.Divisibility

@@ -1,0 +1,3 @@
+-- The crates below, passed on to those above.
+pub use Rattle.edge_actions.proofs.ActionForms
+pub use Rattle.edge_actions.proofs.Lists

@@ -1,0 +1,3 @@
+-- The crates below, passed on to those above.
+pub use Rattle.body_systems.proofs.low.task_equations.ConfiguredBodies
+pub use Rattle.body_systems.proofs.low.task_equations.PlacesOfBodies

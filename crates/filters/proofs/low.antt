@@ -1,0 +1,3 @@
+-- The crates below, passed on to those above.
+pub mod pointer_dom
+pub mod strided_dom

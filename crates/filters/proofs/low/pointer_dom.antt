@@ -1,0 +1,4 @@
+-- The crates below, passed on to those above.
+pub use Rattle.pointer_dom.proofs.AdvanceFacts
+pub use Rattle.pointer_dom.proofs.Meaning
+pub use Rattle.pointer_dom.proofs.OperationMeaning

@@ -1,0 +1,4 @@
+-- The crates below, passed on to those above.
+pub use Rattle.strided_dom.proofs.Members
+pub use Rattle.strided_dom.proofs.Spans
+pub use Rattle.strided_dom.proofs.Thresholds

@@ -1,0 +1,3 @@
+-- The crates below, passed on to those above.
+pub mod mutex_configs
+pub mod typed_file_laws

@@ -1,0 +1,2 @@
+-- The crates below, passed on to those above.
+pub use Rattle.strided_dom.proofs.low.tm_numbers.Congruences

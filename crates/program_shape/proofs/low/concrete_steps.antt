@@ -1,0 +1,3 @@
+-- The crates below, passed on to those above.
+pub use Rattle.concrete_steps.proofs.Moving
+pub use Rattle.concrete_steps.proofs.Reached

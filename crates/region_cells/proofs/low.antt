@@ -1,0 +1,3 @@
+-- The crates below, passed on to those above.
+pub mod tm_cint
+pub mod tm_lattice

@@ -1,0 +1,6 @@
+-- The crates below, passed on to those above.
+pub use Rattle.program_systems.proofs.low.transfer_rows.Contributing
+pub use Rattle.program_systems.proofs.low.transfer_rows.CoverSteps
+pub use Rattle.program_systems.proofs.low.transfer_rows.CoverValues
+pub use Rattle.program_systems.proofs.low.transfer_rows.Covers
+pub use Rattle.program_systems.proofs.low.transfer_rows.FilterLaws

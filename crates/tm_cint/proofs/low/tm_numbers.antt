@@ -1,0 +1,4 @@
+-- The crates below, passed on to those above.
+pub use Rattle.tm_numbers.proofs.Congruences
+pub use Rattle.tm_numbers.proofs.Divisibility
+pub use Rattle.tm_numbers.proofs.Gcds

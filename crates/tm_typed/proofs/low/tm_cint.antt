@@ -1,0 +1,3 @@
+-- The crates below, passed on to those above.
+pub use Rattle.tm_trees.proofs.low.tm_cint.Ranges
+pub use Rattle.tm_trees.proofs.low.tm_cint.Values

@@ -1,0 +1,3 @@
+-- The crates below, passed on to those above.
+pub mod operator_values
+pub mod transfer_int

@@ -1,0 +1,3 @@
+-- The crates below, passed on to those above.
+pub mod c_folds
+pub mod typing_laws

@@ -1,0 +1,2 @@
+-- The crates below, passed on to those above.
+pub use Rattle.c_expr_typing.proofs.low.c_folds.ConvertedValues

@@ -1,0 +1,2 @@
+-- The crates below, passed on to those above.
+pub use Rattle.pointer_dom.proofs.low.tm_numbers.Congruences
