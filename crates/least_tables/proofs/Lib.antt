@@ -1,3 +1,4 @@
+pub mod Following
 pub mod Marking
 pub mod Rechecks
 pub mod SameAdded

@@ -114,13 +114,13 @@ module _ {V M : Type 0} (states : lattice.Ghosts V M) (suits : ℕ → V → Typ
     v-new : states.leq v new
     v-new = order.transitive v both new (law.value n v v-fits) (law.value n both both-fits) (law.value n new new-fits) (joined_right old old-fits) both-new
 
-    abbrev after : List (Option V)
+    abbrev pub after : List (Option V)
     after = set table n (Some new)
 
     at_new : at after n ≡ Some new
     at_new = get_or-set_same table n (Some new) None (omega arith)
 
-    at_other : (m : ℕ) → m ≢ n → at after m ≡ at table m
+    pub at_other : (m : ℕ) → m ≢ n → at after m ≡ at table m
     at_other m differ = get_or-set_other table n m (Some new) None differ
 
     -- a property of what stands at each node

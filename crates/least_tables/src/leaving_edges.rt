@@ -59,8 +59,8 @@ impl<'a> Leaving<'a> {
     }
 }
 
-// No edge at each node.
-fn no_edges(alloc: Global, nodes: usize) -> Result<Vec<Option<usize>>, NoMemory>
+/// No edge at each node.
+pub fn no_edges(alloc: Global, nodes: usize) -> Result<Vec<Option<usize>>, NoMemory>
     ensures { IfOk result (λ last. (length last.items ≡ nodes) × ((n : ℕ) → slice_index_or last.items n None ≡ None)) }
 {
     let mut last = Vec::new(alloc);

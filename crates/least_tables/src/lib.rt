@@ -18,6 +18,7 @@ mod leaving_edges;
 mod links;
 mod pending;
 mod raising;
+mod sweeps;
 mod work_list;
 
 pub use analysed_programs::{Analysed, least_by_passes, warm_starts};

@@ -16,16 +16,22 @@ pub fn all_pending(alloc: Global, edges: usize) -> Result<Vec<bool>, NoMemory>
     Ok(pending)
 }
 
-/// Some pending edge, None where there is none. The search begins at the cursor, and goes on at the start.
-pub fn next_pending(pending: &[bool], cursor: usize) -> Option<usize>
+/// Some pending edge, None where there is none: the first in the order, from the given place on, which is moved there.
+/// Where the order has none any more, the search goes on among all edges.
+pub fn next_pending(order: &[usize], pending: &[bool], place: &mut usize) -> Option<usize>
     ensures { MatchOption result
         ((e : ℕ) → e < length pending.now → slice_index_or pending.now e true ≡ false)
         (λ e. (e < length pending.now) × (slice_index_or pending.now e true ≡ true)) }
 {
-    match first_from(pending, cursor) {
-        Some(e) => Some(e),
-        None => first_from(pending, 0),
+    for at in *place..order.len() {
+        let edge = order[at];
+        if edge < pending.len() && pending[edge] {
+            *place = at;
+            return Some(edge);
+        }
     }
+    *place = order.len();
+    first_from(pending, 0)
 }
 
 // The first pending edge from a number on.

@@ -1,13 +1,14 @@
 //! The work list: edges are applied until none brings more.
-ghost use Rattle.std.specs.Prelude.{◌≡◌, ◌<◌, ℕ, length, None, IfOk, IsOk, slice_index_or, true};
+ghost use Rattle.std.specs.Prelude.{◌≡◌, ◌<◌, ℕ, length, Some, None, IfOk, IsOk, IsTrue, MatchBool, slice_index_or, true};
 ghost use Rattle.least_tables.specs.Solutions.{at, IsStarted, IsClosedTable, IsMetOrPending, IsLeastAbove};
 ghost use Rattle.least_tables.specs.Solutions.{IsLeastSolution};
-ghost use Rattle.least_tables.specs.reading.WorkLists.{IsStart, IsStep, IsIndex};
+ghost use Rattle.least_tables.specs.reading.WorkLists.{IsStart, IsStep, IsIndex, AreFollowed};
 
 use crate::equations::Equations;
-use crate::leaving_edges::Leaving;
+use crate::leaving_edges::{Leaving, no_edges};
 use crate::pending::{all_pending, next_pending};
 use crate::raising::bring;
+use crate::sweeps::Sweep;
 use std::alloc::Global;
 use tm_lattice::NoMemory;
 
@@ -49,17 +50,30 @@ pub fn settle<E: Equations>(
         IsLeastAbove E.State.Lattice (E.fits system.now) (E.system_of system.now) (at table.items) (at last.items)) }
 {
     let leaving = Leaving::new(alloc, system.links(), system.nodes())?;
-    run(alloc, system, &leaving, &mut table, &mut pending)?;
+    let sweep = Sweep::new(alloc, &leaving)?;
+    let mut followed = no_edges(alloc, system.nodes())?;
+    run(
+        alloc,
+        system,
+        &leaving,
+        &sweep,
+        &mut table,
+        &mut pending,
+        &mut followed,
+    )?;
     Ok(table)
 }
 
-// The loop.
+// The loop. Of the pending edges the first in the order of the sweep comes next. At a node stands the edge that
+// brought what is there, where it is known that it brings no less today: its next state is taken and not joined.
 fn run<E: Equations>(
     alloc: Global,
     system: &E,
     leaving: &Leaving<'_>,
+    sweep: &Sweep,
     table: &mut [Option<E::State>],
     pending: &mut [bool],
+    followed: &mut [Option<usize>],
 ) -> Result<(), NoMemory>
     requires system { E.is_system system.now }
     requires links { leaving.now.links.now ≡ (E.system_of system.now).links }
@@ -70,28 +84,33 @@ fn run<E: Equations>(
     requires started { IsStarted E.State.Lattice (E.fits system.now) (E.system_of system.now) (at table.old) }
     requires pending { IsMetOrPending E.State.Lattice (E.fits system.now) (E.system_of system.now)
         (at table.old) pending.old }
+    requires notes { length followed.old ≡ (E.system_of system.now).node_count }
+    requires followed { AreFollowed E.State.Lattice (E.fits system.now) (E.system_of system.now)
+        (at table.old) followed.old }
     ensures closed { IsOk result
         → IsClosedTable E.State.Lattice (E.fits system.now) (E.system_of system.now) (at table.new) }
     ensures least { IsOk result
         → IsLeastAbove E.State.Lattice (E.fits system.now) (E.system_of system.now) (at table.old) (at table.new) }
 {
-    let mut cursor = 0;
-    while let Some(edge) = next_pending(pending, cursor) {
-        cursor = edge;
-        step(alloc, system, leaving, table, pending, edge)?;
+    let mut place = 0;
+    while let Some(edge) = next_pending(&sweep.edges, pending, &mut place) {
+        if step(alloc, system, leaving, table, pending, followed, edge)? {
+            place = place.min(sweep.place_of(leaving.links[edge].to));
+        }
     }
     Ok(())
 }
 
-// Applies one edge, which is pending no longer unless it leads back to where it came from.
+// Applies one edge, which is pending no longer unless it leads back to where it came from. True where its node rose.
 fn step<E: Equations>(
     alloc: Global,
     system: &E,
     leaving: &Leaving<'_>,
     table: &mut [Option<E::State>],
     pending: &mut [bool],
+    followed: &mut [Option<usize>],
     edge: usize,
-) -> Result<(), NoMemory>
+) -> Result<bool, NoMemory>
     requires system { E.is_system system.now }
     requires links { leaving.now.links.now ≡ (E.system_of system.now).links }
     requires index { IsIndex leaving.now.links.now (E.system_of system.now).node_count
@@ -103,21 +122,51 @@ fn step<E: Equations>(
     requires started { IsStarted E.State.Lattice (E.fits system.now) (E.system_of system.now) (at table.old) }
     requires met { IsMetOrPending E.State.Lattice (E.fits system.now) (E.system_of system.now)
         (at table.old) pending.old }
-    ensures { IsOk result → IsStep E.State.Lattice (E.fits system.now) (E.system_of system.now)
+    requires notes { length followed.old ≡ (E.system_of system.now).node_count }
+    requires followed { AreFollowed E.State.Lattice (E.fits system.now) (E.system_of system.now)
+        (at table.old) followed.old }
+    ensures step { IsOk result → IsStep E.State.Lattice (E.fits system.now) (E.system_of system.now)
         table.old pending.old table.new pending.new }
+    ensures followed { IsOk result → AreFollowed E.State.Lattice (E.fits system.now) (E.system_of system.now)
+        (at table.new) followed.new }
 {
     pending[edge] = false;
     let link = leaving.links[edge];
     let Some(state) = &table[link.from] else {
-        return Ok(());
+        return Ok(false);
     };
     let Some(brought) = system.apply(alloc, edge, state)? else {
-        return Ok(());
+        return Ok(false);
     };
-    if bring(alloc, system, table, link.to, brought)? {
+    let follows = is_noted(followed, link.to, edge);
+    let raised = bring(alloc, system, table, link.to, brought, follows)?;
+    if raised.rose {
         leaving.mark(link.to, pending);
+        followed[link.to] = note(edge, raised.is_taken);
+        return Ok(true);
     }
-    Ok(())
+    Ok(false)
+}
+
+// Whether the edge is noted at the node.
+fn is_noted(followed: &[Option<usize>], node: usize, edge: usize) -> bool
+    requires { node < length followed.now }
+    ensures { IsTrue result → slice_index_or followed.now node None ≡ Some edge }
+{
+    match followed[node] {
+        None => false,
+        Some(noted) => noted == edge,
+    }
+}
+
+// The edge, if it is to be noted.
+fn note(edge: usize, is_taken: bool) -> Option<usize>
+    ensures { MatchBool is_taken (result ≡ Some edge) (result ≡ None) }
+{
+    if is_taken {
+        return Some(edge);
+    }
+    None
 }
 
 // Bottom at each node, but for what stands at the first one besides.

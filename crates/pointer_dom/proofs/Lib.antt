@@ -1,5 +1,6 @@
 pub mod OffsetFacts
 pub mod MeetFacts
+pub mod SameNumbers
 pub mod ValueFacts
 pub mod Meaning
 pub mod AdvanceFacts

@@ -4,9 +4,10 @@ use Rattle.std.specs.Prelude.{None, Bool}
 use Rattle.std.specs.List.{count_by}
 use Rattle.tm_lattice.specs.declared.lattices.Lattice as lattice
 use Rattle.least_tables.specs.declared.links.Link.{Link}
-use Rattle.least_tables.specs.Systems.{System, from_of}
+use Rattle.tm_lattice.specs.Tables.{IsBelow}
+use Rattle.least_tables.specs.Systems.{System, from_of, to_of}
 use Rattle.least_tables.specs.Solutions.{NodeTable, at, IsStarted, IsClosedTable, IsMetOrPending, IsLeastAbove}
-use Rattle.least_tables.specs.Solutions.{IsNodewiseBelow, edge_count, room_at}
+use Rattle.least_tables.specs.Solutions.{IsNodewiseBelow, edge_count, room_at, along}
 
 -- the last edge below a bound that leaves the node, None where there is none
 abbrev pub IsLastBelow : List Link → ℕ → ℕ → Option ℕ → Type 0
@@ -45,3 +46,14 @@ module _ {V M : Type 0} (states : lattice.Ghosts V M) (suits : ℕ → V → Typ
     pub started : IsStarted states suits sys (at table)
     pub below : (other : NodeTable V) → IsClosedTable states suits sys other
         → IsNodewiseBelow states suits sys (at table) other
+
+  -- the edge leads to the node, and brings at least what stands there
+  pub record IsFollowed (table : NodeTable V) (n e : ℕ) : Type 0 where
+    pub within : e < edge_count states suits sys
+    pub leads : to_of (sys.links) e ≡ n
+    pub below : IsBelow states.leq (table (to_of (sys.links) e)) (along states suits sys e table)
+
+  -- so does each edge that is noted at a node
+  abbrev pub AreFollowed : NodeTable V → List (Option ℕ) → Type 0
+  AreFollowed table followed = (n e : ℕ) → n < sys.node_count → slice_index_or followed n None ≡ Some e
+      → IsFollowed table n e
