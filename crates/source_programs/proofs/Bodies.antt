@@ -14,7 +14,7 @@ use Rattle.program_laws.specs.region_cells.Written.{AreAllWritten}
 use Rattle.mutex_configs.specs.declared.nodes.ConfiguredGraph.{ConfiguredGraph}
 use Rattle.program_laws.specs.task_equations.Bodies.{Body}
 use Rattle.program_laws.specs.program_equations.Programs.{ProgramBodies, IsBodyIn, IsNumbered}
-use Rattle.source_programs.proofs.Lists.{lists_are_one, rising_pairs, rising_are_one}
+use Rattle.configured_laws.proofs.Lists.{lists_are_one, rising_pairs, rising_are_one}
 
 -- ## Live temporaries
 

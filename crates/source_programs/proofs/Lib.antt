@@ -1,9 +1,6 @@
 pub mod Accepted
 pub mod Analysing
 pub mod Bodies
-pub mod Configured
-pub mod LayoutAnswers
-pub mod Lists
 pub mod OneSource
 pub mod Programs
 pub mod Stations

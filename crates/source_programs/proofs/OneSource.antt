@@ -32,9 +32,10 @@ use Rattle.c_typing.proofs.low.typing_laws.SomeAnswer.{some_answer as some_typin
 use Rattle.source_programs.specs.Sources.{longest_source, main_in, TypesAs, IsLaidSource, IsAccepted, source_limit}
 use Rattle.source_programs.specs.Sources.{IsRefused, too_long, not_lexed, not_parsed, not_typed, not_laid, not_prepared}
 use Rattle.source_programs.specs.Laws.{NoneIsBoth, OneProgram, AreSyntaxErrors, OneRefusal, SomeSource}
-use Rattle.source_programs.proofs.Lists.{ascending_are_one}
-use Rattle.source_programs.proofs.Configured.{AreAlike, as_many, alike_at}
-use Rattle.source_programs.proofs.LayoutAnswers.{counts, edges_at, nodes_at, alike, not_both, one_refused}
+use Rattle.configured_laws.proofs.Lists.{ascending_are_one}
+use Rattle.configured_laws.specs.Laws.{AreAlike}
+use Rattle.configured_laws.proofs.ConfiguredAlike.{as_many, alike_at}
+use Rattle.configured_laws.proofs.OneProgram.{counts, edges_at, nodes_at, alike, not_both, one_refused}
 use Rattle.source_programs.proofs.Programs.{programs_are_one}
 
 from_err : {A : Type 0} {r s : Refusal}

@@ -12,7 +12,7 @@ use Rattle.program_laws.specs.task_equations.Bodies.{Body}
 use Rattle.program_laws.specs.program_equations.Programs.{ProgramBodies, body_at, no_body, IsProgramOf}
 use Rattle.source_programs.specs.Laws.{ProgramsAreOne}
 use Rattle.source_programs.proofs.Bodies.{body_is_one}
-use Rattle.source_programs.proofs.Configured.{some_graph}
+use Rattle.configured_laws.proofs.ConfiguredAlike.{some_graph}
 
 -- a configured graph without nodes and copies
 no_nodes : {K : Type 0} → HashSet K (BuildHasherDefault FoldHasher)

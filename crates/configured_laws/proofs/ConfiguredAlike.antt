@@ -1,21 +1,22 @@
 -- Graphs have one answer: their configured graphs, or the first limit that these exceed.
-use Rattle.std.specs.Prelude.{◌≡◌, ◌≢◌, ◌⊎◌, ℕ, zero, suc, ◌+◌, ◌*◌, ◌<◌, ◌≤◌, List, [], ◌∷◌, length, get_or, map}
+use Rattle.std.specs.Prelude.{◌≡◌, ◌≢◌, ◌⊎◌, ℕ, zero, suc, ◌+◌, ◌*◌, ◌<◌, ◌≤◌, List, [], ◌∷◌, length, get_or}
 use Rattle.std.specs.Prelude.{AllPairs, Contains}
 use Rattle.std.proofs.Common.{refl, sym, ap, ap₂, subst, ◌∙◌, inl, inr, arith}
 use Rattle.std.proofs.lemmas.Bool.{cases_lt}
 use Rattle.std.proofs.lemmas.List.{get_or_default}
 use Rattle.indexmap.proofs.IndexTableLemmas.Probe.{pigeonhole}
-use Rattle.tm_terms.specs.declared.refusals.Limit.TheVariants as Limits
-use Rattle.tm_terms.specs.Limits.{limit_number}
-use Rattle.tm_laid.specs.Layouts.{LaidTree}
-use Rattle.mutex_configs.specs.flow_graph.declared.graphs.Graph.{Graph}
-use Rattle.mutex_configs.specs.flow_graph.Graphs.{Edges}
-use Rattle.mutex_configs.specs.declared.nodes.ConfiguredNode.{ConfiguredNode}
-use Rattle.mutex_configs.specs.declared.nodes.ConfiguredGraph.{ConfiguredGraph}
-use Rattle.mutex_configs.specs.Nodes.{IsBefore, AreNodes, HasMoreNodes, all_copies, IsConfigured}
-use Rattle.mutex_configs.specs.Nodes.{entry_node}
-use Rattle.mutex_configs.specs.Programs.{seen_cells, work_from, AreConfigured}
-use Rattle.source_programs.proofs.Lists.{lists_are_one}
+use Rattle.program_graphs.specs.tm_terms.declared.refusals.Limit.TheVariants as Limits
+use Rattle.program_graphs.specs.tm_terms.Limits.{limit_number}
+use Rattle.program_graphs.specs.tm_laid.Layouts.{LaidTree}
+use Rattle.program_graphs.specs.flow_graph.declared.graphs.Graph.{Graph}
+use Rattle.program_graphs.specs.flow_graph.Graphs.{Edges}
+use Rattle.program_graphs.specs.mutex_configs.declared.nodes.ConfiguredNode.{ConfiguredNode}
+use Rattle.program_graphs.specs.mutex_configs.declared.nodes.ConfiguredGraph.{ConfiguredGraph}
+use Rattle.program_graphs.specs.mutex_configs.Nodes.{IsBefore, AreNodes, HasMoreNodes, all_copies, IsConfigured}
+use Rattle.program_graphs.specs.mutex_configs.Nodes.{entry_node}
+use Rattle.program_graphs.specs.mutex_configs.Programs.{seen_cells, work_from, AreConfigured}
+use Rattle.configured_laws.specs.Laws.{edges_of, AreAlike}
+use Rattle.configured_laws.proofs.Lists.{lists_are_one}
 
 -- ## Nodes
 
@@ -87,16 +88,6 @@ not_more g c most is few has =
 pub some_graph : (gs : List Graph) → 0 < length gs → Graph
 some_graph [] lt = absurd (omega (arith, lt))
 some_graph (g ∷ gs) lt = g
-
-abbrev pub edges_of : List Graph → List Edges
-edges_of gs = map (λ (g : Graph). g.edges.items) gs
-
--- the same nodes and the same copies
-abbrev pub AreAlike : List ConfiguredGraph → List ConfiguredGraph → Type 0
-AreAlike [] [] = Unit {0}
-AreAlike [] (d ∷ ds) = ⊥
-AreAlike (c ∷ cs) [] = ⊥
-AreAlike (c ∷ cs) (d ∷ ds) = (c.nodes.keys ≡ d.nodes.keys) × (c.copies.items ≡ d.copies.items) × AreAlike cs ds
 
 configured_is_one : (g : Edges) (c d : ConfiguredGraph) → IsConfigured g c → IsConfigured g d
     → (c.nodes.keys ≡ d.nodes.keys) × (c.copies.items ≡ d.copies.items)

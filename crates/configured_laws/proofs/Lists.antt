@@ -1,39 +1,48 @@
--- Lists in order that have the same elements are one list.
-use Rattle.std.specs.Prelude.{◌≡◌, ◌⊎◌, ℕ, zero, suc, ◌<◌, ℤ, ◌<ℤ◌, List, [], ◌∷◌, AllPairs, Contains}
+-- Lists, their first elements, and that lists in order that have the same elements are one list.
+use Rattle.std.specs.Prelude.{◌≡◌, ◌⊎◌, ℕ, zero, suc, ◌<◌, ℤ, ◌<ℤ◌, List, [], ◌∷◌, All, AllPairs, Contains}
 use Rattle.std.specs.List.Sorted.{IsStrictlyIncreasing}
 use Rattle.std.proofs.Common.{refl, sym, ap₂, subst, ◌∙◌, inl, inr, arith}
 use Rattle.std.proofs.lemmas.Int.{ints}
+use Rattle.std.proofs.lemmas.List.Elements.{Contains-get_or}
 use Rattle.std.proofs.lemmas.List.Kept.{AllPairs-from_increasing}
 
-module _ {X : Type 0} (R : X → X → Type 0) (one_way : (x y : X) → R x y → R y x → ⊥) where
+module _ {X : Type 0} where
   -- what stands in a list is its first element or stands behind it
-  first_or : (x : X) (xs : List X) (z : X) → Contains (x ∷ xs) z → (x ≡ z) ⊎ Contains xs z
+  pub first_or : (x : X) (xs : List X) (z : X) → Contains (x ∷ xs) z → (x ≡ z) ⊎ Contains xs z
   first_or x xs z (zero, lt, e) = inl e
   first_or x xs z (suc k, lt, e) = inr (k, omega (arith, lt), e)
 
-  behind : (x : X) (xs : List X) (z : X) → Contains xs z → Contains (x ∷ xs) z
+  pub behind : (x : X) (xs : List X) (z : X) → Contains xs z → Contains (x ∷ xs) z
   behind x xs z (k, lt, e) = (suc k, omega (arith, lt), e)
 
-  first : (x : X) (xs : List X) → Contains (x ∷ xs) x
+  pub first : (x : X) (xs : List X) → Contains (x ∷ xs) x
   first x xs = (0, omega arith, refl)
 
-  after : (x : X) (xs : List X) (z : X) → AllPairs R (x ∷ xs) → Contains xs z → R x z
+  pub none_in : (z : X) → Contains [] z → ⊥
+  none_in z (k, lt, e) = omega (arith, lt)
+
+  pub all_of : (P : X → Type 0) (xs : List X) → ((z : X) → Contains xs z → P z) → All P xs
+  all_of P xs h k d lt = h _ (Contains-get_or xs k d lt)
+
+module _ {X : Type 0} (R : X → X → Type 0) where
+  pub after : (x : X) (xs : List X) (z : X) → AllPairs R (x ∷ xs) → Contains xs z → R x z
   after x xs z pairs (k, lt, e) = subst (R x) e (pairs 0 (suc k) z (omega arith) (omega (arith, lt)))
 
-  rest : (x : X) (xs : List X) → AllPairs R (x ∷ xs) → AllPairs R xs
+  pub rest : (x : X) (xs : List X) → AllPairs R (x ∷ xs) → AllPairs R xs
   rest x xs pairs i j d lt within = pairs (suc i) (suc j) d (omega (arith, lt)) (omega (arith, within))
 
+module _ {X : Type 0} (R : X → X → Type 0) (one_way : (x y : X) → R x y → R y x → ⊥) where
   same_first : (x y : X) (xs ys : List X) → AllPairs R (x ∷ xs) → AllPairs R (y ∷ ys) → (y ≡ x) ⊎ Contains ys x
       → (x ≡ y) ⊎ Contains xs y → x ≡ y
   same_first x y xs ys h k (inl e) other = sym e
   same_first x y xs ys h k (inr c) (inl e) = e
-  same_first x y xs ys h k (inr c) (inr d) = absurd (one_way x y (after x xs y h d) (after y ys x k c))
+  same_first x y xs ys h k (inr c) (inr d) = absurd (one_way x y (after R x xs y h d) (after R y ys x k c))
 
   -- what stands behind the first element of the one stands behind that of the other
   goes_on : (x y z : X) (xs ys : List X) → x ≡ y → AllPairs R (x ∷ xs) → Contains xs z → (y ≡ z) ⊎ Contains ys z
       → Contains ys z
   goes_on x y z xs ys e h c (inl same) =
-      let own : R x z = after x xs z h c in
+      let own : R x z = after R x xs z h c in
       let there : R x x = subst (R x) (sym same ∙ sym e) own in
       absurd (one_way x x there there)
   goes_on x y z xs ys e h c (inr d) = d
@@ -47,7 +56,7 @@ module _ {X : Type 0} (R : X → X → Type 0) (one_way : (x y : X) → R x y �
       let same : x ≡ y =
       same_first x y xs ys h k (first_or y ys x (to x (first x xs))) (first_or x xs y (from y (first y ys))) in
       ap₂ (λ (a : X) (as' : List X). a ∷ as') same
-      (lists_are_one xs ys (rest x xs h) (rest y ys k)
+      (lists_are_one xs ys (rest R x xs h) (rest R y ys k)
       (λ z c. goes_on x y z xs ys same h c (first_or y ys z (to z (behind x xs z c))))
       (λ z c. goes_on y x z ys xs (sym same) k c (first_or x xs z (from z (behind y ys z c)))))
 

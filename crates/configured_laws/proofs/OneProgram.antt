@@ -2,21 +2,21 @@
 use Rattle.std.specs.Prelude.{◌≡◌, ℕ, ◌<◌, List, length, get_or, Ok, Err}
 use Rattle.std.proofs.Common.{sym, subst, ◌∙◌, inl, inr, arith}
 use Rattle.std.proofs.lemmas.List.{same_lists, get_or-map, length-map}
-use Rattle.tm_terms.specs.declared.refusals.Fail.TheVariants as Fails
-use Rattle.tm_terms.specs.declared.refusals.Limit.TheVariants as Limits
-use Rattle.tm_terms.specs.declared.refusals.Refusal.{Refusal}
-use Rattle.tm_terms.specs.Limits.{limit_number}
-use Rattle.tm_laid.specs.Layouts.{LaidTree}
-use Rattle.mutex_configs.specs.flow_graph.declared.graphs.Graph.{Graph}
-use Rattle.mutex_configs.specs.flow_graph.Graphs.{Edges}
+use Rattle.program_graphs.specs.tm_terms.declared.refusals.Fail.TheVariants as Fails
+use Rattle.program_graphs.specs.tm_terms.declared.refusals.Limit.TheVariants as Limits
+use Rattle.program_graphs.specs.tm_terms.declared.refusals.Refusal.{Refusal}
+use Rattle.program_graphs.specs.tm_terms.Limits.{limit_number}
+use Rattle.program_graphs.specs.tm_laid.Layouts.{LaidTree}
+use Rattle.program_graphs.specs.flow_graph.declared.graphs.Graph.{Graph}
+use Rattle.program_graphs.specs.flow_graph.Graphs.{Edges}
 use Rattle.program_graphs.specs.graph_builder.Lowered.{AreGraphs, HasTooManyNodes}
-use Rattle.mutex_configs.specs.declared.nodes.ConfiguredGraph.{ConfiguredGraph}
-use Rattle.mutex_configs.specs.Nodes.{HasMoreNodes}
-use Rattle.mutex_configs.specs.Programs.{AreConfigured, IsAnswer, work_from}
-use Rattle.mutex_configs.specs.Programs.{HasTooManyNodes as HaveTooManyNodes}
-use Rattle.program_graphs.specs.Prepared.{Graphed, IsPrepared}
-use Rattle.source_programs.proofs.Configured.{edges_of, some_graph, AreAlike, configured_alike, work_alike}
-use Rattle.source_programs.proofs.Configured.{none_has_more}
+use Rattle.program_graphs.specs.mutex_configs.declared.nodes.ConfiguredGraph.{ConfiguredGraph}
+use Rattle.program_graphs.specs.mutex_configs.Nodes.{HasMoreNodes}
+use Rattle.program_graphs.specs.mutex_configs.Programs.{AreConfigured, IsAnswer, work_from}
+use Rattle.program_graphs.specs.mutex_configs.Programs.{HasTooManyNodes as HaveTooManyNodes}
+use Rattle.configured_laws.specs.Laws.{edges_of, AreAlike, NeverBoth, OneLimit, ProgramsAreAlike}
+use Rattle.configured_laws.proofs.ConfiguredAlike.{some_graph, configured_alike, work_alike}
+use Rattle.configured_laws.proofs.ConfiguredAlike.{none_has_more}
 
 -- ## Graphs
 
@@ -105,17 +105,22 @@ module _ (laid : LaidTree) (gs hs : List Graph) (are : AreGraphs laid gs) (other
 -- ## Layouts
 
 -- a layout is not prepared and refused
-pub not_both : (laid : LaidTree) (p : Graphed) (r : Refusal) → IsPrepared laid (Ok p)
-    → IsPrepared laid (Err (Fails.Refused r)) → ⊥
+pub not_both : NeverBoth
 not_both laid p r (are, answer) (inl (e, big)) = none_too_big laid p.graphs are big
 not_both laid p r (are, answer) (inr more) =
     not_refused laid more.graphs p.graphs more.are are p.configured r answer more.beyond
 
 -- it has one refusal
-pub one_refused : (laid : LaidTree) (r s : Refusal) → IsPrepared laid (Err (Fails.Refused r))
-    → IsPrepared laid (Err (Fails.Refused s)) → r ≡ s
+pub one_refused : OneLimit
 one_refused laid r s (inl (e, big)) (inl (f, other)) = e ∙ sym f
 one_refused laid r s (inl (e, big)) (inr more) = absurd (none_too_big laid more.graphs more.are big)
 one_refused laid r s (inr more) (inl (f, big)) = absurd (none_too_big laid more.graphs more.are big)
 one_refused laid r s (inr more) (inr other) =
     one_limit laid more.graphs other.graphs more.are other.are r s more.beyond other.beyond
+
+-- and its program is one
+pub programs_alike : ProgramsAreAlike
+programs_alike laid p q a b = (
+  same_edges laid p.graphs q.graphs a.0 b.0,
+  alike laid p.graphs q.graphs a.0 b.0 p.configured q.configured a.1.0 b.1.0,
+)

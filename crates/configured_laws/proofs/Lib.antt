@@ -1,0 +1,13 @@
+pub mod Lists
+pub mod Choices
+pub mod InOrder
+pub mod Vectors
+pub mod Closures
+pub mod SomeLive
+pub mod SomeHeads
+pub mod SomeWritten
+pub mod SomeNodes
+pub mod FewEdges
+pub mod SomePrograms
+pub mod ConfiguredAlike
+pub mod OneProgram

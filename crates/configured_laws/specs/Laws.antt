@@ -1,0 +1,48 @@
+-- Each layout of a typed file has a program or exceeds a limit, and not both.
+use Rattle.std.specs.Prelude.{◌≡◌, ◌⊎◌, List, [], ◌∷◌, map, Ok, Err}
+use Rattle.program_graphs.specs.tm_terms.declared.refusals.Fail.TheVariants as Fails
+use Rattle.program_graphs.specs.tm_terms.declared.refusals.Limit.TheVariants as Limits
+use Rattle.program_graphs.specs.tm_terms.declared.refusals.Refusal.{Refusal}
+use Rattle.program_graphs.specs.tm_laid.Layouts.{LaidTree, beyond}
+use Rattle.program_graphs.specs.flow_graph.declared.graphs.Graph.{Graph}
+use Rattle.program_graphs.specs.flow_graph.Graphs.{Edges}
+use Rattle.program_graphs.specs.mutex_configs.declared.nodes.ConfiguredGraph.{ConfiguredGraph}
+use Rattle.program_graphs.specs.lowering_laws.LaidFiles.{IsLaidFile}
+use Rattle.program_graphs.specs.Prepared.{Graphed, IsPrepared}
+
+-- the layout has these graphs with their configured graphs
+abbrev pub IsProgram : LaidTree → Graphed → Type 0
+IsProgram laid p = IsPrepared laid (Ok p)
+
+-- the layout is refused for this reason
+abbrev pub IsBeyond : LaidTree → Refusal → Type 0
+IsBeyond laid r = IsPrepared laid (Err (Fails.Refused r))
+
+-- a layout has a program, or exceeds the limit of nodes or that of work
+abbrev pub SomeProgram : Type 0
+SomeProgram = (laid : LaidTree) → IsLaidFile laid
+    → ((p : Graphed) × IsProgram laid p) ⊎ (IsBeyond laid (beyond Limits.Nodes) ⊎ IsBeyond laid (beyond Limits.Work))
+
+-- one that has a program exceeds no limit
+abbrev pub NeverBoth : Type 0
+NeverBoth = (laid : LaidTree) (p : Graphed) (r : Refusal) → IsProgram laid p → IsBeyond laid r → ⊥
+
+-- it exceeds one limit
+abbrev pub OneLimit : Type 0
+OneLimit = (laid : LaidTree) (r s : Refusal) → IsBeyond laid r → IsBeyond laid s → r ≡ s
+
+abbrev pub edges_of : List Graph → List Edges
+edges_of gs = map (λ (g : Graph). g.edges.items) gs
+
+-- the same nodes and the same copies
+abbrev pub AreAlike : List ConfiguredGraph → List ConfiguredGraph → Type 0
+AreAlike [] [] = Unit {0}
+AreAlike [] (d ∷ ds) = ⊥
+AreAlike (c ∷ cs) [] = ⊥
+AreAlike (c ∷ cs) (d ∷ ds) = (c.nodes.keys ≡ d.nodes.keys) × (c.copies.items ≡ d.copies.items) × AreAlike cs ds
+
+-- and its program is one: the same edges, and the same configured graphs
+abbrev pub ProgramsAreAlike : Type 0
+ProgramsAreAlike =
+    (laid : LaidTree) (p q : Graphed) → IsProgram laid p → IsProgram laid q
+    → (edges_of p.graphs ≡ edges_of q.graphs) × AreAlike p.configured q.configured

@@ -1,0 +1,15 @@
+//! The laws. They speak of definitions alone: no call is made.
+ghost use Rattle.configured_laws.specs.Laws.{NeverBoth, OneLimit, ProgramsAreAlike, SomeProgram};
+
+/// The layout of a typed file has a program: the graph of each body with its configured graph. Or else it exceeds the
+/// limit of nodes, or that of work.
+pub fn some_program()
+    ensures { SomeProgram }
+{}
+
+/// No layout has a program and exceeds a limit; it exceeds one limit, or its program is one.
+pub fn one_answer()
+    ensures apart { NeverBoth }
+    ensures limit { OneLimit }
+    ensures program { ProgramsAreAlike }
+{}

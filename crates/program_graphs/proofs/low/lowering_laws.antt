@@ -1,0 +1,3 @@
+-- The crates below, passed on to those above.
+pub use Rattle.lowering_laws.proofs.GraphLaws
+pub use Rattle.lowering_laws.proofs.Ranges

@@ -1,0 +1,2 @@
+-- The crates below, passed on to those above.
+pub use Rattle.mutex_configs.proofs.Searching
