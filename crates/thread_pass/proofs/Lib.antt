@@ -2,6 +2,7 @@
 -- (WholePrograms), and bodies that are equal (SameBodies).
 mod SectionTables
 mod TaskTables
+mod Uses
 mod StartTables
 mod WholePrograms
 mod SameBodies

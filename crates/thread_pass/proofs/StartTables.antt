@@ -1,21 +1,21 @@
 -- Passes that go on from a table of an earlier pass.
-use Rattle.std.specs.Prelude.{◌≡◌, ℕ, zero, suc, ◌<◌, List, length, map, Bool, true, false, replicate, slice_index_or}
-use Rattle.std.specs.Prelude.{Option, refl}
+use Rattle.std.specs.Prelude.{◌≡◌, ℕ, ◌<◌, List, length, map, Bool, true, false, slice_index_or}
+use Rattle.std.specs.Prelude.{Option, Some, None, refl}
 use Rattle.std.proofs.Common.{sym, ap, subst, ◌∙◌}
-use Rattle.std.proofs.lemmas.Bool.{false≢true}
 use Rattle.interfere_set.specs.Stores.{Interferences, no_interference, joined_store}
 use Rattle.interfere_set.specs.laws.StoreLaws.{store_order, store_join, store_closure}
 use Rattle.program_equality.specs.transfer_rows.StateForms.{State}
 use Rattle.program_equality.specs.state_fits.laws.PlacesFit.{states_order, states_join}
-use Rattle.least_tables.specs.Systems.{IsLawfulSystem}
-use Rattle.least_tables.specs.Solutions.{NodeTable, at, IsNodewiseBelow, IsStarted, IsClosedTable}
-use Rattle.least_tables.specs.Solutions.{IsLeastAbove}
+use Rattle.cell_env.specs.tm_lattice.Tables.{IsBelow}
+use Rattle.least_tables.specs.Systems.{IsLawfulSystem, from_of, to_of}
+use Rattle.least_tables.specs.Solutions.{NodeTable, at, brought, IsNodewiseBelow, IsStarted, IsClosedTable}
+use Rattle.least_tables.specs.Solutions.{IsLeastAbove, IsMetOrPending}
 use Rattle.least_tables.specs.Solutions.{IsLeastSolution}
 use Rattle.least_tables.specs.Passes.{added_below}
 use Rattle.least_tables.specs.laws.WholeLeast as least
 use Rattle.least_tables.specs.laws.Closing as closing
 use Rattle.program_equality.specs.task_equations.Bodies.{Body, copy_at}
-use Rattle.program_equality.specs.task_equations.Equations.{equations_of, link_of, added_along}
+use Rattle.program_equality.specs.task_equations.Equations.{equations_of, link_of, after_along, added_along}
 use Rattle.program_equality.specs.program_equations.Programs.{ProgramBodies, body_at, IsProgram}
 use Rattle.program_equality.specs.program_equations.Systems.{states, stores, FitsBody, FitsProgram, task_entry}
 use Rattle.program_equality.specs.program_equations.Systems.{task_system}
@@ -30,17 +30,8 @@ use Rattle.program_equality.specs.program_equations.laws.Passing.{fitting}
 use Rattle.program_equality.specs.program_equations.laws.Sections.{section_is_least}
 use Rattle.program_equality.specs.program_equations.laws.Tables.{pass_is_one}
 use Rattle.thread_pass.specs.Analyses.{IsStartTable}
-
--- where all edges are pending, none is met yet
-pub all_pending : (pending : List Bool) (edges : ℕ) → pending ≡ replicate edges true → (e : ℕ)
-    → slice_index_or pending e true ≡ false → ⊥
-all_pending pending edges is e met =
-    false≢true (sym met ∙ ap (λ xs. slice_index_or xs e true) is ∙ all_true edges e)
-  where
-    all_true : (n k : ℕ) → slice_index_or (replicate n true) k true ≡ true
-    all_true zero k = refl
-    all_true (suc n) zero = refl
-    all_true (suc n) (suc k) = all_true n k
+use Rattle.thread_pass.specs.StoreUses.{reads_along}
+use Rattle.thread_pass.proofs.Uses.{mark_at, unread_along}
 
 module _ (p : ProgramBodies) (is : IsProgram p) (t : ℕ) (lt : t < p.tasks) (store : Interferences)
     (fits : FitsProgram p store) where
@@ -56,6 +47,10 @@ module _ (p : ProgramBodies) (is : IsProgram p) (t : ℕ) (lt : t < p.tasks) (st
 
   abbrev IsLeastOver : List (Option State) → Body → Option State → Interferences → Type 0
   IsLeastOver table b entry given = IsLeastSolution states (FitsBody b) (equations_of b entry given) (at table)
+
+  abbrev IsPendingOver : List (Option State) → List Bool → Body → Option State → Interferences → Type 0
+  IsPendingOver table reads b entry given =
+      IsMetOrPending states (FitsBody b) (equations_of b entry given) (at table) reads
 
   abbrev first : Option State
   first = task_entry p (least_section p) t
@@ -85,6 +80,27 @@ module _ (p : ProgramBodies) (is : IsProgram p) (t : ℕ) (lt : t < p.tasks) (st
         fits start.before_below start.before_least.least in
         warm.below
 
+    -- an edge that does not look into the store is met still
+    pending_here : (reads : List Bool) → (let b = body_at p t in reads ≡ map (reads_along b.edges) b.copies)
+        → IsPendingOver table reads (body_at p t) first store
+    pending_here reads is-reads e e-lt unset =
+        let before = program_is_lawful p is in
+        let law = before.system t start.before (least_section p) lt start.before_fits before.begins in
+        let closed = closing.least_is_closed states (FitsBody (body_at p t))
+        (task_system p (least_section p) start.before t) states_order states_join law (at table)
+        start.before_least.least in
+        let copies = (let b = body_at p t in b.copies) in
+        let quiet = mark_at (λ c. (let b = body_at p t in reads_along b.edges c)) copies e
+        (sym (ap (λ xs. slice_index_or xs e true) is-reads) ∙ unset) in
+        subst (λ x. IsBelow states.leq x (at table (to_of (map link_of copies) e)))
+        (same e quiet (at table (from_of (map link_of copies) e))) (closed.edges e e-lt)
+      where
+        same : (e : ℕ) → (let b = body_at p t in reads_along b.edges (copy_at b e) ≡ false) → (x : Option State)
+            → brought (λ s. (let b = body_at p t in after_along b start.before (copy_at b e) s)) x
+            ≡ brought (λ s. (let b = body_at p t in after_along b store (copy_at b e) s)) x
+        same e quiet None = refl
+        same e quiet (Some s) = unread_along (body_at p t) (copy_at (body_at p t) e) quiet s start.before store
+
     least_here : (last : List (Option State)) → IsClosedOver last (body_at p t) first store
         → IsAboveOver table last (body_at p t) first store → IsLeastOver last (body_at p t) first store
     least_here last closed above =
@@ -109,6 +125,10 @@ module _ (p : ProgramBodies) (is : IsProgram p) (t : ℕ) (lt : t < p.tasks) (st
 
       pub is_started : IsStarted states (FitsBody b) (equations_of b entry given) (at table)
       is_started = onto (IsStartedOver table) (started_here table start)
+
+      pub is_pending : (reads : List Bool) → (let x = body_at p t in reads ≡ map (reads_along x.edges) x.copies)
+          → IsMetOrPending states (FitsBody b) (equations_of b entry given) (at table) reads
+      is_pending reads is-reads = onto (IsPendingOver table reads) (pending_here table start reads is-reads)
 
       -- and where it ends, the table is the least
       module _ (last : List (Option State))

@@ -3,7 +3,7 @@ use Rattle.std.specs.Prelude.{◌≡◌, ℕ, ◌<◌, List, length, map, Option
 use Rattle.std.proofs.Common.{sym, ap, subst, ◌∙◌, arith}
 use Rattle.interfere_set.specs.Stores.{Interferences, no_interference, joined_store}
 use Rattle.program_equality.specs.transfer_rows.StateForms.{State}
-use Rattle.least_tables.specs.Solutions.{at, least_of, IsLeastSolution}
+use Rattle.least_tables.specs.Solutions.{at, IsLeastSolution}
 use Rattle.least_tables.specs.Passes.{added_below}
 use Rattle.program_equality.specs.task_equations.Bodies.{Body, copy_at}
 use Rattle.program_equality.specs.task_equations.Equations.{equations_of, link_of, added_along}
@@ -12,7 +12,7 @@ use Rattle.program_equality.specs.program_equations.Systems.{states, FitsBody, F
 use Rattle.program_equality.specs.program_equations.Systems.{pass_of}
 use Rattle.program_equality.specs.program_equations.laws.Sections.{section_is, section_is_least, entry_is_one}
 use Rattle.program_equality.specs.program_equations.laws.TaskEntries.{task_entry_fits}
-use Rattle.program_equality.specs.program_equations.laws.Tables.{least_pass_is}
+use Rattle.program_equality.specs.program_equations.laws.Tables.{pass_is_one}
 use Rattle.thread_pass.specs.Analyses.{IsSectionTable, IsLeastTable}
 
 module _ (p : ProgramBodies) (is : IsProgram p) where
@@ -46,13 +46,15 @@ module _ (p : ProgramBodies) (is : IsProgram p) where
           (subst (λ x. IsLeastSolution states (FitsBody x) (equations_of x entry given) (at table)) b-is least));
     }
 
-    abbrev added_by : Body → Option State → Interferences → Interferences
-    added_by x o s = added_below (map link_of x.copies) no_interference (λ k v. added_along x (copy_at x k) v) joined_store
-        (length (map link_of x.copies)) (least_of states (FitsBody x) (equations_of x o s))
+    abbrev added_by : List (Option State) → Body → Interferences
+    added_by table x = added_below (map link_of x.copies) no_interference (λ k v. added_along x (copy_at x k) v)
+        joined_store (length (map link_of x.copies)) (at table)
 
     -- what its edges add is the pass
-    pub added_is : (added : Interferences) → added ≡ added_by b entry given → added ≡ pass_of p t store
-    added_is added e =
-        e ∙ ap (λ x. added_by x entry given) b-is ∙ ap (λ o. added_by (body_at p t) o given) entry-is
-        ∙ ap (λ s. added_by (body_at p t) (task_entry p (least_section p) t) s) store-is
-        ∙ least_pass_is p is (least_section p) (section_is_least p is) t lt store fits
+    pub added_is : (table : List (Option State)) → length table ≡ length b.nodes
+        → IsLeastSolution states (FitsBody b) (equations_of b entry given) (at table)
+        → (added : Interferences) → added ≡ added_by table b → added ≡ pass_of p t store
+    added_is table count least added e =
+        e ∙ ap (added_by table) b-is
+        ∙ pass_is_one p is (least_section p) (section_is_least p is) t lt store fits (at table)
+        (let found = table_is table count least in found.least)

@@ -1,4 +1,4 @@
--- What an analysis keeps (Analyses), and what a pass keeps for the next one (Kept).
+-- What an analysis keeps (Analyses), what a pass keeps for the next one (Kept), and which edges use the store (StoreUses).
 -- The crates below, passed on to those above.
 pub use Rattle.program_equality.specs.program_equations
 pub use Rattle.program_systems.specs as program_systems
@@ -7,4 +7,5 @@ pub use Rattle.flow_graph.specs.tm_laid
 pub use Rattle.program_equality.specs.transfer_rows
 pub mod Analyses
 pub mod Kept
+pub mod StoreUses
 pub mod laws

@@ -11,6 +11,7 @@ mod contributions;
 mod equality;
 mod kept;
 mod passes;
+mod store_uses;
 mod wholes;
 
 pub use analyses::{Analysis, SectionTable};

@@ -8,8 +8,9 @@ use crate::analyses::Analysis;
 use crate::contributions::joined_contributions;
 use crate::equality::is_same_program;
 use crate::kept::Kept;
+use crate::store_uses::{StoreUses, store_uses};
 use interfere_set::Store;
-use least_tables::{Equations, Pass, least_pass, settle};
+use least_tables::{Pass, least_table, settle};
 use program_systems::{BodyState, BodySystem, body_over_store};
 use std::alloc::Global;
 use std::sync::Arc;
@@ -31,12 +32,15 @@ pub fn local(
 {
     let entry = analysis.entries[task as usize].as_ref();
     let body = body_over_store(&analysis.program, &analysis.facts, task, entry, store);
-    let pass = least_pass(alloc, &BodySystem { body: &body })?;
-    Ok(pass)
+    let system = BodySystem { body: &body };
+    let uses = store_uses(alloc, analysis, task)?;
+    let table = least_table(alloc, &system)?;
+    let added = joined_contributions(alloc, &system, &table, &uses.adds)?;
+    Ok(Pass { table, added })
 }
 
 /// The same, begun from a least table of the task over a store that lies below this one: what rose since is all that
-/// is climbed. Condition: there is such a task, the store fits the program, and the table is such a table.
+/// is climbed, from the edges on that look into the store. Condition: there is such a task, the store fits the program, and the table is such a table.
 pub fn local_from(
     alloc: Global,
     analysis: &Analysis,
@@ -53,9 +57,9 @@ pub fn local_from(
     let entry = analysis.entries[task as usize].as_ref();
     let body = body_over_store(&analysis.program, &analysis.facts, task, entry, store);
     let system = BodySystem { body: &body };
-    let pending = vec![in alloc; true; system.links().len()]?;
-    let table = settle(alloc, &system, table, pending)?;
-    let added = joined_contributions(alloc, &system, &table)?;
+    let StoreUses { reads, adds } = store_uses(alloc, analysis, task)?;
+    let table = settle(alloc, &system, table, reads)?;
+    let added = joined_contributions(alloc, &system, &table, &adds)?;
     Ok(Pass { table, added })
 }
 

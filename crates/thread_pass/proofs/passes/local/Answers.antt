@@ -1,11 +1,19 @@
-use Rattle.std.proofs.Common.{◌<◌, subst, sym, ap, ◌∙◌, arith, length, None}
+use Rattle.std.proofs.Common.{◌≡◌, ◌<◌, subst, sym, ap, ◌∙◌, arith, length, map, None, IfSome}
 use Rattle.std.proofs.lemmas.List.{get_or_default}
 use Rattle.program_systems.specs.body_systems.Systems.{body_of}
-use Rattle.program_equality.specs.program_equations.Systems.{FitsProgram, pass_of}
+use Rattle.interfere_set.specs.Stores.{no_interference, joined_store}
+use Rattle.least_tables.specs.Solutions.{at}
+use Rattle.least_tables.specs.Passes.{added_below}
+use Rattle.program_equality.specs.task_equations.Bodies.{copy_at}
+use Rattle.program_equality.specs.task_equations.Equations.{link_of, added_along}
+use Rattle.program_equality.specs.program_equations.Programs.{body_at}
+use Rattle.program_equality.specs.program_equations.Systems.{FitsBody, FitsProgram, pass_of}
 use Rattle.program_systems.specs.ReadPrograms.{program_of}
 use Rattle.program_systems.specs.ProgramFacts.{program_with}
 use Rattle.program_systems.proofs.Bodies.{is_program}
 use Rattle.thread_pass.specs.Analyses.{IsLeastTable}
+use Rattle.thread_pass.specs.StoreUses.{AreUses}
+use Rattle.thread_pass.proofs.Uses.{adds_nothing, joined_nothing}
 use Rattle.thread_pass.proofs.TaskTables.{in_bodies, entry_fits, table_is, added_is}
 use Rattle.thread_pass.proofs.passes.local.Goals as goal
 
@@ -36,16 +44,15 @@ returns-clause-table c =
     let task : c.args.task < p.tasks = subst (λ v. c.args.task < v.tasks) (sym c.analysis.view_is) c.requires.task in
     let within : c.args.task < length inside.entries.items = omega (arith, task, c.analysis.invariant.count) in
     let over = c.body_over_store-body.result in
-    subst (λ v. IsLeastTable (program_of v) c.args.task c.args.store.now c.in_ok-pass.pass.table.items)
+    let entry = c.body_over_store-body.ensures.entry ∙ c.as_ref-entry.ensures.value ∙ c.index.ensures
+    ∙ get_or_default inside.entries.items c.args.task c.index.result.now None within
+    ∙ c.analysis.invariant.entries c.args.task within in
+    let fits = subst (λ v. FitsProgram (program_of v) c.args.store.now) (sym c.analysis.view_is) c.requires.fits in
+    subst (λ v. IsLeastTable (program_of v) c.args.task c.args.store.now c.in_ok-table.table.items)
     c.analysis.view_is
     (table_is p is c.args.task task (body_of over) over.entry c.args.store.now over.store
-    c.body_over_store-body.ensures.body
-    (c.body_over_store-body.ensures.entry ∙ c.as_ref-entry.ensures.value ∙ c.index.ensures
-    ∙ get_or_default inside.entries.items c.args.task c.index.result.now None within
-    ∙ c.analysis.invariant.entries c.args.task within)
-    c.body_over_store-body.ensures.store
-    (subst (λ v. FitsProgram (program_of v) c.args.store.now) (sym c.analysis.view_is) c.requires.fits)
-    c.in_ok-pass.pass.table.items c.in_ok-pass.ensures.nodes c.in_ok-pass.ensures.table)
+    c.body_over_store-body.ensures.body entry c.body_over_store-body.ensures.store fits
+    c.in_ok-table.table.items c.in_ok-table.ensures.nodes c.in_ok-table.ensures.least)
 
 pub returns-clause-added : goal.returns-clause-added
 returns-clause-added c =
@@ -55,12 +62,36 @@ returns-clause-added c =
     let task : c.args.task < p.tasks = subst (λ v. c.args.task < v.tasks) (sym c.analysis.view_is) c.requires.task in
     let within : c.args.task < length inside.entries.items = omega (arith, task, c.analysis.invariant.count) in
     let over = c.body_over_store-body.result in
-    added_is p is c.args.task task (body_of over) over.entry c.args.store.now over.store
-    c.body_over_store-body.ensures.body
-    (c.body_over_store-body.ensures.entry ∙ c.as_ref-entry.ensures.value ∙ c.index.ensures
+    let entry = c.body_over_store-body.ensures.entry ∙ c.as_ref-entry.ensures.value ∙ c.index.ensures
     ∙ get_or_default inside.entries.items c.args.task c.index.result.now None within
-    ∙ c.analysis.invariant.entries c.args.task within)
-    c.body_over_store-body.ensures.store
-    (subst (λ v. FitsProgram (program_of v) c.args.store.now) (sym c.analysis.view_is) c.requires.fits)
-    c.in_ok-pass.pass.added c.in_ok-pass.ensures.added
+    ∙ c.analysis.invariant.entries c.args.task within in
+    let fits = subst (λ v. FitsProgram (program_of v) c.args.store.now) (sym c.analysis.view_is) c.requires.fits in
+    let b = body_of over in
+    added_is p is c.args.task task (body_of over) over.entry c.args.store.now over.store
+    c.body_over_store-body.ensures.body entry c.body_over_store-body.ensures.store fits
+    c.in_ok-table.table.items c.in_ok-table.ensures.nodes c.in_ok-table.ensures.least
+    c.in_ok-added.added (c.in_ok-added.ensures ∙ ap (λ xs. added_below (map link_of b.copies) no_interference
+    (λ k v. added_along b (copy_at b k) v) joined_store (length (map link_of b.copies)) (at xs)) c.deref.ensures.value)
     ∙ ap (λ v. pass_of (program_of v) c.args.task c.args.store.now) c.analysis.view_is
+
+pub joined_contributions-requires-clause-nodes : goal.joined_contributions-requires-clause-nodes
+joined_contributions-requires-clause-nodes c κs = ap length c.deref.ensures.value ∙ c.in_ok-table.ensures.nodes
+
+pub joined_contributions-requires-clause-fits : goal.joined_contributions-requires-clause-fits
+joined_contributions-requires-clause-fits c κs =
+    let over = c.body_over_store-body.result in
+    let least = c.in_ok-table.ensures.least in
+    λ n lt. subst (λ xs. IfSome (at xs n) (FitsBody (body_of over) n)) (sym c.deref.ensures.value) (least.solves.fits n lt)
+
+pub joined_contributions-requires-clause-adds : goal.joined_contributions-requires-clause-adds
+joined_contributions-requires-clause-adds c κs = λ k lt quiet s.
+    let inside = c.analysis.inside in
+    let p = program_with inside.program inside.facts in
+    let over = c.body_over_store-body.result in
+    let uses = subst (λ v. AreUses (body_at (program_of v) c.args.task) c.in_ok-uses.uses.reads.items
+    c.in_ok-uses.uses.adds.items) (sym c.analysis.view_is) c.in_ok-uses.ensures in
+    adds_nothing (body_at p c.args.task) (body_of over) c.body_over_store-body.ensures.body c.deref-2.result.now
+    (c.deref-2.ensures.value ∙ uses.adders) k quiet s
+
+pub joined_contributions-requires-clause-neutral : goal.joined_contributions-requires-clause-neutral
+joined_contributions-requires-clause-neutral c κs = joined_nothing

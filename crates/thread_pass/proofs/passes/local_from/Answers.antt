@@ -10,9 +10,12 @@ use Rattle.program_equality.specs.program_equations.Systems.{FitsBody, FitsProgr
 use Rattle.program_systems.specs.ReadPrograms.{program_of}
 use Rattle.program_systems.specs.ProgramFacts.{program_with}
 use Rattle.program_systems.proofs.Bodies.{is_program}
+use Rattle.program_equality.specs.program_equations.Programs.{body_at}
 use Rattle.thread_pass.specs.Analyses.{IsLeastTable, IsStartTable}
+use Rattle.thread_pass.specs.StoreUses.{AreUses}
+use Rattle.thread_pass.proofs.Uses.{adds_nothing, joined_nothing}
 use Rattle.thread_pass.proofs.TaskTables.{in_bodies, entry_fits, table_is}
-use Rattle.thread_pass.proofs.StartTables.{all_pending, start_nodes, is_started, last_is_least, last_added}
+use Rattle.thread_pass.proofs.StartTables.{start_nodes, is_started, is_pending, last_is_least, last_added}
 use Rattle.thread_pass.proofs.passes.local_from.Goals as goal
 
 pub body_over_store-body-requires-clause-number : goal.body_over_store-body-requires-clause-number
@@ -69,9 +72,24 @@ settle-requires-clause-started c κs =
     c.body_over_store-body.ensures.body entry c.body_over_store-body.ensures.store c.args.table.items start
 
 pub settle-requires-clause-pending : goal.settle-requires-clause-pending
-settle-requires-clause-pending c κs = λ e within met.
-    absurd (all_pending c.in_ok-pending.pending.items (length c.links.result.now)
-    (c.in_ok-pending.ensures.items_if_clones_equal (λ y same. same)) e met)
+settle-requires-clause-pending c κs =
+    let inside = c.analysis.inside in
+    let p = program_with inside.program inside.facts in
+    let is = is_program inside.program inside.facts c.analysis.invariant.analysable c.analysis.invariant.facts in
+    let task : c.args.task < p.tasks = subst (λ v. c.args.task < v.tasks) (sym c.analysis.view_is) c.requires.task in
+    let within : c.args.task < length inside.entries.items = omega (arith, task, c.analysis.invariant.count) in
+    let over = c.body_over_store-body.result in
+    let entry = c.body_over_store-body.ensures.entry ∙ c.as_ref-entry.ensures.value ∙ c.index.ensures
+    ∙ get_or_default inside.entries.items c.args.task c.index.result.now None within
+    ∙ c.analysis.invariant.entries c.args.task within in
+    let fits = subst (λ v. FitsProgram (program_of v) c.args.store.now) (sym c.analysis.view_is) c.requires.fits in
+    let start = subst (λ v. IsStartTable (program_of v) c.args.task c.args.store.now c.args.table.items)
+    (sym c.analysis.view_is) c.requires.start in
+    let uses = subst (λ v. AreUses (body_at (program_of v) c.args.task) c.in_ok-reads.field-0.reads.items
+    c.in_ok-reads.field-0.adds.items) (sym c.analysis.view_is) c.in_ok-reads.ensures in
+    is_pending p is c.args.task task c.args.store.now fits (body_of over) over.entry over.store
+    c.body_over_store-body.ensures.body entry c.body_over_store-body.ensures.store c.args.table.items start
+    c.in_ok-reads.field-0.reads.items uses.readers
 
 pub joined_contributions-requires-clause-nodes : goal.joined_contributions-requires-clause-nodes
 joined_contributions-requires-clause-nodes c κs =
@@ -157,3 +175,16 @@ returns-clause-added c =
     (c.in_ok-added.ensures ∙ ap (λ xs. added_below (map link_of b.copies) no_interference
     (λ k v. added_along b (copy_at b k) v) joined_store (length (map link_of b.copies)) (at xs))
     c.deref.ensures.value))
+
+pub joined_contributions-requires-clause-adds : goal.joined_contributions-requires-clause-adds
+joined_contributions-requires-clause-adds c κs = λ k lt quiet s.
+    let inside = c.analysis.inside in
+    let p = program_with inside.program inside.facts in
+    let over = c.body_over_store-body.result in
+    let uses = subst (λ v. AreUses (body_at (program_of v) c.args.task) c.in_ok-reads.field-0.reads.items
+    c.in_ok-reads.field-0.adds.items) (sym c.analysis.view_is) c.in_ok-reads.ensures in
+    adds_nothing (body_at p c.args.task) (body_of over) c.body_over_store-body.ensures.body c.deref-2.result.now
+    (c.deref-2.ensures.value ∙ uses.adders) k quiet s
+
+pub joined_contributions-requires-clause-neutral : goal.joined_contributions-requires-clause-neutral
+joined_contributions-requires-clause-neutral c κs = joined_nothing
