@@ -104,7 +104,7 @@ module _ (P : Shape) (T : Tables P) (N : Source P) (shape : IsShaped P) (sol : I
   fault_spins : (a : Action P N.Object) (k : P.Class) → a ≡ a_fault k → a ≡ a_spins → ⊥
   fault_spins a k e f = cc
 
-  lock_spins : (a : Action P N.Object) (m : P.Mutex) → a ≡ a_lock m → a ≡ a_spins → ⊥
+  pub lock_spins : (a : Action P N.Object) (m : P.Mutex) → a ≡ a_lock m → a ≡ a_spins → ⊥
   lock_spins a m e f = cc
 
   unlock_spins : (a : Action P N.Object) (m : P.Mutex) → a ≡ a_unlock m → a ≡ a_spins → ⊥
@@ -189,16 +189,16 @@ module _ (P : Shape) (T : Tables P) (N : Source P) (shape : IsShaped P) (sol : I
         }),
       )
 
-  -- what a shared cell holds is an own value where any task stands, or stands in a weak entry
+  -- what a shared cell holds is an own value where any task stands, or stands in a weak entry of another one
   pub content_within : (C : World P N) (j : IsJudged C) (i : P.Task) (c : P.Cell) → P.shared (P.abstract_cell c)
-      → (v : P.Value) × (C.content c ≡ given v) × (T.own (j.world.situation i).node (P.abstract_cell c) v ⊎ ((k : P.Task) × (l : P.Held) × T.weak k l (P.abstract_cell c) v))
+      → (v : P.Value) × (C.content c ≡ given v) × (T.own (j.world.situation i).node (P.abstract_cell c) v ⊎ ((k : P.Task) × (l : P.Held) × (k ≡ i → ⊥) × T.weak k l (P.abstract_cell c) v))
   content_within C j i c shared = within ((j.invariant.good i).views c shared)
     where
       here : C.content c ≡ j.world.content c
       here = sym (j.image.content c)
 
-      within : IsViewed P T i (j.world.situation i).node (j.world.situation i).temps (P.abstract_cell c) (j.world.content c) (j.writers c) → (v : P.Value) × (C.content c ≡ given v) × (T.own (j.world.situation i).node (P.abstract_cell c) v ⊎ ((k : P.Task) × (l : P.Held) × T.weak k l (P.abstract_cell c) v))
+      within : IsViewed P T i (j.world.situation i).node (j.world.situation i).temps (P.abstract_cell c) (j.world.content c) (j.writers c) → (v : P.Value) × (C.content c ≡ given v) × (T.own (j.world.situation i).node (P.abstract_cell c) v ⊎ ((k : P.Task) × (l : P.Held) × (k ≡ i → ⊥) × T.weak k l (P.abstract_cell c) v))
       within (inl f) =
           let entry : IsEntry P T f.write (P.abstract_cell c) (j.world.content c) = j.invariant.entries c shared f.write f.is in
-          (entry.value, here ∙ entry.is, inr (f.write.by, f.write.under, entry.entered))
+          (entry.value, here ∙ entry.is, inr (f.write.by, f.write.under, f.other, entry.entered))
       within (inr k) = (k.value, here ∙ k.is, inl k.own)

@@ -17,3 +17,4 @@ pub mod Top
 pub mod MainRows
 pub mod Configured
 pub mod Tasks
+pub mod Known

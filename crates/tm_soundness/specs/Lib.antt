@@ -12,3 +12,4 @@ pub mod Listing
 pub mod Numbered
 pub mod Configured
 pub mod WholeWorlds
+pub mod Known

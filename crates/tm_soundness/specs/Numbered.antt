@@ -9,6 +9,7 @@ use Rattle.tm_soundness.specs.Worlds.{Action, Source, World, IsReached}
 use Rattle.tm_soundness.specs.Section.{Section, alone}
 use Rattle.tm_soundness.specs.WholeWorlds.{WholeWorld, IsWholeReached}
 use Rattle.tm_soundness.specs.Listing.{IsAnalysed, IsKept, AreAnalysed, ListsAll}
+use Rattle.tm_soundness.specs.Known.{IsKnown, IsWholeKnown}
 
 -- the tasks of a program that has n
 abbrev pub TaskOf : ℕ → Type 0
@@ -252,3 +253,28 @@ ListsEveryError p a s n x b o =
     (memory : ℕ → Content ℕ) (main_temps : ℕ → ℕ) (temps : P.Task → ℕ → ℕ)
     → AreAnalysed P T N X U O memory main_temps temps
     → (w : WholeWorld P N X O) → IsWholeReached P N X O memory w → ListsAll P T N X U O w
+
+-- of every reached world it is known where its tasks stand, that the invariant holds there, what is requested, and what
+-- cells hold
+abbrev pub KnowsEveryWorld : (p : Program) → Answer → Entries p → Interpreter (shape_of p) → Type 0
+KnowsEveryWorld p a s n =
+    let P = shape_of p in
+    let T = tables_of p a s in
+    let N = source_of P n in
+    (memory : ℕ → Content ℕ) (temps : P.Task → ℕ → ℕ) → IsAnalysed P T N memory temps
+    → (C : World P N) → IsReached P N memory C → IsKnown P T N memory temps C
+
+-- the same with an initial section
+abbrev pub KnowsEveryWholeWorld : (p : Program) → Answer → Entries p → Interpreter (shape_of p) → (x : Main) → Answer
+    → Interpreter (alone (shape_of p) (section_of p x)) → Type 0
+KnowsEveryWholeWorld p a s n x b o =
+    let P = shape_of p in
+    let T = tables_of p a s in
+    let N = source_of P n in
+    let X = section_of p x in
+    let U = main_tables p x b in
+    let O = source_of (alone P X) o in
+    (memory : ℕ → Content ℕ) (main_temps : ℕ → ℕ) (temps : P.Task → ℕ → ℕ)
+    → AreAnalysed P T N X U O memory main_temps temps
+    → (w : WholeWorld P N X O) → IsWholeReached P N X O memory w
+    → IsWholeKnown P T N X U O memory main_temps temps w
