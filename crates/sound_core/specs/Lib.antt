@@ -1,4 +1,5 @@
--- What the soundness of the report stands on (Sound).
+-- What the soundness of the report stands on (Sound), and what is known of each world that a run reaches (Known).
 -- The crates below, passed on to those above.
 pub use Rattle.sound_tables.specs.concrete_steps
 pub mod Sound
+pub mod Known

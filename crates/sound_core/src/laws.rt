@@ -1,18 +1,24 @@
 //! The law of the report.
-ghost use Rattle.std.specs.Prelude.{ℕ, ◌<◌, ◌≤◌, ◌^◌, List, length, Option};
+ghost use Rattle.std.specs.Prelude.{◌≡◌, ℕ, ◌<◌, ◌≤◌, ◌^◌, List, length, Option, Some, None};
 ghost use Rattle.sound_tables.specs.tm_cint.declared.Class.{Class};
 ghost use Rattle.sound_tables.specs.tm_terms.declared.places.Place.{Place};
 ghost use Rattle.sound_tables.specs.tm_laid.Layouts.{LaidTree};
-ghost use Rattle.sound_tables.specs.concrete_steps.Occurring.{Occurs};
+ghost use Rattle.sound_tables.specs.concrete_steps.Worlds.{World};
+ghost use Rattle.sound_tables.specs.concrete_steps.Occurring.{IsReached, Occurs};
 ghost use Rattle.sound_tables.specs.interfere_set.Stores.{Interferences};
 ghost use Rattle.sound_tables.specs.transfer_rows.StateForms.{State};
 ghost use Rattle.sound_tables.specs.program_equations.Programs.{ProgramBodies, IsProgram};
 ghost use Rattle.sound_tables.specs.program_equations.Solutions.{tables_of, IsPair};
 ghost use Rattle.sound_tables.specs.program_reports.Reports.{IsAlarm};
 ghost use Rattle.sound_addresses.specs.sound_runs.Programs.{first_memory};
+ghost use Rattle.sound_addresses.specs.sound_runs.Known.{IsKnownIn, IsPlainlyKnownIn};
+ghost use Rattle.sound_tables.specs.Programs.{parts_of};
+ghost use Rattle.sound_tables.specs.Memberships.{tables_of as members_of, section_tables};
+ghost use Rattle.sound_tables.specs.tm_soundness.Known.{Chain};
 ghost use Rattle.sound_tables.specs.Premises.{LaysCells, IsGraphOf};
 ghost use Rattle.sound_tables.specs.Starting.{IsStartMemory};
 ghost use Rattle.sound_core.specs.Sound.{IsProgramFrom};
+ghost use Rattle.sound_core.specs.Known.{WaitsFor, HasCircular, HoldsAllTold};
 
 /// The cells of a program's layout are laid out as its tables ask; and each of its graphs keeps what they
 /// ask. At the start cells of static storage hold their initial values, which lie within their objects, and local cells
@@ -32,4 +38,34 @@ pub fn errors_are_alarms()
         → length laid.objects ≤ 2 ^ 32 → (tables : List (List (Option State))) (store : Interferences)
         → IsPair p tables store → (class : Class) (place : Place) → Occurs laid class place
         → IsAlarm p (tables_of tables) (record { place = place; class = class }) }
+{}
+
+/// The concurrent invariant holds in every world that a run reaches, for every solution: of the initial section while
+/// it runs, where no task has left its start, and of the tasks after it, over what it has left.
+pub fn worlds_are_known()
+    ensures with_section { (laid : LaidTree) (p : ProgramBodies) → IsProgramFrom laid p → (is : IsProgram p)
+        → length laid.objects ≤ 2 ^ 32 → (tables : List (List (Option State))) (store : Interferences)
+        → IsPair p tables store → (main : ℕ) → laid.file.main ≡ Some main → (w : World) → IsReached laid w
+        → IsKnownIn laid (parts_of p) (members_of p (tables_of tables) store)
+        (section_tables p (tables_of tables)) w }
+    ensures plain { (laid : LaidTree) (p : ProgramBodies) → IsProgramFrom laid p → (is : IsProgram p)
+        → length laid.objects ≤ 2 ^ 32 → (tables : List (List (Option State))) (store : Interferences)
+        → IsPair p tables store → laid.file.main ≡ None → (w : World) → IsReached laid w
+        → IsPlainlyKnownIn laid (parts_of p) (members_of p (tables_of tables) store) w }
+{}
+
+/// Where tasks wait for each other in a circle, each of them asks for its mutex by a circular request of every
+/// solution.
+pub fn circles_are_requested()
+    ensures { (laid : LaidTree) (p : ProgramBodies) → IsProgramFrom laid p → (is : IsProgram p)
+        → length laid.objects ≤ 2 ^ 32 → (tables : List (List (Option State))) (store : Interferences)
+        → IsPair p tables store → (w : World) → IsReached laid w → (i : ℕ) → Chain (WaitsFor laid w) i i
+        → HasCircular p tables laid w i }
+{}
+
+/// What a cell of static storage holds in a world that a run reaches, every solution tells of its abstract cell.
+pub fn contents_are_told()
+    ensures { (laid : LaidTree) (p : ProgramBodies) → IsProgramFrom laid p → (is : IsProgram p)
+        → length laid.objects ≤ 2 ^ 32 → (tables : List (List (Option State))) (store : Interferences)
+        → IsPair p tables store → (w : World) → IsReached laid w → HoldsAllTold p tables store w }
 {}

@@ -4,8 +4,14 @@
 //! Two tasks store to `x` and hold no mutex. In the world in which both stand before their stores they race; in each
 //! solution both stores reach the abstract cell of `x` from nodes where nothing is held, so that both places are alarms
 //! of the class Race.
+//!
+//! On the way stand laws on every world that a run reaches: the concurrent invariant holds there, tasks that wait for
+//! each other in a circle stand at circular requests, and what cells hold is told by every solution.
 #![tactic(auto)]
 
 mod laws;
 
-pub use laws::{errors_are_alarms, foundations_are_kept};
+pub use laws::{
+    circles_are_requested, contents_are_told, errors_are_alarms, foundations_are_kept,
+    worlds_are_known,
+};

@@ -3,7 +3,7 @@
 -- a typed file (Layouts). Sets of mutexes (MutexSets), the actions of a task in a run as steps of the theorem's worlds
 -- (Moved, Acted), what worlds keep (Sizes, Starts), and why steps stop (Halted). All reached worlds are the theorem's
 -- (Imaged), and what occurs is listed (Listed), also without an initial section (WithoutSection), for
--- every analysis of a file (Programs).
+-- every analysis of a file (Programs). What is known of all reached worlds (Known).
 pub mod Ways
 pub mod Stood
 pub mod Lowered
@@ -20,4 +20,5 @@ pub mod Imaged
 pub mod Listed
 pub mod WithoutSection
 pub mod Programs
+pub mod Known
 pub mod low

@@ -58,7 +58,7 @@ module _ (laid : LaidTree) (graph : ℕ → Edges) (has : HasGraphs laid graph) 
       lowered (main_parts laid graph) (next laid) (read_lays_cells laid has.file) (λ i. running T (main_is_body f is))
 
   -- a local cell of the section is no task's
-  owned_apart : (y : ℕ) (i : TaskOf T) → IsOwned (read_layout laid) y T → IsOwned (read_layout laid) y (number_of T i) → ⊥
+  pub owned_apart : (y : ℕ) (i : TaskOf T) → IsOwned (read_layout laid) y T → IsOwned (read_layout laid) y (number_of T i) → ⊥
   owned_apart y i a b =
       let below = number_below T i in
       let same : Some a.path ≡ Some b.path = sym a.owner ∙ b.owner in

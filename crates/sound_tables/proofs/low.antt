@@ -1,2 +1,3 @@
 -- The crates below, passed on to those above.
+pub mod program_shape
 pub mod tm_laid
