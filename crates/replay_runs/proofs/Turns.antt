@@ -1,6 +1,6 @@
 -- A run so far, and one choice more.
-use Rattle.std.proofs.Common.{◌≡◌, ℕ, ◌+◌, refl, sym, ap, subst, ◌∙◌, List, [], ◌∷◌, Option, Some, None, arith, ◌⊎◌, inl, inr}
-use Rattle.std.specs.Prelude.{Contains}
+use Rattle.std.proofs.Common.{◌≡◌, ℕ, ◌+◌, refl, sym, ap, subst, ◌∙◌, List, [], ◌∷◌, Option, Some, None, Result, Ok, Err, arith, ◌⊎◌, inl, inr}
+use Rattle.std.specs.Prelude.{Contains, IfOk}
 use Rattle.tm_terms.specs.declared.places.Place.{Place}
 use Rattle.tm_laid.specs.Layouts.{LaidTree}
 use Rattle.concrete_steps.specs.declared.worlds.Choice.{Choice}
@@ -110,3 +110,35 @@ module _ (laid : LaidTree) (choices : List Choice) (places places' : List Place)
         only = λ p x. sure_now [] s p (adds.only p (is_set.only p x));
         ends = g ∙ s.ends;
       }
+
+-- ## In another name of the layout
+
+module _ (laid other : LaidTree) (same : other ≡ laid) (choices : List Choice) (places places' : List Place) (done : ℕ) (w : World) (tail : List Choice)
+    (s : IsSoFar laid choices places done w tail) (adds : AddsRaces other w places places') where
+  adds_there : AddsRaces laid w places places'
+  adds_there = subst (λ (l : LaidTree). AddsRaces l w places places') same adds
+
+  module _ (c : Choice) (rest : List Choice) (w' : World) (found : Option Ending) (k : tail ≡ c ∷ rest)
+      (e : found ≡ ended_by (done + 1) (step other w c).answer) where
+    s_there : IsSoFar laid choices places done w (c ∷ rest)
+    s_there = subst (λ (z : List Choice). IsSoFar laid choices places done w z) k s
+
+    e_there : found ≡ ended_by (done + 1) (step laid w c).answer
+    e_there = subst (λ (l : LaidTree). found ≡ ended_by (done + 1) (step l w c).answer) same e
+
+    pub goes_on_there : found ≡ None → w' ≡ (step other w c).world → IsSoFar laid choices places' (done + 1) w' rest
+    goes_on_there f g =
+        goes_on laid choices places places' done w adds_there c rest s_there w' found e_there f
+        (subst (λ (l : LaidTree). w' ≡ (step l w c).world) same g)
+
+    pub ends_there : (set : List Place) (ending given : Ending) → found ≡ Some ending → IsSetOf places' set → given ≡ ending → IsRun laid choices set given
+    ends_there set ending given f is_set g =
+        ends laid choices places places' done w adds_there c rest s_there set ending given found e_there f is_set g
+
+  pub ran_there : (set : List Place) (given : Ending) (all : ℕ) → tail ≡ [] → all ≡ done → IsSetOf places' set → given ≡ Ends.Ran all → IsRun laid choices set given
+  ran_there set given all none count is_set g =
+      ran laid choices places places' done w adds_there tail set given none s is_set (g ∙ ap Ends.Ran count)
+
+pub both_ok : {A E : Type 0} {P Q R : A → Type 0} (r : Result A E) → IfOk r P → IfOk r Q → ((a : A) → P a → Q a → R a) → IfOk r R
+both_ok (Ok a) p q f = f a p q
+both_ok (Err e) p q f = tt

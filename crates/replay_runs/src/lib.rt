@@ -8,4 +8,4 @@
 mod places;
 mod runs;
 
-pub use runs::{Run, run};
+pub use runs::{Run, run_by};

@@ -72,15 +72,16 @@ fn finished(places: Vec<Place>, ending: Ending) -> Result<Run, NoMemory>
 }
 
 /// The run of a program by these choices: one after the other, up to the first that is not allowed or stops it.
-pub fn run(alloc: Global, laid: &Laid, choices: &[Choice]) -> Result<Run, NoMemory>
+pub fn run_by(alloc: Global, laid: &Laid, choices: &[Choice]) -> Result<Run, NoMemory>
     requires { HasWorlds laid.now }
     ensures { IfOk result (λ run. IsRun (laid_tree laid.now) choices.now run.places.items run.ending) }
 {
     let mut world = World::start(alloc, laid)?;
     let mut places = Vec::new(alloc);
     for (done, choice) in choices.iter().enumerate() {
-        if let Some(ending) = turn(alloc, &mut world, &mut places, done + 1, *choice)? {
-            return finished(places, ending);
+        match turn(alloc, &mut world, &mut places, done + 1, *choice)? {
+            Some(ending) => return finished(places, ending),
+            None => {}
         }
     }
     push_races(alloc, &world, &mut places)?;

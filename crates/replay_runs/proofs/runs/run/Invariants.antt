@@ -1,9 +1,0 @@
-use Rattle.std.proofs.Common.{◌≡◌, drop}
-use Rattle.tm_laid.specs.Layouts.{laid_tree}
-use Rattle.concrete_worlds.specs.Views.{world_of}
-use Rattle.replay_runs.specs.reading.Turns.{IsSoFar}
-use Rattle.replay_runs.proofs.runs.run.Given as goal
-
-abbrev pub invariant-loop-done : goal.invariant-loop-done
-invariant-loop-done l =
-    (l.world.laid.now ≡ l.laid) × IsSoFar (laid_tree l.laid) l.choices l.places.items l.done (world_of l.world) (drop l.done l.choices)
