@@ -1,5 +1,5 @@
--- The choices of a replay: each line is `wake T` or `run T V`. A task T is a number of the command line; a value V is 1 to
--- 20 digits, with a minus sign before them or not.
+-- The choices of a replay: each line is `wake T` or `run T V`. A task T is a number of the command line; a value V is
+-- 1 to 20 digits, with a minus sign before them or not.
 use Rattle.std.specs.Prelude.{ℕ, ◌==◌, ℤ, pos, neg_ℤ, ◌&&◌, nat_le, nat_lt, Bool, List, [], ◌∷◌, length, take, drop}
 use Rattle.std.specs.Prelude.{codes, if◌then◌else◌, Option, Some, None, option_map, option_and_then}
 use Rattle.std.specs.Char.{is_ascii_digit}

@@ -1,5 +1,5 @@
--- The bytes of a replay are a source, then a line `#replay`, and behind it a line for each choice. A line ends at a byte
--- 10, or at the end of the bytes.
+-- The bytes of a replay are a source, then a line `#replay`, and behind it a line for each choice. A line ends at a
+-- byte 10, or at the end of the bytes.
 use Rattle.std.specs.Prelude.{ℕ, ◌==◌, ◌&&◌, Bool, true, List, [], ◌∷◌, codes, if◌then◌else◌}
 use Rattle.std.specs.Prelude.{Option, Some, None, option_map}
 use Rattle.std.specs.List.{before_first, after_first}

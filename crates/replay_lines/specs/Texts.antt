@@ -22,7 +22,8 @@ not_allowed_line choice = line_of (codes "notallowed " ++ decimal choice)
 -- stopped K LINE:COL CLASS
 abbrev pub stopped_line : ℕ → Class → Place → List ℕ
 stopped_line choice class place =
-    line_of (codes "stopped " ++ (decimal choice ++ (codes " " ++ (place_text place ++ (codes " " ++ class_text class)))))
+    line_of (codes "stopped " ++ (decimal choice ++ (codes " " ++ (place_text place ++ (codes " "
+    ++ class_text class)))))
 
 abbrev pub ending_line : Ending → List ℕ
 ending_line (Ran count) = ran_line count

@@ -1,6 +1,7 @@
 //! The text of a replay.
 ghost use Rattle.std.specs.Prelude.{◌≡◌, ◌++◌, IfOk, OnOk, string_bytes, length};
-ghost use Rattle.replay_lines.specs.Texts.{ending_line, not_allowed_line, race_line, ran_line, replay_text, stopped_line};
+ghost use Rattle.replay_lines.specs.Texts.{ending_line, not_allowed_line, race_line, ran_line, replay_text};
+ghost use Rattle.replay_lines.specs.Texts.{stopped_line};
 
 use crate::endings::Ending;
 use std::alloc::Global;
