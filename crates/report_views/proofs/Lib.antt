@@ -1,0 +1,3 @@
+pub mod ViewFound
+pub mod LogText
+pub mod ClassLines

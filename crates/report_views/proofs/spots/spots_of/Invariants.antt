@@ -1,0 +1,12 @@
+use Rattle.std.proofs.Common.{◌≡◌, List, ◌++◌, map, drop}
+use Rattle.std.specs.Prelude.{option_map}
+use Rattle.source_marks.specs.reading.Seen.{origin_seen}
+use Rattle.report_views.specs.Spots.{Spot, spots_of}
+use Rattle.report_views.specs.reading.Seen.{spot_seen}
+use Rattle.report_views.proofs.spots.spots_of.Given as goal
+
+abbrev pub invariant-loop-alarm : goal.invariant-loop-alarm
+invariant-loop-alarm l =
+    spots_of (map origin_seen l.origins) l.alarms
+    ≡ option_map (λ (rest : List Spot). map spot_seen l.spots.items ++ rest)
+    (spots_of (map origin_seen l.origins) (drop l.alarm-index l.alarms))

@@ -1,0 +1,8 @@
+pub mod Causes
+pub mod Lines
+pub mod Sarif
+pub mod Sentences
+pub mod Spots
+pub mod Summaries
+pub mod Views
+pub mod reading

@@ -1,0 +1,34 @@
+-- Alarms as compilers print them: a line FILE:LINE:COL: CLASS: SENTENCE for each, and then their number.
+use Rattle.std.specs.Prelude.{ℕ, ◌+◌, ◌/◌, ◌%◌, ◌==◌, ◌||◌, List, [], ◌∷◌, ◌++◌, length, nat_lt, codes, decimal, if◌then◌else◌}
+use Rattle.std.specs.List.{flat_map}
+use Rattle.tm_cint.specs.declared.Class.{Class}
+use Rattle.tm_terms.specs.Texts.{class_text, count_line, line_of}
+use Rattle.source_marks.specs.Names.{decoded}
+use Rattle.report_views.specs.Sentences.{sentence_text}
+use Rattle.report_views.specs.Spots.{Spot}
+
+-- a byte of a name as it is shown: one that would break a line, below 32 or 127, as `\` and three octal digits
+abbrev pub shown_byte : ℕ → List ℕ
+shown_byte b =
+    if nat_lt b 32 || b == 127 then 92 ∷ (48 + b / 64) ∷ (48 + b / 8 % 8) ∷ (48 + b % 8) ∷ []
+    else b ∷ []
+
+-- the name of a file as it is shown
+abbrev pub shown : List ℕ → List ℕ
+shown name = flat_map shown_byte name
+
+-- :LINE:COL and a colon and a blank
+abbrev pub place_in : Spot → List ℕ
+place_in spot = codes ":" ++ (decimal spot.line ++ (codes ":" ++ (decimal spot.col ++ codes ": ")))
+
+-- CLASS: SENTENCE
+abbrev pub class_line : Class → List ℕ
+class_line class = line_of (class_text class ++ (codes ": " ++ sentence_text class))
+
+-- FILE:LINE:COL: CLASS: SENTENCE
+abbrev pub spot_line : Spot → List ℕ
+spot_line spot = shown (decoded spot.name) ++ (place_in spot ++ class_line spot.class)
+
+-- a line for each alarm, and then their number
+abbrev pub lines_text : List Spot → List ℕ
+lines_text spots = flat_map spot_line spots ++ count_line (length spots)

@@ -1,0 +1,97 @@
+//! Why a report has no view.
+
+ghost use Rattle.std.specs.Prelude.{◌≡◌, ◌++◌, decimal, IfOk, string_bytes};
+ghost use Rattle.tm_terms.specs.Texts.{line_of, place_text};
+ghost use Rattle.report_views.specs.Causes.{broken_text, cause_text, outside_text};
+
+use std::alloc::{AllocError, Global};
+use tm_lattice::NoMemory;
+use tm_terms::Place;
+
+/// Why a report has no view.
+#[derive(Clone, Copy)]
+pub enum Cause {
+    /// The report has more than 67,108,864 bytes.
+    LongReport,
+    /// The report is no JSON.
+    NotJson,
+    /// The report is JSON, and not the value of a report.
+    NotReport,
+    /// The text has more than 1,048,576 bytes.
+    LongText,
+    /// The line of the text with this number, counted from 1, is a line mark that cannot be read.
+    BrokenMark(usize),
+    /// The alarm at this place of the text stands in no line of a file.
+    Outside(Place),
+}
+
+/// A text, and what stands behind it.
+fn joined(alloc: Global, text: &str, behind: &str) -> Result<String, AllocError>
+    ensures { IfOk result (λ both. string_bytes both ≡ text.now ++ behind.now) }
+{
+    let mut both = String::from_str(alloc, text)?;
+    both.push_str(behind)?;
+    Ok(both)
+}
+
+/// A number in a line.
+fn number_line(alloc: Global, number: usize) -> Result<String, AllocError>
+    ensures { IfOk result (λ text. string_bytes text ≡ line_of (decimal number)) }
+{
+    format!(in alloc; "{number}\n")
+}
+
+/// A place in words.
+fn place_words(alloc: Global, place: Place) -> Result<String, AllocError>
+    ensures { IfOk result (λ text. string_bytes text ≡ place_text place) }
+{
+    let line = place.line;
+    let col = place.col;
+    format!(in alloc; "{line}:{col}")
+}
+
+/// The line that tells of a broken mark.
+fn broken_line(alloc: Global, number: usize) -> Result<String, AllocError>
+    ensures { IfOk result (λ text. string_bytes text ≡ broken_text number) }
+{
+    let line = number_line(alloc, number)?;
+    let text = "refused: a line mark that cannot be read is line ";
+    joined(alloc, text, line.as_str())
+}
+
+/// The line that tells of an alarm outside the files.
+fn outside_line(alloc: Global, place: Place) -> Result<String, AllocError>
+    ensures { IfOk result (λ text. string_bytes text ≡ outside_text place) }
+{
+    let words = place_words(alloc, place)?;
+    let text = "refused: in no line of a file stands the alarm at ";
+    let told = joined(alloc, text, words.as_str())?;
+    joined(alloc, told.as_str(), "\n")
+}
+
+/// A cause in words.
+fn said(alloc: Global, cause: Cause) -> Result<String, AllocError>
+    ensures { IfOk result (λ text. string_bytes text ≡ cause_text cause) }
+{
+    match cause {
+        Cause::LongReport => String::from_str(alloc, "refused: the report is too long\n"),
+        Cause::NotJson => String::from_str(alloc, "refused: the report is no JSON\n"),
+        Cause::NotReport => String::from_str(
+            alloc,
+            "refused: the report is JSON, but no report of alarms\n",
+        ),
+        Cause::LongText => String::from_str(alloc, "refused: the text is too long\n"),
+        Cause::BrokenMark(number) => broken_line(alloc, number),
+        Cause::Outside(place) => outside_line(alloc, place),
+    }
+}
+
+/// The line that tells a cause.
+pub fn cause_line(alloc: Global, cause: Cause) -> Result<String, NoMemory>
+    ensures { IfOk result (λ text. string_bytes text ≡ cause_text cause) }
+{
+    match said(alloc, cause) {
+        Ok(text) => Ok(text),
+        Err(_) => Err(NoMemory),
+    }
+}
