@@ -2,20 +2,21 @@
 use Rattle.std.proofs.Common.{◌≡◌, ℕ, ◌<◌, ◌≤◌, List, [], ◌++◌, length, refl, sym, ◌∙◌, ap, subst, inl, inr, arith, length-append}
 use Rattle.std.proofs.lemmas.List.{append-nil}
 use Rattle.std.specs.Io.KnownBytes.{IsAtEnd, append_known, prepend_known}
-use Rattle.std.specs.Prelude.{◌⊎◌, ◌↔◌, false, IsTrue, Option, Some, None, Result, Ok, Err, IfOk}
+use Rattle.std.specs.Prelude.{◌⊎◌, Bool, Option, Some, None, Result, Ok, Err, IfOk}
+use Rattle.cmd_words.specs.declared.commands.AnalyseWords.{AnalyseWords}
+use Rattle.big_source.specs.GeneratedSources.{summary_text}
 use Rattle.tm_terms.specs.declared.alarms.Alarm.{Alarm}
 use Rattle.tm_terms.specs.declared.refusals.Refusal.{Refusal}
-use Rattle.tm_terms.specs.Texts.{report_text, refusal_text, usage_text}
-use Rattle.thread_pass.specs.program_equations.Programs.{ProgramBodies}
-use Rattle.source_programs.specs.Sources.{longest_source, IsAccepted, IsRefused, too_long, not_lexed, not_parsed}
+use Rattle.tm_terms.specs.Texts.{refusal_text}
+use Rattle.source_programs.specs.Sources.{longest_source, IsRefused, too_long, not_lexed, not_parsed}
 use Rattle.source_programs.specs.Sources.{not_typed, not_laid, not_prepared}
-use Rattle.source_programs.proofs.OneSource.{none_is_both}
 use Rattle.analyser.specs.declared.statuses.Status.{Status}
 use Rattle.analyser.specs.declared.statuses.Status.TheVariants.{NoAlarm, Alarms, Refused, Usage, ReadFault, WriteFault, NoMemory}
-use Rattle.analyser.specs.Answers.{Reports, HasAnswer, IsAnalyse, IsReadOut, MayGive, Answers, TakesNoMore, Told}
-use Rattle.analyser.specs.Statuses.{IsReported, IsStop, IsWhole}
-use Rattle.analyser.specs.reading.Replies.{GivesReport}
-use Rattle.analyser.specs.reading.Streams.{TakesFrontOf}
+use Rattle.analyser.specs.Answers.{Reports, WritesReport, HistoryFor, HasAnswer, HasSummary, IsGenerated}
+use Rattle.analyser.specs.Answers.{IsReadOut, Answers, TakesNoMore, Told, report_lines}
+use Rattle.analyser.specs.Statuses.{IsWhole}
+use Rattle.analyser.specs.reading.Replies.{TellsAlarms}
+use Rattle.analyser.specs.reading.Streams.{TakesFrontOf, Says, SaysNoMore}
 
 -- what an answer says is what it says of another fact that follows
 pub if_ok_by : {A E : Type 0} {P Q : A → Type 0} (r : Result A E) → IfOk r P → ((a : A) → P a → Q a) → IfOk r Q
@@ -26,33 +27,68 @@ pub if_ok_both : {A E : Type 0} {P P' Q : A → Type 0} (r : Result A E) → IfO
 if_ok_both (Ok a) h h' k = k a h h'
 if_ok_both (Err e) h h' k = tt
 
--- a report is answered by its lines
-pub report_answered : (bytes : List ℕ) (report : List Alarm) → Reports bytes report → (status : Status) (text : List ℕ)
-    → GivesReport report status text → HasAnswer bytes status text
-report_answered bytes report h NoAlarm text g =
-    (subst (Reports bytes) g.0 h, g.1 ∙ ap report_text g.0)
-report_answered bytes report h Alarms text g = (report, g.0, h, g.1)
-report_answered bytes report h Refused text g = absurd g
-report_answered bytes report h Usage text g = absurd g
-report_answered bytes report h ReadFault text g = absurd g
-report_answered bytes report h WriteFault text g = absurd g
-report_answered bytes report h NoMemory text g = absurd g
+-- a report is answered by its lines, behind those of a history
+pub report_answered : (w : AnalyseWords) (bytes : List ℕ) (report : List Alarm) (reports : Reports w.thresholds bytes report)
+    (lines : List ℕ) → HistoryFor w.history reports.program w.workers lines → (status : Status) (text : List ℕ)
+    → TellsAlarms report status → text ≡ lines ++ report_lines w.json report → HasAnswer w bytes status text
+report_answered w bytes report reports lines asked status text tells e =
+    by_status status (record { reports = reports; history = lines; asked = asked; is = e }) tells
+  where
+    by_status : (status : Status) → WritesReport w bytes report text → TellsAlarms report status
+        → HasAnswer w bytes status text
+    by_status NoAlarm h g = subst (λ r. WritesReport w bytes r text) g h
+    by_status Alarms h g = (report, g, h)
+    by_status Refused h g = absurd g
+    by_status Usage h g = absurd g
+    by_status ReadFault h g = absurd g
+    by_status WriteFault h g = absurd g
+    by_status NoMemory h g = absurd g
 
 -- a refusal is answered by its line
-pub refusal_answered : (bytes : List ℕ) (refusal : Refusal) → IsRefused bytes refusal → (status : Status) (text : List ℕ)
-    → status ≡ Refused → text ≡ refusal_text refusal → HasAnswer bytes status text
-refusal_answered bytes refusal h status text e f = subst (λ s. HasAnswer bytes s text) (sym e) (refusal, h, f)
+pub refusal_answered : (w : AnalyseWords) (bytes : List ℕ) (refusal : Refusal) → IsRefused bytes refusal
+    → (status : Status) (text : List ℕ) → status ≡ Refused → text ≡ refusal_text refusal → HasAnswer w bytes status text
+refusal_answered w bytes refusal h status text e f = subst (λ s. HasAnswer w bytes s text) (sym e) (refusal, h, f)
+
+-- the same of a generated source, and its two lines
+pub report_summarised : (source : List ℕ) (report : List Alarm) → Reports [] source report → (status : Status)
+    (text : List ℕ) → TellsAlarms report status → text ≡ summary_text source report → HasSummary source status text
+report_summarised source report h NoAlarm text g e =
+    (subst (Reports [] source) g h, e ∙ ap (summary_text source) g)
+report_summarised source report h Alarms text g e = (report, g, h, e)
+report_summarised source report h Refused text g e = absurd g
+report_summarised source report h Usage text g e = absurd g
+report_summarised source report h ReadFault text g e = absurd g
+report_summarised source report h WriteFault text g e = absurd g
+report_summarised source report h NoMemory text g e = absurd g
+
+pub refusal_summarised : (source : List ℕ) (refusal : Refusal) → IsRefused source refusal → (status : Status)
+    (text : List ℕ) → status ≡ Refused → text ≡ refusal_text refusal → HasSummary source status text
+refusal_summarised source refusal h status text e f = subst (λ s. HasSummary source s text) (sym e) (refusal, h, f)
+
+-- ---- an answer comes with a whole text
+
+pub answer_is_whole : (w : AnalyseWords) (bytes : List ℕ) (status : Status) (text : List ℕ) → HasAnswer w bytes status text → IsWhole status
+answer_is_whole w bytes NoAlarm text h = tt
+answer_is_whole w bytes Alarms text h = tt
+answer_is_whole w bytes Refused text h = tt
+answer_is_whole w bytes Usage text h = absurd h
+answer_is_whole w bytes ReadFault text h = absurd h
+answer_is_whole w bytes WriteFault text h = absurd h
+answer_is_whole w bytes NoMemory text h = absurd h
+
+pub summary_is_whole : (source : List ℕ) (status : Status) (text : List ℕ) → HasSummary source status text → IsWhole status
+summary_is_whole source NoAlarm text h = tt
+summary_is_whole source Alarms text h = tt
+summary_is_whole source Refused text h = tt
+summary_is_whole source Usage text h = absurd h
+summary_is_whole source ReadFault text h = absurd h
+summary_is_whole source WriteFault text h = absurd h
+summary_is_whole source NoMemory text h = absurd h
+
+pub generated_is_whole : (count : ℕ) (status : Status) (text : List ℕ) → IsGenerated count status text → IsWhole status
+generated_is_whole count status text h = subst IsWhole (sym h.0) tt
 
 -- ---- what a source has left, and what is read of it
-
-pub answer_is_whole : (bytes : List ℕ) (status : Status) (text : List ℕ) → HasAnswer bytes status text → IsWhole status
-answer_is_whole bytes NoAlarm text h = tt
-answer_is_whole bytes Alarms text h = tt
-answer_is_whole bytes Refused text h = tt
-answer_is_whole bytes Usage text h = absurd h
-answer_is_whole bytes ReadFault text h = absurd h
-answer_is_whole bytes WriteFault text h = absurd h
-answer_is_whole bytes NoMemory text h = absurd h
 
 longer_refused : (bytes more : List ℕ) (refusal : Refusal) → longest_source < length bytes → IsRefused bytes refusal → IsRefused (bytes ++ more) refusal
 longer_refused bytes more refusal h (too_long k) = too_long (omega (arith, length-append bytes more))
@@ -63,33 +99,76 @@ longer_refused bytes more refusal h (not_laid k l t e) = absurd (omega arith)
 longer_refused bytes more refusal h (not_prepared source e) =
     absurd (let k : length bytes ≤ longest_source = source.short in omega arith)
 
+-- a source that is too long has no report
+not_longer : (w : AnalyseWords) (bytes : List ℕ) (report : List Alarm) (text : List ℕ) → longest_source < length bytes
+    → WritesReport w bytes report text → ⊥
+not_longer w bytes report text long h =
+    let reports = h.reports in
+    let accepted = reports.accepted in
+    let source = accepted.source in
+    let short : length bytes ≤ longest_source = source.short in
+    omega (arith, long, short)
+
 -- a source that is too long has its answer already where only its front is known
-pub longer_answered : (bytes more : List ℕ) → longest_source < length bytes → (status : Status) (text : List ℕ) → HasAnswer bytes status text → HasAnswer (bytes ++ more) status text
-longer_answered bytes more long NoAlarm text h = absurd (let k : length bytes ≤ longest_source = h.0.accepted.source.short in omega arith)
-longer_answered bytes more long Alarms text h = absurd (let k : length bytes ≤ longest_source = h.2.accepted.source.short in omega arith)
-longer_answered bytes more long Refused text h = (h.0, longer_refused bytes more h.0 long h.1, h.2)
-longer_answered bytes more long Usage text h = absurd h
-longer_answered bytes more long ReadFault text h = absurd h
-longer_answered bytes more long WriteFault text h = absurd h
-longer_answered bytes more long NoMemory text h = absurd h
+pub longer_answered : (w : AnalyseWords) (bytes more : List ℕ) → longest_source < length bytes → (status : Status) (text : List ℕ) → HasAnswer w bytes status text → HasAnswer w (bytes ++ more) status text
+longer_answered w bytes more long NoAlarm text h = absurd (not_longer w bytes [] text long h)
+longer_answered w bytes more long Alarms text h = absurd (not_longer w bytes h.0 text long h.2)
+longer_answered w bytes more long Refused text h = (h.0, longer_refused bytes more h.0 long h.1, h.2)
+longer_answered w bytes more long Usage text h = absurd h
+longer_answered w bytes more long ReadFault text h = absurd h
+longer_answered w bytes more long WriteFault text h = absurd h
+longer_answered w bytes more long NoMemory text h = absurd h
 
--- the bytes of a source, of which at least these were read, and their answer
-pub record Known (left : Option (List ℕ)) (status : Status) (text : List ℕ) : Type 0 where
-  pub bytes : List ℕ
-  pub told : Told left bytes
-  pub has : HasAnswer bytes status text
+-- what a command may answer to the bytes that it reads: where they are too long, a front of them decides
+module _ (May : List ℕ → Status → List ℕ → Type 0)
+    (longer : (bytes more : List ℕ) → longest_source < length bytes → (status : Status) (text : List ℕ)
+    → May bytes status text → May (bytes ++ more) status text) where
+  -- the bytes of a source, of which at least these were read, and their answer
+  pub record Known (left : Option (List ℕ)) (status : Status) (text : List ℕ) : Type 0 where
+    pub bytes : List ℕ
+    pub told : Told left bytes
+    pub has : May bytes status text
 
-known_by : (bytes : List ℕ) (left' : Option (List ℕ)) (status : Status) (text : List ℕ) → IsAtEnd left' ⊎ (longest_source < length bytes) → HasAnswer bytes status text
-    → Known (prepend_known bytes left') status text
-known_by bytes None status text e h = record { bytes = bytes; told = tt; has = h }
-known_by bytes (Some more) status text (inl e) h =
-    record { bytes = bytes; told = ap (λ m. bytes ++ m) e ∙ append-nil bytes; has = h }
-known_by bytes (Some more) status text (inr long) h =
-    record { bytes = bytes ++ more; told = refl; has = longer_answered bytes more long status text h }
+  known_by : (bytes : List ℕ) (left' : Option (List ℕ)) (status : Status) (text : List ℕ)
+      → IsAtEnd left' ⊎ (longest_source < length bytes) → May bytes status text
+      → Known (prepend_known bytes left') status text
+  known_by bytes None status text e h = record { bytes = bytes; told = tt; has = h }
+  known_by bytes (Some more) status text (inl e) h =
+      record { bytes = bytes; told = ap (λ m. bytes ++ m) e ∙ append-nil bytes; has = h }
+  known_by bytes (Some more) status text (inr long) h =
+      record { bytes = bytes ++ more; told = refl; has = longer bytes more long status text h }
 
-pub known : (left : Option (List ℕ)) (bytes : List ℕ) (left' : Option (List ℕ)) (status : Status) (text : List ℕ) → left ≡ prepend_known bytes left'
-    → IsAtEnd left' ⊎ (longest_source < length bytes) → HasAnswer bytes status text → Known left status text
-known left bytes left' status text e k h = subst (λ l. Known l status text) (sym e) (known_by bytes left' status text k h)
+  pub known : (left : Option (List ℕ)) (bytes : List ℕ) (left' : Option (List ℕ)) (status : Status) (text : List ℕ)
+      → left ≡ prepend_known bytes left' → IsAtEnd left' ⊎ (longest_source < length bytes) → May bytes status text
+      → Known left status text
+  known left bytes left' status text e k h =
+      subst (λ l. Known l status text) (sym e) (known_by bytes left' status text k h)
+
+  -- the answer that was sent
+  pub sent_whole : (left taken taken' : Option (List ℕ)) (status result : Status) (text sent : List ℕ)
+      → Known left status text → sent ≡ text → result ≡ status → taken' ≡ append_known taken sent
+      → Answers May left taken taken' result
+  sent_whole left taken taken' status result text sent k e f h = record {
+    bytes = k.bytes;
+    told = k.told;
+    text = text;
+    may = subst (λ s. May k.bytes s text) (sym f) k.has;
+    appended = h ∙ ap (append_known taken) e;
+  }
+
+  pub sent_front : (left taken taken' : Option (List ℕ)) (status : Status) (text sent : List ℕ)
+      → Known left status text → sent ≡ text → TakesFrontOf sent taken taken' → TakesNoMore May left taken taken'
+  sent_front left taken taken' status text sent k e f = inr (record {
+    bytes = k.bytes;
+    told = k.told;
+    status = status;
+    text = text;
+    may = k.has;
+    front = f.front;
+    rest = f.rest;
+    split = sym e ∙ f.split;
+    appended = f.appended;
+  })
 
 read_out_by : (bytes : List ℕ) (left' : Option (List ℕ)) → IsAtEnd left' ⊎ (longest_source < length bytes) → IsReadOut (prepend_known bytes left') left'
 read_out_by bytes left' (inl e) = inl e
@@ -100,143 +179,24 @@ pub read_out : (left : Option (List ℕ)) (bytes : List ℕ) (left' : Option (Li
     → IsAtEnd left' ⊎ (longest_source < length bytes) → IsReadOut left left'
 read_out left bytes left' e k = subst (λ l. IsReadOut l left') (sym e) (read_out_by bytes left' k)
 
--- the answer that was sent
-pub sent_whole : (left taken taken' : Option (List ℕ)) (status result : Status) (text sent : List ℕ) → Known left status text → sent ≡ text
-    → result ≡ status → taken' ≡ append_known taken sent → Answers HasAnswer left taken taken' result
-sent_whole left taken taken' status result text sent k e f h = record {
-  bytes = k.bytes;
-  told = k.told;
-  text = text;
-  may = subst (λ s. HasAnswer k.bytes s text) (sym f) k.has;
-  appended = h ∙ ap (append_known taken) e;
-}
-
-pub sent_front : (left taken taken' : Option (List ℕ)) (status : Status) (text sent : List ℕ) → Known left status text → sent ≡ text
-    → TakesFrontOf sent taken taken' → TakesNoMore HasAnswer left taken taken'
-sent_front left taken taken' status text sent k e f = inr (record {
-  bytes = k.bytes;
-  told = k.told;
-  status = status;
-  text = text;
-  may = k.has;
-  front = f.front;
-  rest = f.rest;
-  split = sym e ∙ f.split;
-  appended = f.appended;
-})
-
 pub past_limit : (n m : ℕ) (left' : Option (List ℕ)) → n ≡ m → IsAtEnd left' ⊎ (longest_source < n) → IsAtEnd left' ⊎ (longest_source < m)
 past_limit n m left' e h = subst (λ k. IsAtEnd left' ⊎ (longest_source < k)) e h
 
--- ---- the answer to words
+-- ---- what is answered whatever the bytes are
 
-pub may_give : (words : List (List ℕ)) (bytes : List ℕ) → IsAnalyse words → (status : Status) (text : List ℕ) → HasAnswer bytes status text → MayGive words bytes status text
-may_give words bytes w NoAlarm text h = (w, h)
-may_give words bytes w Alarms text h = (w, h)
-may_give words bytes w Refused text h = (w, h)
-may_give words bytes w Usage text h = absurd h
-may_give words bytes w ReadFault text h = absurd h
-may_give words bytes w WriteFault text h = absurd h
-may_give words bytes w NoMemory text h = absurd h
+module _ (May : Status → List ℕ → Type 0) (taken taken' : Option (List ℕ)) (text sent : List ℕ) (e : sent ≡ text) where
+  pub said_whole : (status result : Status) → May status text → result ≡ status → taken' ≡ append_known taken sent
+      → Says May taken taken' result
+  said_whole status result may f h = record {
+    text = text;
+    may = subst (λ s. May s text) (sym f) may;
+    appended = h ∙ ap (append_known taken) e;
+  }
 
-pub words_answered : (words : List (List ℕ)) (left taken taken' : Option (List ℕ)) (status : Status) → IsAnalyse words → Answers HasAnswer left taken taken' status
-    → Answers (MayGive words) left taken taken' status
-words_answered words left taken taken' status w a = record {
-  bytes = a.bytes;
-  told = a.told;
-  text = a.text;
-  may = may_give words a.bytes w status a.text a.may;
-  appended = a.appended;
-}
-
-pub words_front : (words : List (List ℕ)) (left taken taken' : Option (List ℕ)) → IsAnalyse words → TakesNoMore HasAnswer left taken taken'
-    → TakesNoMore (MayGive words) left taken taken'
-words_front words left taken taken' w (inl e) = inl e
-words_front words left taken taken' w (inr a) = inr (record {
-  bytes = a.bytes;
-  told = a.told;
-  status = a.status;
-  text = a.text;
-  may = may_give words a.bytes w a.status a.text a.may;
-  front = a.front;
-  rest = a.rest;
-  split = a.split;
-  appended = a.appended;
-})
-
-told_some : (left : Option (List ℕ)) → (bytes : List ℕ) × Told left bytes
-told_some None = ([], tt)
-told_some (Some bytes) = (bytes, refl)
-
-pub usage_answered : (words : List (List ℕ)) (left taken taken' : Option (List ℕ)) (text : List ℕ) → (IsAnalyse words → ⊥) → text ≡ usage_text
-    → taken' ≡ append_known taken text → Answers (MayGive words) left taken taken' Usage
-usage_answered words left taken taken' text w e h =
-    let known = told_some left in
-    record { bytes = known.0; told = known.1; text = text; may = (w, e); appended = h }
-
-pub usage_front : (words : List (List ℕ)) (left taken taken' : Option (List ℕ)) (text : List ℕ) → (IsAnalyse words → ⊥) → text ≡ usage_text
-    → TakesFrontOf text taken taken' → TakesNoMore (MayGive words) left taken taken'
-usage_front words left taken taken' text w e f =
-    let known = told_some left in
-    inr (record { bytes = known.0; told = known.1; status = Usage; text = text; may = (w, e); front = f.front; rest = f.rest; split = f.split; appended = f.appended })
-
--- ---- a source has one answer
-
-told_bytes : (left : Option (List ℕ)) (known bytes : List ℕ) → left ≡ Some known → Told left bytes → known ≡ bytes
-told_bytes None known bytes e t = absurd (cc)
-told_bytes (Some b) known bytes e t = let f : b ≡ known = cc in sym f ∙ t
-
--- the statuses that an accepted source may come to
-accepted_comes : (bytes : List ℕ) (p : ProgramBodies) → IsAccepted bytes p → (status : Status) (text : List ℕ) → HasAnswer bytes status text → IsReported status
-accepted_comes bytes p a NoAlarm text h = inl refl
-accepted_comes bytes p a Alarms text h = inr refl
-accepted_comes bytes p a Refused text h = absurd (none_is_both bytes p h.0 a h.1)
-accepted_comes bytes p a Usage text h = absurd h
-accepted_comes bytes p a ReadFault text h = absurd h
-accepted_comes bytes p a WriteFault text h = absurd h
-accepted_comes bytes p a NoMemory text h = absurd h
-
-refused_comes : (bytes : List ℕ) (refusal : Refusal) → IsRefused bytes refusal → (status : Status) (text : List ℕ) → HasAnswer bytes status text → status ≡ Refused
-refused_comes bytes refusal r NoAlarm text h = absurd (none_is_both bytes h.0.program refusal h.0.accepted r)
-refused_comes bytes refusal r Alarms text h = absurd (none_is_both bytes h.2.program refusal h.2.accepted r)
-refused_comes bytes refusal r Refused text h = refl
-refused_comes bytes refusal r Usage text h = absurd h
-refused_comes bytes refusal r ReadFault text h = absurd h
-refused_comes bytes refusal r WriteFault text h = absurd h
-refused_comes bytes refusal r NoMemory text h = absurd h
-
-whole_or_stop : (status : Status) → IsWhole status ⊎ IsStop status
-whole_or_stop NoAlarm = inl tt
-whole_or_stop Alarms = inl tt
-whole_or_stop Refused = inl tt
-whole_or_stop Usage = inl tt
-whole_or_stop ReadFault = inr tt
-whole_or_stop WriteFault = inr tt
-whole_or_stop NoMemory = inr tt
-
-pub accepted_reported : (left taken taken' : Option (List ℕ)) (status : Status) → (IsWhole status → Answers HasAnswer left taken taken' status)
-    → (bytes : List ℕ) (p : ProgramBodies) → left ≡ Some bytes → IsAccepted bytes p → IsReported status ⊎ IsStop status
-accepted_reported left taken taken' status h bytes p e a = by_case (whole_or_stop status)
-  where
-    by_case : IsWhole status ⊎ IsStop status → IsReported status ⊎ IsStop status
-    by_case (inr s) = inr s
-    by_case (inl w) =
-        let f : bytes ≡ (h w).bytes = told_bytes left bytes (h w).bytes e (h w).told in
-        inl (accepted_comes (h w).bytes p (subst (λ b. IsAccepted b p) f a) status (h w).text (h w).may)
-
-pub refused_refused : (left taken taken' : Option (List ℕ)) (status : Status) → (IsWhole status → Answers HasAnswer left taken taken' status)
-    → (bytes : List ℕ) (refusal : Refusal) → left ≡ Some bytes → IsRefused bytes refusal → (status ≡ Refused) ⊎ IsStop status
-refused_refused left taken taken' status h bytes refusal e r = by_case (whole_or_stop status)
-  where
-    by_case : IsWhole status ⊎ IsStop status → (status ≡ Refused) ⊎ IsStop status
-    by_case (inr s) = inr s
-    by_case (inl w) =
-        let f : bytes ≡ (h w).bytes = told_bytes left bytes (h w).bytes e (h w).told in
-        inl (refused_comes (h w).bytes refusal (subst (λ b. IsRefused b refusal) f r) status (h w).text (h w).may)
-
-pub not_analyse : (words : List (List ℕ)) → IsTrue false ↔ IsAnalyse words → IsAnalyse words → ⊥
-not_analyse words h w = let no : IsTrue false = h.1 w in cc
-
-pub as_usage : (words : List (List ℕ)) (left taken taken' : Option (List ℕ)) (status : Status) → status ≡ Usage → Answers (MayGive words) left taken taken' Usage
-    → Answers (MayGive words) left taken taken' status
-as_usage words left taken taken' status e h = subst (Answers (MayGive words) left taken taken') (sym e) h
+  pub said_front : (status : Status) → May status text → TakesFrontOf sent taken taken' → SaysNoMore May taken taken'
+  said_front status may f = inr (record {
+    status = status;
+    text = text;
+    may = may;
+    sent = subst (λ s. TakesFrontOf s taken taken') e f;
+  })

@@ -8,7 +8,7 @@ use Rattle.source_programs.proofs.OneSource.{one_program}
 use Rattle.analyser.specs.Laws.{OneReport}
 
 pub one_report : OneReport
-one_report bytes a b h k =
-    one_least_report k.program a b (accepted_is_program bytes k.program k.accepted)
+one_report given bytes a b h k =
+    one_least_report k.program a b (accepted_is_program given bytes k.program k.accepted)
     (subst (λ (p : ProgramBodies). IsLeastReport p a)
-    (one_program bytes h.program k.program h.accepted k.accepted) h.least) k.least
+    (one_program given bytes h.program k.program h.accepted k.accepted) h.least) k.least

@@ -12,10 +12,10 @@ use Rattle.sound_core.specs.Sound.{IsProgramFrom}
 use Rattle.sound_core.proofs.Alarmed.{errors_alarm}
 use Rattle.analyser.specs.Answers.{ListsAll}
 
-module _ (bytes : List ℕ) (p : ProgramBodies) (a : IsAccepted bytes p) where
+module _ (given bytes : List ℕ) (p : ProgramBodies) (a : IsAccepted given bytes p) where
   comes_from : IsProgramFrom a.laid p
   comes_from = record {
-    file = accepted_is_laid bytes p a;
+    file = accepted_is_laid given bytes p a;
     graphs = a.graphed.graphs;
     configured = a.graphed.configured;
     marks = a.thresholds;
@@ -38,5 +38,5 @@ module _ (bytes : List ℕ) (p : ProgramBodies) (a : IsAccepted bytes p) where
       let least = h.least in
       let is = h.exact in
       (is.exact (record { place = place; class = class })).1
-      (errors_alarm a.laid p comes_from (accepted_is_program bytes p a) few pair.tables pair.store least.solution class
+      (errors_alarm a.laid p comes_from (accepted_is_program given bytes p a) few pair.tables pair.store least.solution class
       place occurs)

@@ -1,8 +1,16 @@
 -- What the program answers: which texts these words and bytes may give, with which status.
-use Rattle.std.specs.Prelude.{◌≡◌, ℕ, ◌<◌, ◌⊎◌, List, [], ◌∷◌, ◌++◌, length, map, codes, Option, IfSome}
-use Rattle.std.specs.Prelude.{Contains, String, string_bytes}
+use Rattle.std.specs.Prelude.{◌≡◌, ℕ, ◌<◌, ◌⊎◌, Bool, true, false, List, [], ◌∷◌, ◌++◌, length, Option, Some, None}
+use Rattle.std.specs.Prelude.{IfSome, Contains}
 use Rattle.std.specs.Io.KnownBytes.{append_known, IsAtEnd}
-use Rattle.std.specs.declared.alloc.Global.{Global as Heap}
+use Rattle.cmd_words.specs.declared.commands.AnalyseWords.{AnalyseWords}
+use Rattle.cmd_words.specs.declared.commands.Command.{Command}
+use Rattle.cmd_words.specs.declared.commands.Command.TheVariants.{Analyse, Replay, Generate, Demo}
+use Rattle.cmd_words.specs.declared.commands.DemoWords.{DemoWords}
+use Rattle.cmd_words.specs.Words.{command_of}
+use Rattle.report_json.specs.JsonReports.{json_text}
+use Rattle.store_core.specs.Histories.{Past}
+use Rattle.history_lines.specs.HistoryTexts.{history_text}
+use Rattle.big_source.specs.GeneratedSources.{source_text, summary_text}
 use Rattle.tm_terms.specs.tm_cint.declared.Class.{Class}
 use Rattle.tm_terms.specs.declared.alarms.Alarm.{Alarm}
 use Rattle.tm_terms.specs.declared.places.Place.{Place}
@@ -11,6 +19,8 @@ use Rattle.tm_terms.specs.Texts.{report_text, refusal_text, usage_text}
 use Rattle.thread_pass.specs.tm_laid.Layouts.{LaidTree}
 use Rattle.sound_core.specs.concrete_steps.Occurring.{Occurs}
 use Rattle.thread_pass.specs.program_equations.Programs.{ProgramBodies}
+use Rattle.thread_pass.specs.interfere_set.Stores.{Interferences}
+use Rattle.worker_solutions.specs.QuietHistories.{IsQuietHistory}
 use Rattle.source_programs.specs.Sources.{longest_source, IsAccepted, IsRefused}
 use Rattle.program_solutions.specs.LeastReports.{IsLeastReport}
 use Rattle.analyser.specs.declared.statuses.Status.{Status}
@@ -25,45 +35,130 @@ abbrev pub ListsAll : LaidTree → List Alarm → Type 0
 ListsAll laid report = (class : Class) (place : Place) → Occurs laid class place
     → Contains report (record { place = place; class = class })
 
--- the report of these bytes: that of the least solution of the program of which they are a source, in which each error
--- that occurs is listed
-pub record Reports (bytes : List ℕ) (report : List Alarm) : Type 0 where
+-- with these numbers given as thresholds, the report of these bytes: that of the least solution of the program of which
+-- they are a source, in which each error that occurs is listed
+pub record Reports (given bytes : List ℕ) (report : List Alarm) : Type 0 where
   pub program : ProgramBodies
-  pub accepted : IsAccepted bytes program
+  pub accepted : IsAccepted given bytes program
   pub least : IsLeastReport program report
   pub lists : (let a = accepted in ListsAll a.laid report)
-
--- ## Words
-
-abbrev pub texts_of : List (String Heap) → List (List ℕ)
-texts_of words = map (λ w. string_bytes w) words
-
--- the one word that is a command today
-abbrev pub IsAnalyse : List (List ℕ) → Type 0
-IsAnalyse words = words ≡ codes "analyse" ∷ []
-
--- ## Answers
 
 -- the report has an alarm
 abbrev pub HasAlarm : List Alarm → Type 0
 HasAlarm [] = ⊥
 HasAlarm (a ∷ report) = Unit {0}
 
+-- ## Histories
+
+-- the lines of a history of so many workers on a program that has come to its end
+pub record IsHistoryText (p : ProgramBodies) (workers : ℕ) (lines : List ℕ) : Type 0 where
+  pub past : Past Interferences
+  pub quiet : IsQuietHistory p workers past
+  pub are : lines ≡ history_text past
+
+-- the lines of a history, where one is asked for
+abbrev pub HistoryFor : Bool → ProgramBodies → ℕ → List ℕ → Type 0
+HistoryFor true p workers lines = IsHistoryText p workers lines
+HistoryFor false p workers lines = lines ≡ []
+
+-- ## Answers
+
+-- a report as JSON, or as plain text
+abbrev pub report_lines : Bool → List Alarm → List ℕ
+report_lines true report = json_text report
+report_lines false report = report_text report
+
+-- what `analyse` writes for a report: the lines of a history where they are asked for, and behind them the report's
+pub record WritesReport (w : AnalyseWords) (bytes : List ℕ) (report : List Alarm) (text : List ℕ) : Type 0 where
+  pub reports : Reports w.thresholds bytes report
+  pub history : List ℕ
+  pub asked : (let r = reports in HistoryFor w.history r.program w.workers history)
+  pub is : text ≡ history ++ report_lines w.json report
+
 -- The status and the text that the command `analyse` answers these bytes with.
-abbrev pub HasAnswer : List ℕ → Status → List ℕ → Type 0
-HasAnswer bytes NoAlarm text = Reports bytes [] × (text ≡ report_text [])
-HasAnswer bytes Alarms text =
-    (report : List Alarm) × HasAlarm report × Reports bytes report × (text ≡ report_text report)
-HasAnswer bytes Refused text = (refusal : Refusal) × IsRefused bytes refusal × (text ≡ refusal_text refusal)
-HasAnswer bytes Usage text = ⊥
-HasAnswer bytes ReadFault text = ⊥
-HasAnswer bytes WriteFault text = ⊥
-HasAnswer bytes NoMemory text = ⊥
+abbrev pub HasAnswer : AnalyseWords → List ℕ → Status → List ℕ → Type 0
+HasAnswer w bytes NoAlarm text = WritesReport w bytes [] text
+HasAnswer w bytes Alarms text = (report : List Alarm) × HasAlarm report × WritesReport w bytes report text
+HasAnswer w bytes Refused text = (refusal : Refusal) × IsRefused bytes refusal × (text ≡ refusal_text refusal)
+HasAnswer w bytes Usage text = ⊥
+HasAnswer w bytes ReadFault text = ⊥
+HasAnswer w bytes WriteFault text = ⊥
+HasAnswer w bytes NoMemory text = ⊥
+
+-- The status and the two lines that the command `demo` answers with: those of the generated source and its report.
+abbrev pub HasSummary : List ℕ → Status → List ℕ → Type 0
+HasSummary source NoAlarm text = Reports [] source [] × (text ≡ summary_text source [])
+HasSummary source Alarms text =
+    (report : List Alarm) × HasAlarm report × Reports [] source report × (text ≡ summary_text source report)
+HasSummary source Refused text = (refusal : Refusal) × IsRefused source refusal × (text ≡ refusal_text refusal)
+HasSummary source Usage text = ⊥
+HasSummary source ReadFault text = ⊥
+HasSummary source WriteFault text = ⊥
+HasSummary source NoMemory text = ⊥
+
+-- the status and the text that the command `generate` answers with
+abbrev pub IsGenerated : ℕ → Status → List ℕ → Type 0
+IsGenerated count status text = (status ≡ NoAlarm) × (text ≡ source_text count)
+
+-- the status and the text that words are answered with which are no command
+abbrev pub SaysUsage : Status → List ℕ → Type 0
+SaysUsage status text = (status ≡ Usage) × (text ≡ usage_text)
+
+-- ## Commands
+
+-- the text that may come with a status, for a command and these bytes; there is no `replay` today
+abbrev pub CommandGives : Option Command → List ℕ → Status → List ℕ → Type 0
+CommandGives None bytes status text = SaysUsage status text
+CommandGives (Some (Analyse w)) bytes status text = HasAnswer w bytes status text
+CommandGives (Some Replay) bytes status text = SaysUsage status text
+CommandGives (Some (Generate count)) bytes status text = IsGenerated count status text
+CommandGives (Some (Demo w)) bytes status text = HasSummary (source_text w.count) status text
 
 -- the text that may come with a status, for these words and bytes
 abbrev pub MayGive : List (List ℕ) → List ℕ → Status → List ℕ → Type 0
-MayGive words bytes Usage text = (IsAnalyse words → ⊥) × (text ≡ usage_text)
-MayGive words bytes status text = IsAnalyse words × HasAnswer bytes status text
+MayGive words = CommandGives (command_of words)
+
+-- the command is one of those that there are today: all but `replay`
+abbrev pub IsCommand : Option Command → Type 0
+IsCommand None = ⊥
+IsCommand (Some (Analyse w)) = Unit {0}
+IsCommand (Some Replay) = ⊥
+IsCommand (Some (Generate count)) = Unit {0}
+IsCommand (Some (Demo w)) = Unit {0}
+
+-- the command reads the source
+abbrev pub Reads : Option Command → Type 0
+Reads None = ⊥
+Reads (Some (Analyse w)) = Unit {0}
+Reads (Some Replay) = ⊥
+Reads (Some (Generate count)) = ⊥
+Reads (Some (Demo w)) = ⊥
+
+-- the bytes that a command answers for: all that the source has left, where it reads, or the generated text
+abbrev pub AnswersFor : Option Command → Option (List ℕ) → List ℕ → Type 0
+AnswersFor None left bytes = ⊥
+AnswersFor (Some (Analyse w)) left bytes = left ≡ Some bytes
+AnswersFor (Some Replay) left bytes = ⊥
+AnswersFor (Some (Generate count)) left bytes = ⊥
+AnswersFor (Some (Demo w)) left bytes = bytes ≡ source_text w.count
+
+-- a command accepts these bytes
+abbrev pub Accepts : Option Command → List ℕ → Type 0
+Accepts None bytes = ⊥
+Accepts (Some (Analyse w)) bytes = (p : ProgramBodies) × IsAccepted w.thresholds bytes p
+Accepts (Some Replay) bytes = ⊥
+Accepts (Some (Generate count)) bytes = ⊥
+Accepts (Some (Demo w)) bytes = (p : ProgramBodies) × IsAccepted [] bytes p
+
+-- a command has a refusal of these bytes
+abbrev pub Refuses : Option Command → List ℕ → Refusal → Type 0
+Refuses None bytes refusal = ⊥
+Refuses (Some (Analyse w)) bytes refusal = IsRefused bytes refusal
+Refuses (Some Replay) bytes refusal = ⊥
+Refuses (Some (Generate count)) bytes refusal = ⊥
+Refuses (Some (Demo w)) bytes refusal = IsRefused bytes refusal
+
+-- ## What is read and taken
 
 -- the source tells that it has these bytes left, or it tells nothing
 abbrev pub Told : Option (List ℕ) → List ℕ → Type 0

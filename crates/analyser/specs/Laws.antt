@@ -3,6 +3,6 @@ use Rattle.std.specs.Prelude.{◌≡◌, ℕ, List}
 use Rattle.tm_terms.specs.declared.alarms.Alarm.{Alarm}
 use Rattle.analyser.specs.Answers.{Reports}
 
--- a source has one report
+-- with the same thresholds given, a source has one report
 abbrev pub OneReport : Type 0
-OneReport = (bytes : List ℕ) (a b : List Alarm) → Reports bytes a → Reports bytes b → a ≡ b
+OneReport = (given bytes : List ℕ) (a b : List Alarm) → Reports given bytes a → Reports given bytes b → a ≡ b

@@ -12,7 +12,6 @@ mod output;
 mod replies;
 mod statuses;
 mod top;
-mod words;
 
 pub use statuses::Status;
 pub use top::analyse;

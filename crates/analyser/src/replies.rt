@@ -1,23 +1,120 @@
-//! The status and the text that go with the bytes of a source.
+//! The status and the text that a command answers with.
 
-ghost use Rattle.std.specs.Prelude.{◌≡◌, IfOk, string_bytes};
+ghost use Rattle.std.specs.Prelude.{◌≡◌, ◌≤◌, ◌++◌, IfOk, string_bytes};
+ghost use Rattle.big_source.specs.GeneratedSources.{source_text};
 ghost use Rattle.tm_terms.specs.Texts.{refusal_text};
-ghost use Rattle.analyser.specs.Answers.{HasAnswer};
-ghost use Rattle.analyser.specs.reading.Replies.{GivesReport};
+ghost use Rattle.thread_pass.specs.program_systems.ReadPrograms.{program_of};
+ghost use Rattle.analyser.specs.Answers.{HasAnswer, HasSummary, IsGenerated, report_lines};
+ghost use Rattle.analyser.specs.reading.Replies.{AreLines, IsFound, IsSolved, TellsAlarms};
 
 use crate::statuses::Status;
+use big_source::{big_source, summary};
+use cmd_words::{AnalyseWords, DemoWords};
+use history_lines::history_lines;
 use program_solutions::least_report;
+use report_json::report_json;
 use source_programs::source_program;
 use std::alloc::Global as Heap;
+use std::sync::Wait;
+use std::thread::Threads;
+use store_core::StoreCore;
 use thread_pass::Analysis;
+use tm_io::Gate;
 use tm_lattice::NoMemory;
 use tm_terms::{Fail, Refusal, Report, plain as plain_text, refusal_line};
+use worker_solutions::{WorkedOut, report_by_workers};
 
 /// A status and the whole text that goes with it.
 #[derive(Drop)]
 pub struct Reply {
     pub status: Status,
     pub text: String,
+}
+
+/// How a program is to be solved.
+#[derive(Clone, Copy)]
+pub struct Manner {
+    /// How many workers there are, from 1 to 16.
+    pub workers: u32,
+    /// Whether their history is asked for.
+    pub history: bool,
+}
+
+/// The report of a program.
+#[derive(Drop)]
+pub struct Solved {
+    pub report: Report,
+    /// The lines of the history, none where it is not asked for.
+    pub history: String,
+}
+
+/// What is found of the bytes of a source.
+#[derive(Drop)]
+pub enum Found {
+    /// They are accepted, and this is the report.
+    Reported(Solved),
+    /// They are refused.
+    Refused(Refusal),
+}
+
+/// The lines of the history of a core, where they are asked for.
+fn lines_of(alloc: Heap, core: &StoreCore<Analysis>, history: bool) -> Result<String, NoMemory>
+    ensures { IfOk result (λ lines. AreLines history core.now.past (string_bytes lines)) }
+{
+    if history {
+        history_lines(alloc, core.history())
+    } else {
+        Ok(String::new(alloc))
+    }
+}
+
+/// The report of a program. One worker whose history is not asked for passes the tasks in turn on the calling thread,
+/// which comes to an end; else workers share a store, and the gate is told of their passes.
+fn report_by<R: Threads + Wait + Sync, G: Gate>(
+    rt: &R,
+    alloc: Heap,
+    analysis: Analysis,
+    manner: Manner,
+    gate: &G,
+) -> Result<Solved, NoMemory>
+    requires some { 1 ≤ manner.workers }
+    requires most { manner.workers ≤ 16 }
+    ensures { IfOk result (IsSolved (program_of analysis) manner.workers manner.history) }
+{
+    if !manner.history && manner.workers == 1 {
+        let report = least_report(alloc, &analysis)?;
+        return Ok(Solved {
+            report,
+            history: String::new(alloc),
+        });
+    }
+    let WorkedOut { report, core } = report_by_workers(rt, alloc, analysis, manner.workers, gate)?;
+    let history = lines_of(alloc, &core, manner.history)?;
+    Ok(Solved { report, history })
+}
+
+/// What is found of the bytes of a source, with these numbers given as thresholds.
+fn report_of<R: Threads + Wait + Sync, G: Gate>(
+    rt: &R,
+    alloc: Heap,
+    bytes: &[u8],
+    given: &[u32],
+    manner: Manner,
+    gate: &G,
+) -> Result<Found, NoMemory>
+    requires some { 1 ≤ manner.workers }
+    requires most { manner.workers ≤ 16 }
+    ensures { IfOk result (IsFound given.now manner.workers manner.history bytes.now) }
+{
+    match source_program(alloc, bytes, given) {
+        Ok(program) => {
+            let analysis = Analysis::new(alloc, program)?;
+            let found = report_by(rt, alloc, analysis, manner, gate)?;
+            Ok(Found::Reported(found))
+        }
+        Err(Fail::Refused(refusal)) => Ok(Found::Refused(refusal)),
+        Err(Fail::NoMemory) => Err(NoMemory),
+    }
 }
 
 /// The line of a refusal.
@@ -32,30 +129,98 @@ fn refused(alloc: Heap, refusal: Refusal) -> Result<Reply, NoMemory>
     })
 }
 
-/// The lines of a report.
-fn reported(alloc: Heap, report: &Report) -> Result<Reply, NoMemory>
-    ensures { IfOk result (λ reply. GivesReport report.now.alarms.items reply.status (string_bytes reply.text)) }
+/// Whether the report has an alarm.
+fn report_status(report: &Report) -> Status
+    ensures { TellsAlarms report.now.alarms.items result }
 {
-    let text = plain_text(alloc, report)?;
-    let status = if report.alarms.is_empty() {
+    if report.alarms.is_empty() {
         Status::NoAlarm
     } else {
         Status::Alarms
-    };
-    Ok(Reply { status, text })
+    }
 }
 
-/// The answer to the bytes of a source.
-pub fn answer_to(alloc: Heap, bytes: &[u8]) -> Result<Reply, NoMemory>
-    ensures { IfOk result (λ reply. HasAnswer bytes.now reply.status (string_bytes reply.text)) }
+/// The lines of a report.
+fn lines_of_report(alloc: Heap, report: &Report, json: bool) -> Result<String, NoMemory>
+    ensures { IfOk result (λ text. string_bytes text ≡ report_lines json report.now.alarms.items) }
 {
-    match source_program(alloc, bytes) {
-        Ok(program) => {
-            let analysis = Analysis::new(alloc, program)?;
-            let report = least_report(alloc, &analysis)?;
-            reported(alloc, &report)
+    if json {
+        report_json(alloc, &report.alarms)
+    } else {
+        plain_text(alloc, report)
+    }
+}
+
+/// The lines of a report behind those of a history.
+fn whole_text(alloc: Heap, history: String, report: &Report, json: bool) -> Result<String, NoMemory>
+    ensures { IfOk result (λ text.
+        string_bytes text ≡ string_bytes history ++ report_lines json report.now.alarms.items) }
+{
+    let lines = lines_of_report(alloc, report, json)?;
+    let mut text = history;
+    text.push_str(lines.as_str())?;
+    Ok(text)
+}
+
+/// The answer of `analyse` to the bytes of a source.
+pub fn answer_to<R: Threads + Wait + Sync, G: Gate>(
+    rt: &R,
+    alloc: Heap,
+    asked: &AnalyseWords,
+    bytes: &[u8],
+    gate: &G,
+) -> Result<Reply, NoMemory>
+    requires some { 1 ≤ asked.now.workers }
+    requires most { asked.now.workers ≤ 16 }
+    ensures { IfOk result (λ reply. HasAnswer asked.now bytes.now reply.status (string_bytes reply.text)) }
+{
+    let manner = Manner {
+        workers: asked.workers,
+        history: asked.history,
+    };
+    match report_of(rt, alloc, bytes, asked.thresholds.as_slice(), manner, gate)? {
+        Found::Reported(Solved { report, history }) => {
+            let text = whole_text(alloc, history, &report, asked.json)?;
+            let status = report_status(&report);
+            Ok(Reply { status, text })
         }
-        Err(Fail::Refused(refusal)) => refused(alloc, refusal),
-        Err(Fail::NoMemory) => Err(NoMemory),
+        Found::Refused(refusal) => refused(alloc, refusal),
+    }
+}
+
+/// The answer of `generate`: the source with so many functions.
+pub fn generated(alloc: Heap, count: u32) -> Result<Reply, NoMemory>
+    ensures { IfOk result (λ reply. IsGenerated count reply.status (string_bytes reply.text)) }
+{
+    let text = big_source(alloc, count)?;
+    Ok(Reply {
+        status: Status::NoAlarm,
+        text,
+    })
+}
+
+/// The answer of `demo`: what is told of the source with so many functions, and of its report.
+pub fn summarised<R: Threads + Wait + Sync, G: Gate>(
+    rt: &R,
+    alloc: Heap,
+    asked: DemoWords,
+    gate: &G,
+) -> Result<Reply, NoMemory>
+    requires some { 1 ≤ asked.workers }
+    requires most { asked.workers ≤ 16 }
+    ensures { IfOk result (λ reply. HasSummary (source_text asked.count) reply.status (string_bytes reply.text)) }
+{
+    let source = big_source(alloc, asked.count)?;
+    let manner = Manner {
+        workers: asked.workers,
+        history: false,
+    };
+    match report_of(rt, alloc, source.as_bytes(), &[], manner, gate)? {
+        Found::Reported(Solved { report, history: _ }) => {
+            let text = summary(alloc, source.as_bytes(), &report)?;
+            let status = report_status(&report);
+            Ok(Reply { status, text })
+        }
+        Found::Refused(refusal) => refused(alloc, refusal),
     }
 }

@@ -8,7 +8,7 @@ use tm_terms::Fail as Refused;
 
 /// The analysis of a source, or its refusal.
 pub fn analysed(alloc: Global, source: &[u8]) -> Result<Analysis, Refused> {
-    match source_program(alloc, source) {
+    match source_program(alloc, source, &[]) {
         Ok(program) => match Analysis::new(alloc, program) {
             Ok(analysis) => Ok(analysis),
             Err(NoMemory) => Err(Refused::NoMemory),

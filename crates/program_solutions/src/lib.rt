@@ -14,6 +14,6 @@ mod tables;
 mod turns;
 
 pub use laws::least_reports_are_one;
-pub use program_reports::{BodyState, Checked, Solution, Table, recheck, recheck_in_order};
-pub use reports::least_report;
+pub use reports::{least_report, solution_report};
 pub use solutions::solution;
+pub use tables::{completed, copied_table};

@@ -1,9 +1,9 @@
 //! The tables of a pair.
 ghost use Rattle.std.specs.Prelude.{◌≡◌, ℕ, ◌<◌, [], length, IfOk};
 ghost use Rattle.store_limits.specs.program_equations.Solutions.{table_at};
-ghost use Rattle.thread_pass.specs.program_systems.ReadPrograms.{program_of};
-ghost use Rattle.program_reports.specs.post_recheck.Pairs.{lists_of};
-ghost use Rattle.program_solutions.specs.reading.Turns.{AreCompleted};
+ghost use Rattle.post_recheck.specs.program_systems.ReadPrograms.{program_of};
+ghost use Rattle.post_recheck.specs.Pairs.{lists_of};
+ghost use Rattle.program_solutions.specs.Tables.{AreCompleted};
 
 use program_reports::{BodyState, Table};
 use std::alloc::Global;
@@ -32,8 +32,8 @@ fn copied_state(alloc: Global, state: &Option<BodyState>) -> Result<Option<BodyS
     }
 }
 
-// An equal table.
-fn copied_table(alloc: Global, table: &[Option<BodyState>]) -> Result<Table, NoMemory>
+/// An equal table.
+pub fn copied_table(alloc: Global, table: &[Option<BodyState>]) -> Result<Table, NoMemory>
     ensures { IfOk result (λ copy. copy.items ≡ table.now) }
 {
     let mut copy = Vec::new(alloc);
@@ -43,8 +43,8 @@ fn copied_table(alloc: Global, table: &[Option<BodyState>]) -> Result<Table, NoM
     Ok(copy)
 }
 
-// The tables of the tasks, and then that of the initial section, where there is one.
-pub(crate) fn completed(
+/// The tables of the tasks, and then that of the initial section, where there is one.
+pub fn completed(
     alloc: Global,
     analysis: &Analysis,
     mut tables: Vec<Table>,

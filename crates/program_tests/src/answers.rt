@@ -3,11 +3,13 @@
 use analyser::analyse;
 use std::alloc::Global;
 use std::process::Abort;
+use std::sync::Wait;
 use std::test::Fail;
+use std::thread::Threads;
 use tm_io::{OpenGate, SureSink, SureSource};
 
 /// A source, the number with which the program ends on it, and the text that it writes.
-static SOURCES: [(&[u8], u8, &[u8]); 27] = [
+static SOURCES: [(&[u8], u8, &[u8]); 33] = [
     // Reports: one task.
     (b"", 0, b"alarms 0\n"),
     (
@@ -100,6 +102,16 @@ __task(1) void lo(void){__lock(m);x=0;x=1;__unlock(m);}",
     ),
     (b"char a[65537];", 2, b"1:8 refused NotConstant\n"),
     (b"char a[65536],b;", 2, b"refused Limit cells 65536\n"),
+    (b"char a[65536];", 0, b"alarms 0\n"),
+    (b"int x;\0", 2, b"1:7 refused Lexical\n"),
+    (b"int x=0x;", 2, b"1:7 refused Lexical\n"),
+    (b"int x='\\400';", 2, b"1:7 refused Lexical\n"),
+    (
+        b"int x=170141183460469231731687303715884105728;",
+        2,
+        b"1:7 refused Lexical\n",
+    ),
+    (b"__task(1) void t(void){", 2, b"1:23 refused Syntax\n"),
     // Declarations, conversions, loops and calls.
     (b"int x;int x;", 0, b"alarms 0\n"),
     (b"int x=2147483648;", 0, b"alarms 0\n"),
@@ -122,7 +134,7 @@ __task(1) void lo(void){__lock(m);x=0;x=1;__unlock(m);}",
 ];
 
 /// A front, a middle, how often it stands, a back, and the same of the source that these make: texts at the bounds.
-static LONG_SOURCES: [(&[u8], &[u8], usize, &[u8], u8, &[u8]); 9] = [
+static LONG_SOURCES: [(&[u8], &[u8], usize, &[u8], u8, &[u8]); 12] = [
     (b"", b" ", 1_048_576, b"", 0, b"alarms 0\n"),
     (
         b"",
@@ -134,6 +146,14 @@ static LONG_SOURCES: [(&[u8], &[u8], usize, &[u8], u8, &[u8]); 9] = [
     ),
     (b"", b";", 200_000, b"", 0, b"alarms 0\n"),
     (b"", b";", 200_001, b"", 2, b"refused Limit tokens 200000\n"),
+    (
+        b"",
+        b"(",
+        1_048_576,
+        b"",
+        2,
+        b"refused Limit tokens 200000\n",
+    ),
     (b"int x=", b"(", 201, b"", 2, b"1:207 refused Deep\n"),
     (
         b"void f(void){",
@@ -142,6 +162,22 @@ static LONG_SOURCES: [(&[u8], &[u8], usize, &[u8], u8, &[u8]); 9] = [
         b"",
         2,
         b"1:2498 refused Syntax\n",
+    ),
+    (
+        b"void f(void){}__task(1) void t(void){",
+        b"f();",
+        4_095,
+        b"}",
+        0,
+        b"alarms 0\n",
+    ),
+    (
+        b"void f(void){}__task(1) void t(void){",
+        b"f();",
+        4_096,
+        b"}",
+        2,
+        b"refused Limit paths 4096\n",
     ),
     (
         b"__task(1) void t(void){",
@@ -170,7 +206,7 @@ static LONG_SOURCES: [(&[u8], &[u8], usize, &[u8], u8, &[u8]); 9] = [
 ];
 
 /// The source has this answer.
-fn expect<R: Abort + Sync>(
+fn expect<R: Abort + Threads + Wait + Sync>(
     rt: &R,
     alloc: Global,
     source: Vec<u8>,

@@ -7,4 +7,10 @@
 #[cfg(test)]
 mod answers;
 #[cfg(test)]
+mod commands;
+#[cfg(test)]
 mod devices;
+#[cfg(test)]
+mod gates;
+#[cfg(test)]
+mod hostile;

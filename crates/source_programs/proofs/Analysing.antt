@@ -1,5 +1,5 @@
 -- The program of a typed file that is laid out can be analysed.
-use Rattle.std.specs.Prelude.{◌≡◌, ℕ, List, [], IfOk, Result, Ok, Err}
+use Rattle.std.specs.Prelude.{◌≡◌, ℕ, List, IfOk, Result, Ok, Err}
 use Rattle.std.proofs.Common.{sym, ap, subst}
 use Rattle.tm_terms.specs.declared.refusals.Fail.{Fail}
 use Rattle.tm_laid.specs.declared.layouts.Laid.{Laid}
@@ -14,12 +14,12 @@ use Rattle.program_laws.specs.program_systems.Analysable.{IsAnalysable}
 use Rattle.program_laws.proofs.AnalysablePrograms.{analysable}
 
 module _ (laid : Laid) (file : IsLaidFile (laid_tree laid))
-    (order : IsWholeOrder (lists laid.file.calls.items) laid.file.order.items) where
+    (order : IsWholeOrder (lists laid.file.calls.items) laid.file.order.items) (given : List ℕ) where
   pub program_analysable : (result : Result Program Fail) → IsPrepared (laid_tree laid) (answer_of result)
       → IfOk result (λ p. laid_tree p.laid ≡ laid_tree laid)
       → IfOk result (λ p. p.laid.file.order.items ≡ laid.file.order.items)
       → IfOk result (λ p. AreThresholds
-      (numbers_of laid.file.lengths.items laid.file.constants.items laid.file.labels.items []) p.marks)
+      (numbers_of laid.file.lengths.items laid.file.constants.items laid.file.labels.items given) p.marks)
       → IfOk result IsAnalysable
   program_analysable (Ok p) prepared same orders marks =
       let back : laid_tree laid ≡ laid_tree p.laid = sym same in
@@ -29,5 +29,5 @@ module _ (laid : Laid) (file : IsLaidFile (laid_tree laid))
       analysable p (subst IsLaidFile back file)
       (subst (λ (items : List ℕ). IsWholeOrder (lists p.laid.file.calls.items) items) (sym orders)
       (subst (λ (graph : List (List ℕ)). IsWholeOrder graph laid.file.order.items) calls order)) own.0 own.1
-      (numbers_of laid.file.lengths.items laid.file.constants.items laid.file.labels.items []) marks
+      (numbers_of laid.file.lengths.items laid.file.constants.items laid.file.labels.items given) marks
   program_analysable (Err fail) prepared same orders marks = tt

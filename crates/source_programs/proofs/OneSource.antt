@@ -1,5 +1,5 @@
 -- A source has one answer.
-use Rattle.std.specs.Prelude.{◌≡◌, ◌⊎◌, ℕ, ◌<◌, ◌≤◌, ℤ, List, [], length, get_or, Option, Some, None, Result, Ok, Err}
+use Rattle.std.specs.Prelude.{◌≡◌, ◌⊎◌, ℕ, ◌<◌, ◌≤◌, ℤ, List, length, get_or, Option, Some, None, Result, Ok, Err}
 use Rattle.std.proofs.Common.{refl, sym, ap, subst, ◌∙◌, inl, inr, arith}
 use Rattle.std.proofs.lemmas.Bool.{cases_lt}
 use Rattle.tm_terms.specs.declared.refusals.Fail.TheVariants as Fails
@@ -155,7 +155,7 @@ module _ (bytes : List ℕ) where
       never r (subst (λ l. IsPrepared l (Err (Fails.Refused r))) (sym (one_layout laid other h k)) p)
 
 pub none_is_both : NoneIsBoth
-none_is_both bytes p r a is = none bytes a.laid r a.source (λ s k. not_both a.laid a.graphed s a.prepared k) is
+none_is_both given bytes p r a is = none bytes a.laid r a.source (λ s k. not_both a.laid a.graphed s a.prepared k) is
 
 -- ## Programs
 
@@ -211,15 +211,15 @@ module _ (laid : LaidTree) (gs hs : List Graph) (cs ds : List ConfiguredGraph) (
           (of.bodies t g c lt)
 
 -- what is known of a program of a layout
-record IsMade (laid : LaidTree) (p : ProgramBodies) : Type 0 where
+record IsMade (given : List ℕ) (laid : LaidTree) (p : ProgramBodies) : Type 0 where
   graphed : Graphed
   prepared : IsPrepared laid (Ok graphed)
   thresholds : List ℤ
-  are : AreThresholds (numbers_of laid.file.lengths laid.file.constants laid.file.labels []) thresholds
+  are : AreThresholds (numbers_of laid.file.lengths laid.file.constants laid.file.labels given) thresholds
   is : IsProgramOf laid graphed.graphs graphed.configured thresholds p
 
-made : (bytes : List ℕ) (p : ProgramBodies) (a : IsAccepted bytes p) → IsMade a.laid p
-made bytes p a = record {
+made : (given bytes : List ℕ) (p : ProgramBodies) (a : IsAccepted given bytes p) → IsMade given a.laid p
+made given bytes p a = record {
   graphed = a.graphed;
   prepared = a.prepared;
   thresholds = a.thresholds;
@@ -227,8 +227,9 @@ made bytes p a = record {
   is = a.is;
 }
 
-one_made : (laid : LaidTree) (p q : ProgramBodies) → IsMade laid p → IsMade laid q → p ≡ q
-one_made laid p q a b =
+one_made : (given : List ℕ) (laid : LaidTree) (p q : ProgramBodies) → IsMade given laid p → IsMade given laid q
+    → p ≡ q
+one_made given laid p q a b =
     let same : a.thresholds ≡ b.thresholds = one_thresholds _ a.thresholds b.thresholds a.are b.are in
     let moved : IsProgramOf laid b.graphed.graphs b.graphed.configured a.thresholds p =
     other_program laid a.graphed.graphs b.graphed.graphs a.graphed.configured b.graphed.configured a.prepared.0
@@ -237,9 +238,9 @@ one_made laid p q a b =
     (subst (λ ms. IsProgramOf laid b.graphed.graphs b.graphed.configured ms p) same moved) b.is
 
 pub one_program : OneProgram
-one_program bytes p q a b =
+one_program given bytes p q a b =
     let same : a.laid ≡ b.laid = one_layout bytes a.laid b.laid a.source b.source in
-    one_made b.laid p q (subst (λ l. IsMade l p) same (made bytes p a)) (made bytes q b)
+    one_made given b.laid p q (subst (λ l. IsMade given l p) same (made given bytes p a)) (made given bytes q b)
 
 -- ## One refusal
 

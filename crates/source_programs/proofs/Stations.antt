@@ -27,6 +27,7 @@ use Rattle.program_graphs.proofs.low.typed_file_laws.Layable.{comes, are_layable
 use Rattle.c_typing.specs.Views.{answer_of as typed_answer}
 use Rattle.program_graphs.specs.lowering_laws.LaidFiles.{IsLaidFile}
 use Rattle.mutex_configs.specs.declared.programs.Program.{Program}
+use Rattle.program_graphs.specs.graph_builder.Lowered.{AreGraphs}
 use Rattle.program_graphs.specs.Prepared.{answer_of, IsPrepared}
 use Rattle.thresholds.specs.Thresholds.{numbers_of, AreThresholds}
 use Rattle.program_laws.specs.program_equations.Programs.{ProgramBodies, IsProgramOf}
@@ -137,14 +138,14 @@ order_kept t laid e f o =
 -- ## Programs
 
 module _ (bytes : List ℕ) (laid : Laid) (source : IsLaidSource bytes (laid_tree laid)) where
-  pub program_accepted : (result : Result Program Fail) → IsPrepared (laid_tree laid) (answer_of result)
+  pub program_accepted : (given : List ℕ) (result : Result Program Fail) → IsPrepared (laid_tree laid) (answer_of result)
       → IfOk result (λ p. laid_tree p.laid ≡ laid_tree laid)
       → IfOk result (λ p. AreThresholds
-      (numbers_of laid.file.lengths.items laid.file.constants.items laid.file.labels.items []) p.marks)
+      (numbers_of laid.file.lengths.items laid.file.constants.items laid.file.labels.items given) p.marks)
       → IfOk result (λ program. (p : ProgramBodies)
       → IsProgramOf (laid_tree program.laid) program.graphs.graphs.items program.configured.items program.marks p
-      → IsAccepted bytes p)
-  program_accepted (Ok program) prepared same marks = λ p of. record {
+      → IsAccepted given bytes p)
+  program_accepted given (Ok program) prepared same marks = λ p of. record {
     laid = laid_tree laid;
     source = source;
     graphed = record { graphs = program.graphs.graphs.items; configured = program.configured.items };
@@ -154,7 +155,7 @@ module _ (bytes : List ℕ) (laid : Laid) (source : IsLaidSource bytes (laid_tre
     is =
         subst (λ l. IsProgramOf l program.graphs.graphs.items program.configured.items program.marks p) same of;
   }
-  program_accepted (Err fail) prepared same marks = tt
+  program_accepted given (Err fail) prepared same marks = tt
 
   pub program_refused : (result : Result Program Fail) → IsPrepared (laid_tree laid) (answer_of result)
       → IfRefused result (IsRefused bytes)
@@ -168,3 +169,16 @@ pub objects_kept : (laid : Laid) (result : Result Program Fail)
     → IfOk result (λ p. length p.laid.objects.items ≤ 2 ^ 32)
 objects_kept laid (Ok p) same few = subst (λ (l : LaidTree). length l.objects ≤ 2 ^ 32) (sym same) few
 objects_kept laid (Err f) same few = tt
+
+-- and it is that of the source, with its graphs
+pub source_kept : (bytes : List ℕ) (laid : Laid) → IsLaidSource bytes (laid_tree laid) → (result : Result Program Fail)
+    → IfOk result (λ p. laid_tree p.laid ≡ laid_tree laid) → IfOk result (λ p. IsLaidSource bytes (laid_tree p.laid))
+source_kept bytes laid source (Ok p) same = subst (λ (l : LaidTree). IsLaidSource bytes l) (sym same) source
+source_kept bytes laid source (Err f) same = tt
+
+pub graphs_kept : (laid : Laid) (result : Result Program Fail) → IsPrepared (laid_tree laid) (answer_of result)
+    → IfOk result (λ p. laid_tree p.laid ≡ laid_tree laid)
+    → IfOk result (λ p. AreGraphs (laid_tree p.laid) p.graphs.graphs.items)
+graphs_kept laid (Ok p) prepared same =
+    subst (λ (l : LaidTree). AreGraphs l p.graphs.graphs.items) (sym same) prepared.0
+graphs_kept laid (Err f) prepared same = tt

@@ -16,13 +16,15 @@ ProgramsAreOne =
     (p q : ProgramBodies) → IsProgramOf laid graphs configured thresholds p
     → IsProgramOf laid graphs configured thresholds q → p ≡ q
 
--- no source is accepted and refused
+-- no source is accepted and refused, whatever numbers are given
 abbrev pub NoneIsBoth : Type 0
-NoneIsBoth = (bytes : List ℕ) (p : ProgramBodies) (r : Refusal) → IsAccepted bytes p → IsRefused bytes r → ⊥
+NoneIsBoth =
+    (given bytes : List ℕ) (p : ProgramBodies) (r : Refusal) → IsAccepted given bytes p → IsRefused bytes r → ⊥
 
--- an accepted source is one program
+-- with the same numbers given, an accepted source is one program
 abbrev pub OneProgram : Type 0
-OneProgram = (bytes : List ℕ) (p q : ProgramBodies) → IsAccepted bytes p → IsAccepted bytes q → p ≡ q
+OneProgram =
+    (given bytes : List ℕ) (p q : ProgramBodies) → IsAccepted given bytes p → IsAccepted given bytes q → p ≡ q
 
 -- both are syntax errors, at any two places
 abbrev pub AreSyntaxErrors : Refusal → Refusal → Type 0

@@ -56,15 +56,15 @@ pub record IsLaidSource (bytes : List ℕ) (laid : LaidTree) : Type 0 where
   pub typed : TypesAs (main_in bytes tokens) tokens (Ok file)
   pub answered : laid_out file ≡ Ok laid
 
--- These bytes are a source of this program: that of a layout, of the graphs of its bodies with their configured graphs,
--- and of the thresholds that its text gives, with none of a user's own.
-pub record IsAccepted (bytes : List ℕ) (p : ProgramBodies) : Type 0 where
+-- With these numbers, given by a user, these bytes are a source of this program: that of a layout, of the graphs of its
+-- bodies with their configured graphs, and of the thresholds that its text and the numbers give.
+pub record IsAccepted (given bytes : List ℕ) (p : ProgramBodies) : Type 0 where
   pub laid : LaidTree
   pub source : IsLaidSource bytes laid
   pub graphed : Graphed
   pub prepared : IsPrepared laid (Ok graphed)
   pub thresholds : List ℤ
-  pub are : AreThresholds (numbers_of laid.file.lengths laid.file.constants laid.file.labels []) thresholds
+  pub are : AreThresholds (numbers_of laid.file.lengths laid.file.constants laid.file.labels given) thresholds
   pub is : IsProgramOf laid graphed.graphs graphed.configured thresholds p
 
 -- ## Sources that are refused

@@ -7,8 +7,8 @@ pub fn programs_are_one()
     ensures { ProgramsAreOne }
 {}
 
-/// A source has one answer: it is never accepted and refused, it is one program, or it has one refusal, but for the
-/// place of a syntax error.
+/// A source has one answer: it is never accepted and refused, it is one program for each list of given numbers, or it
+/// has one refusal, but for the place of a syntax error.
 pub fn one_source()
     ensures apart { NoneIsBoth }
     ensures program { OneProgram }

@@ -2,7 +2,8 @@
 //! below; this one knows their order, and which name among the tokens is spelled `main`.
 //!
 //! The source `int x; __task(1) void t(void) { x = 1; }` is accepted: its program has one body, that of the task `t`,
-//! with priority 1. The source `int x; __task(1) void t(void) { y = 1; }` is refused by typing, at the place of `y`.
+//! with priority 1, and a given number 17 makes 17 and -17 thresholds of it. The source
+//! `int x; __task(1) void t(void) { y = 1; }` is refused by typing, at the place of `y`.
 #![tactic(auto)]
 
 mod laws;

@@ -1,5 +1,5 @@
 //! The program of a source.
-ghost use Rattle.std.specs.Prelude.{◌≡◌, ◌≤◌, ◌^◌, [], length, Ok, IfOk};
+ghost use Rattle.std.specs.Prelude.{◌≡◌, ◌≤◌, ◌^◌, length, Ok, IfOk};
 ghost use Rattle.tm_terms.specs.declared.refusals.Fail.TheVariants as Fails;
 ghost use Rattle.tm_terms.specs.Spelling.{Lexes};
 ghost use Rattle.tm_trees.specs.FileTrees.{file_tree};
@@ -10,7 +10,9 @@ ghost use Rattle.program_graphs.specs.Prepared.{answer_of, IsPrepared};
 ghost use Rattle.thresholds.specs.Thresholds.{numbers_of, AreThresholds};
 ghost use Rattle.program_laws.specs.program_equations.Programs.{ProgramBodies, IsProgramOf};
 ghost use Rattle.program_laws.specs.program_systems.Analysable.{IsAnalysable};
-ghost use Rattle.source_programs.specs.Sources.{longest_source, IsAccepted, source_limit, IsRefused, IfRefused};
+ghost use Rattle.program_graphs.specs.graph_builder.Lowered.{AreGraphs};
+ghost use Rattle.source_programs.specs.Sources.{longest_source, IsAccepted, IsLaidSource, source_limit, IsRefused};
+ghost use Rattle.source_programs.specs.Sources.{IfRefused};
 
 use crate::mains::main_in;
 use c_lexer::lex;
@@ -38,21 +40,21 @@ fn too_long() -> Fail
     })
 }
 
-// The program of a layout, with the thresholds of its text.
-fn laid_program(alloc: Global, laid: Laid) -> Result<Program, Fail>
+// The program of a layout, with the thresholds of its text and those of the given numbers.
+fn laid_program(alloc: Global, laid: Laid, given: &[u32]) -> Result<Program, Fail>
     requires { IsLaidFile (laid_tree laid) }
     ensures prepared { IsPrepared (laid_tree laid) (answer_of result) }
     ensures laid { IfOk result (λ p. laid_tree p.laid ≡ laid_tree laid) }
     ensures order { IfOk result (λ p. p.laid.file.order.items ≡ laid.file.order.items) }
     ensures marks { IfOk result (λ p. AreThresholds
-        (numbers_of laid.file.lengths.items laid.file.constants.items laid.file.labels.items []) p.marks) }
+        (numbers_of laid.file.lengths.items laid.file.constants.items laid.file.labels.items given.now) p.marks) }
 {
     let thresholds = marks(
         alloc,
         &laid.file.lengths,
         &laid.file.constants,
         &laid.file.labels,
-        &[],
+        given,
     );
     match thresholds {
         Ok(thresholds) => program(alloc, laid, thresholds),
@@ -66,20 +68,23 @@ fn typed_program(
     bytes: &[u8],
     tokens: &[Token],
     file: &File,
+    given: &[u32],
 ) -> Result<Program, Fail>
     requires short { length bytes.now ≤ longest_source }
     requires lexed { Lexes bytes.now (Ok tokens.now) }
     requires parsed { Parses tokens.now (Ok (file_tree file.now)) }
     ensures accepted { IfOk result (λ program. (p : ProgramBodies) →
         IsProgramOf (laid_tree program.laid) program.graphs.graphs.items program.configured.items program.marks p →
-        IsAccepted bytes.now p) }
+        IsAccepted given.now bytes.now p) }
     ensures analysable { IfOk result IsAnalysable }
     ensures numbered { IfOk result (λ program. length program.laid.objects.items ≤ 2 ^ 32) }
+    ensures source { IfOk result (λ program. IsLaidSource bytes.now (laid_tree program.laid)) }
+    ensures graphs { IfOk result (λ program. AreGraphs (laid_tree program.laid) program.graphs.graphs.items) }
     ensures refused { IfRefused result (IsRefused bytes.now) }
 {
     match typed(alloc, file, main_in(bytes, tokens)) {
         Ok(typed) => match lay(alloc, typed) {
-            Ok(laid) => laid_program(alloc, laid),
+            Ok(laid) => laid_program(alloc, laid, given),
             Err(fail) => Err(fail),
         },
         Err(fail) => Err(fail),
@@ -87,45 +92,55 @@ fn typed_program(
 }
 
 // The program of the tokens of a source.
-fn parsed_program(alloc: Global, bytes: &[u8], tokens: &[Token]) -> Result<Program, Fail>
+fn parsed_program(
+    alloc: Global,
+    bytes: &[u8],
+    tokens: &[Token],
+    given: &[u32],
+) -> Result<Program, Fail>
     requires short { length bytes.now ≤ longest_source }
     requires lexed { Lexes bytes.now (Ok tokens.now) }
     ensures accepted { IfOk result (λ program. (p : ProgramBodies) →
         IsProgramOf (laid_tree program.laid) program.graphs.graphs.items program.configured.items program.marks p →
-        IsAccepted bytes.now p) }
+        IsAccepted given.now bytes.now p) }
     ensures analysable { IfOk result IsAnalysable }
     ensures numbered { IfOk result (λ program. length program.laid.objects.items ≤ 2 ^ 32) }
+    ensures source { IfOk result (λ program. IsLaidSource bytes.now (laid_tree program.laid)) }
+    ensures graphs { IfOk result (λ program. AreGraphs (laid_tree program.laid) program.graphs.graphs.items) }
     ensures refused { IfRefused result (IsRefused bytes.now) }
 {
     match parse(alloc, tokens) {
-        Ok(file) => typed_program(alloc, bytes, tokens, &file),
+        Ok(file) => typed_program(alloc, bytes, tokens, &file, given),
         Err(fail) => Err(fail),
     }
 }
 
 // The program of a source that is not too long.
-fn lexed_program(alloc: Global, bytes: &[u8]) -> Result<Program, Fail>
+fn lexed_program(alloc: Global, bytes: &[u8], given: &[u32]) -> Result<Program, Fail>
     requires { length bytes.now ≤ longest_source }
     ensures accepted { IfOk result (λ program. (p : ProgramBodies) →
         IsProgramOf (laid_tree program.laid) program.graphs.graphs.items program.configured.items program.marks p →
-        IsAccepted bytes.now p) }
+        IsAccepted given.now bytes.now p) }
     ensures analysable { IfOk result IsAnalysable }
     ensures numbered { IfOk result (λ program. length program.laid.objects.items ≤ 2 ^ 32) }
+    ensures source { IfOk result (λ program. IsLaidSource bytes.now (laid_tree program.laid)) }
+    ensures graphs { IfOk result (λ program. AreGraphs (laid_tree program.laid) program.graphs.graphs.items) }
     ensures refused { IfRefused result (IsRefused bytes.now) }
 {
     match lex(alloc, bytes) {
-        Ok(tokens) => parsed_program(alloc, bytes, &tokens),
+        Ok(tokens) => parsed_program(alloc, bytes, &tokens, given),
         Err(fail) => Err(fail),
     }
 }
 
 /// The program of a source, which can be analysed; or the first reason to refuse it: that it is too long, or else what
-/// the lexis, the grammar, typing, the layout or the graphs of its bodies refuse.
-pub fn source_program(alloc: Global, bytes: &[u8]) -> Result<Program, Fail>
-    // Whatever program of the equations is read of this one, it is that of the source.
+/// the lexis, the grammar, typing, the layout or the graphs of its bodies refuse. Its thresholds are those of its text,
+/// and each given number with its opposite.
+pub fn source_program(alloc: Global, bytes: &[u8], given: &[u32]) -> Result<Program, Fail>
+    // Whatever program of the equations is read of this one, it is that of the source with the given numbers.
     ensures accepted { IfOk result (λ program. (p : ProgramBodies) →
         IsProgramOf (laid_tree program.laid) program.graphs.graphs.items program.configured.items program.marks p →
-        IsAccepted bytes.now p) }
+        IsAccepted given.now bytes.now p) }
 
     // The equations of the program can be solved.
     ensures analysable { IfOk result IsAnalysable }
@@ -133,12 +148,16 @@ pub fn source_program(alloc: Global, bytes: &[u8]) -> Result<Program, Fail>
     // Numbers of 32 bits are enough for its objects.
     ensures numbered { IfOk result (λ program. length program.laid.objects.items ≤ 2 ^ 32) }
 
+    // The layout is that of the source, and the graphs are those of its bodies.
+    ensures source { IfOk result (λ program. IsLaidSource bytes.now (laid_tree program.laid)) }
+    ensures graphs { IfOk result (λ program. AreGraphs (laid_tree program.laid) program.graphs.graphs.items) }
+
     // Every refusal is one of the source. Beside these answers comes only want of memory.
     ensures refused { IfRefused result (IsRefused bytes.now) }
 {
     if bytes.len() > SOURCE as usize {
         Err(too_long())
     } else {
-        lexed_program(alloc, bytes)
+        lexed_program(alloc, bytes, given)
     }
 }

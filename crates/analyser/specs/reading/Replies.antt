@@ -1,18 +1,53 @@
--- The status and the text that go with a report.
-use Rattle.std.specs.Prelude.{◌≡◌, ℕ, List, []}
+-- What is found of a source, and the status and the text that go with a report.
+use Rattle.std.specs.Prelude.{◌≡◌, ◌≤◌, ℕ, Bool, true, false, List, [], Option, Some, None, string_bytes}
+use Rattle.cmd_words.specs.declared.commands.Command.{Command}
+use Rattle.cmd_words.specs.declared.commands.Command.TheVariants.{Analyse, Replay, Generate, Demo}
+use Rattle.store_core.specs.Histories.{Past}
+use Rattle.history_lines.specs.HistoryTexts.{history_text}
 use Rattle.tm_terms.specs.declared.alarms.Alarm.{Alarm}
-use Rattle.tm_terms.specs.Texts.{report_text}
+use Rattle.thread_pass.specs.interfere_set.Stores.{Interferences}
+use Rattle.thread_pass.specs.program_equations.Programs.{ProgramBodies}
+use Rattle.program_solutions.specs.LeastReports.{IsLeastReport}
+use Rattle.source_programs.specs.Sources.{IsRefused}
+use Rattle.analyser.specs.declared.replies.Solved.{Solved}
+use Rattle.analyser.specs.declared.replies.Found.{Found}
+use Rattle.analyser.specs.declared.replies.Found.TheVariants as Finds
 use Rattle.analyser.specs.declared.statuses.Status.{Status}
 use Rattle.analyser.specs.declared.statuses.Status.TheVariants.{NoAlarm, Alarms, Refused, Usage, ReadFault, WriteFault}
 use Rattle.analyser.specs.declared.statuses.Status.TheVariants.{NoMemory}
-use Rattle.analyser.specs.Answers.{HasAlarm}
+use Rattle.analyser.specs.Answers.{HasAlarm, HistoryFor, Reports}
 
--- the text of the report, and whether it has an alarm
-abbrev pub GivesReport : List Alarm → Status → List ℕ → Type 0
-GivesReport report NoAlarm text = (report ≡ []) × (text ≡ report_text report)
-GivesReport report Alarms text = HasAlarm report × (text ≡ report_text report)
-GivesReport report Refused text = ⊥
-GivesReport report Usage text = ⊥
-GivesReport report ReadFault text = ⊥
-GivesReport report WriteFault text = ⊥
-GivesReport report NoMemory text = ⊥
+-- the numbers of workers that commands ask for
+abbrev pub AsksWorkers : Option Command → Type 0
+AsksWorkers None = Unit {0}
+AsksWorkers (Some (Analyse w)) = (1 ≤ w.workers) × (w.workers ≤ 16)
+AsksWorkers (Some Replay) = Unit {0}
+AsksWorkers (Some (Generate count)) = Unit {0}
+AsksWorkers (Some (Demo w)) = (1 ≤ w.workers) × (w.workers ≤ 16)
+
+-- the lines of a past, where they are asked for
+abbrev pub AreLines : Bool → Past Interferences → List ℕ → Type 0
+AreLines true past lines = lines ≡ history_text past
+AreLines false past lines = lines ≡ []
+
+-- the report of a program, with the lines of a history where they are asked for
+abbrev pub IsSolved : ProgramBodies → ℕ → Bool → Solved → Type 0
+IsSolved p workers history solved =
+    IsLeastReport p solved.report.alarms.items × HistoryFor history p workers (string_bytes solved.history)
+
+-- the report of the bytes, with the lines of a history where they are asked for; or their refusal
+abbrev pub IsFound : List ℕ → ℕ → Bool → List ℕ → Found → Type 0
+IsFound given workers history bytes (Finds.Reported solved) =
+    (r : Reports given bytes solved.report.alarms.items)
+    × HistoryFor history r.program workers (string_bytes solved.history)
+IsFound given workers history bytes (Finds.Refused refusal) = IsRefused bytes refusal
+
+-- whether the report has an alarm
+abbrev pub TellsAlarms : List Alarm → Status → Type 0
+TellsAlarms report NoAlarm = report ≡ []
+TellsAlarms report Alarms = HasAlarm report
+TellsAlarms report Refused = ⊥
+TellsAlarms report Usage = ⊥
+TellsAlarms report ReadFault = ⊥
+TellsAlarms report WriteFault = ⊥
+TellsAlarms report NoMemory = ⊥

@@ -1,17 +1,14 @@
 -- Passes of the tasks in turn.
-use Rattle.std.specs.Prelude.{◌≡◌, ℕ, ◌+◌, ◌-◌, ◌*◌, ◌<◌, ◌≤◌, nat_lt, cond, List, [], ◌∷◌, ◌++◌, length, Option}
-use Rattle.tm_lattice.specs.Rounds.{IsHistory, IsClosed}
+use Rattle.std.specs.Prelude.{◌≡◌, ℕ, ◌+◌, ◌-◌, ◌*◌, ◌<◌, ◌≤◌, nat_lt, cond, List, [], ◌∷◌, length, Option}
+use Rattle.tm_lattice.specs.Rounds.{IsHistory}
 use Rattle.interfere_set.specs.Stores.{Interferences, IsStoreBelow, store_height}
 use Rattle.store_limits.specs.transfer_rows.StateForms.{State}
 use Rattle.store_limits.specs.value_heights.Heights.{value_height}
-use Rattle.least_tables.specs.Solutions.{IsLeastSolution}
-use Rattle.store_limits.specs.program_equations.Programs.{ProgramBodies, body_at, HasSection, IsProgram}
-use Rattle.store_limits.specs.program_equations.Systems.{states, stores, FitsBody, FitsProgram, task_system}
-use Rattle.store_limits.specs.program_equations.Systems.{IsLeastSection}
-use Rattle.store_limits.specs.program_equations.Solutions.{passing, table_at, tables_of}
+use Rattle.store_limits.specs.program_equations.Programs.{ProgramBodies, IsProgram}
+use Rattle.store_limits.specs.program_equations.Systems.{stores, FitsProgram}
+use Rattle.store_limits.specs.program_equations.Solutions.{passing, table_at}
 use Rattle.store_limits.specs.Limits.{store_limit, published}
-use Rattle.thread_pass.specs.Analyses.{IsSectionTable, IsLeastTable, IsStartTable}
-use Rattle.program_reports.specs.post_recheck.Pairs.{Pair, FitsPair}
+use Rattle.thread_pass.specs.Analyses.{IsLeastTable, IsStartTable}
 use Rattle.program_solutions.specs.declared.turns.PassOutcome.{PassOutcome}
 use Rattle.program_solutions.specs.declared.turns.PassOutcome.TheVariants.{Quiet, Raised}
 
@@ -68,22 +65,3 @@ pub record HasEnded (p : ProgramBodies) (store : Interferences) (tables : List (
   pub fits : FitsProgram p store
   pub count : length tables ≡ p.tasks
   pub each : (t : ℕ) → t < p.tasks → IsQuietTable p t store (table_at tables t)
-
--- ## Pairs
-
--- the tables of the tasks, and then the least one of the initial section, where there is one
-pub record AreCompleted (p : ProgramBodies) (tables all : List (List (Option State))) : Type 0 where
-  pub section : List (Option State)
-  pub is_least : IsSectionTable p section
-  pub none : (HasSection p → ⊥) → all ≡ tables
-  pub some : HasSection p → all ≡ tables ++ (section ∷ [])
-
--- least tables over a store that ends a history and to which no pass adds anything
-pub record AreLeastTables (p : ProgramBodies) (pair : Pair) : Type 0 where
-  pub earlier : List Interferences
-  pub history : IsHistory stores passing p (pair.store ∷ earlier)
-  pub closed : IsClosed stores passing p pair.store
-  pub fits : FitsPair p pair
-  pub section : IsLeastSection p (table_at pair.tables p.tasks)
-  pub least : (t : ℕ) → t < p.tasks → IsLeastSolution states (FitsBody (body_at p t))
-      (task_system p (table_at pair.tables p.tasks) pair.store t) (tables_of pair.tables t)

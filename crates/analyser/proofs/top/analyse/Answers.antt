@@ -1,23 +1,52 @@
-use Rattle.std.proofs.Common.{refl, ◌∙◌}
-use Rattle.analyser.proofs.AnswerLemmas.{words_front, accepted_reported, refused_refused, usage_answered, usage_front, not_analyse, as_usage}
+use Rattle.std.proofs.Common.{sym, subst}
+use Rattle.analyser.specs.Answers.{Accepts, Answers, AnswersFor, CommandGives, IsCommand, Reads, Refuses}
+use Rattle.analyser.specs.Answers.{TakesNoMore}
+use Rattle.analyser.specs.reading.Replies.{AsksWorkers}
+use Rattle.analyser.proofs.AskedWorkers.{asks_workers}
+use Rattle.analyser.proofs.CommandLemmas.{no_usage_line, usage_line, accepted_reported, refused_refused}
 use Rattle.analyser.proofs.top.analyse.Goals as goal
 
-pub returns-then-is_analyse-clause-front : goal.returns-then-is_analyse-clause-front
-returns-then-is_analyse-clause-front g c = words_front _ _ _ _ (c.if-is_analyse.ensures.0 refl) c.analyse_source.ensures.front
+pub answer_command-requires : goal.answer_command-requires
+answer_command-requires g c = subst AsksWorkers (sym c.in-Ok.ensures) (asks_workers _)
 
-pub returns-then-is_analyse-clause-accepted : goal.returns-then-is_analyse-clause-accepted
-returns-then-is_analyse-clause-accepted g c bytes p w e a =
-    accepted_reported _ _ _ c.analyse_source.result c.analyse_source.ensures.whole bytes p e a
+pub returns-in-Ok-clause-headline : goal.returns-in-Ok-clause-headline
+returns-in-Ok-clause-headline g c h =
+    subst (λ k. Answers (CommandGives k) _ _ _ c.answer_command.result) c.in-Ok.ensures
+    (c.answer_command.ensures.headline h)
 
-pub returns-then-is_analyse-clause-refused : goal.returns-then-is_analyse-clause-refused
-returns-then-is_analyse-clause-refused g c bytes r w e a =
-    refused_refused _ _ _ c.analyse_source.result c.analyse_source.ensures.whole bytes r e a
+pub returns-in-Ok-clause-front : goal.returns-in-Ok-clause-front
+returns-in-Ok-clause-front g c =
+    subst (λ k. TakesNoMore (CommandGives k) _ _ _) c.in-Ok.ensures c.answer_command.ensures.front
 
-pub returns-else-is_analyse-clause-headline : goal.returns-else-is_analyse-clause-headline
-returns-else-is_analyse-clause-headline g c h =
-    as_usage _ _ _ _ c.send.result (c.send.ensures.whole h).0
-    (usage_answered _ _ _ _ c.as_bytes.result.now (not_analyse _ c.if-is_analyse.ensures) (c.as_bytes.ensures.value ∙ c.usage_line.ensures) (c.send.ensures.whole h).1)
+pub returns-in-Ok-clause-all : goal.returns-in-Ok-clause-all
+returns-in-Ok-clause-all g c r = c.answer_command.ensures.all (subst Reads (sym c.in-Ok.ensures) r)
 
-pub returns-else-is_analyse-clause-front : goal.returns-else-is_analyse-clause-front
-returns-else-is_analyse-clause-front g c =
-    usage_front _ _ _ _ c.as_bytes.result.now (not_analyse _ c.if-is_analyse.ensures) (c.as_bytes.ensures.value ∙ c.usage_line.ensures) c.send.ensures.front
+pub returns-in-Ok-clause-words : goal.returns-in-Ok-clause-words
+returns-in-Ok-clause-words g c is e =
+    no_usage_line c.in-Ok.command _ _ _ c.answer_command.result c.answer_command.ensures.headline
+    (subst IsCommand (sym c.in-Ok.ensures) is) e
+
+pub returns-in-Ok-clause-usage : goal.returns-in-Ok-clause-usage
+returns-in-Ok-clause-usage g c none =
+    usage_line c.in-Ok.command _ _ _ c.answer_command.result c.answer_command.ensures.headline
+    (λ e. (c.answer_command.ensures.read e).0) (λ is. none (subst IsCommand c.in-Ok.ensures is))
+
+pub returns-in-Ok-clause-unread : goal.returns-in-Ok-clause-unread
+returns-in-Ok-clause-unread g c none =
+    c.answer_command.ensures.unread (λ r. none (subst Reads c.in-Ok.ensures r))
+
+pub returns-in-Ok-clause-read : goal.returns-in-Ok-clause-read
+returns-in-Ok-clause-read g c e =
+    let fault = c.answer_command.ensures.read e in
+    (subst Reads c.in-Ok.ensures fault.0, fault.1, fault.2)
+
+pub returns-in-Ok-clause-accepted : goal.returns-in-Ok-clause-accepted
+returns-in-Ok-clause-accepted g c bytes e a =
+    accepted_reported c.in-Ok.command _ _ _ c.answer_command.result c.answer_command.ensures.headline bytes
+    (subst (λ k. AnswersFor k _ bytes) (sym c.in-Ok.ensures) e) (subst (λ k. Accepts k bytes) (sym c.in-Ok.ensures) a)
+
+pub returns-in-Ok-clause-refused : goal.returns-in-Ok-clause-refused
+returns-in-Ok-clause-refused g c bytes refusal e r =
+    refused_refused c.in-Ok.command _ _ _ c.answer_command.result c.answer_command.ensures.headline bytes refusal
+    (subst (λ k. AnswersFor k _ bytes) (sym c.in-Ok.ensures) e)
+    (subst (λ k. Refuses k bytes refusal) (sym c.in-Ok.ensures) r)

@@ -3,7 +3,7 @@ use Rattle.tm_laid.specs.tm_typed.TypedFiles.{typed_file_tree}
 use Rattle.tm_laid.specs.Layouts.{laid_tree}
 use Rattle.source_programs.proofs.Analysing.{program_analysable}
 use Rattle.source_programs.proofs.Stations.{typing_refused, layout_refused, laid_source, laid_file, layable, order_kept}
-use Rattle.source_programs.proofs.Stations.{program_accepted, program_refused, objects_kept}
+use Rattle.source_programs.proofs.Stations.{program_accepted, program_refused, objects_kept, source_kept, graphs_kept}
 use Rattle.source_programs.proofs.sources.typed_program.Goals as goal
 
 pub lay-requires : goal.lay-requires
@@ -18,7 +18,8 @@ returns-in-Ok-lay-clause-analysable c =
     (laid_file c.main_in.result (file_tree c.args.file.now) (typed_file_tree c.in-Ok.typed) (laid_tree c.in-Ok-lay.laid)
     c.in-Ok.ensures.told c.in-Ok-lay.ensures.told)
     (order_kept c.in-Ok.typed c.in-Ok-lay.laid c.in-Ok-lay.ensures.told c.in-Ok-lay.ensures.order c.in-Ok.ensures.order)
-    c.laid_program.result c.laid_program.ensures.prepared c.laid_program.ensures.laid c.laid_program.ensures.order
+    c.args.given.now c.laid_program.result c.laid_program.ensures.prepared c.laid_program.ensures.laid
+    c.laid_program.ensures.order
     c.laid_program.ensures.marks
 
 pub returns-in-Ok-lay-clause-numbered : goal.returns-in-Ok-lay-clause-numbered
@@ -31,7 +32,19 @@ returns-in-Ok-lay-clause-accepted c =
     (laid_source c.args.bytes.now c.requires.short c.args.tokens.now c.requires.lexed c.main_in.result c.main_in.ensures
     (file_tree c.args.file.now) c.requires.parsed (typed_file_tree c.in-Ok.typed) c.in-Ok.ensures.told
     (laid_tree c.in-Ok-lay.laid) c.in-Ok-lay.ensures.told)
-    c.laid_program.result c.laid_program.ensures.prepared c.laid_program.ensures.laid c.laid_program.ensures.marks
+    c.args.given.now c.laid_program.result c.laid_program.ensures.prepared c.laid_program.ensures.laid
+    c.laid_program.ensures.marks
+
+pub returns-in-Ok-lay-clause-source : goal.returns-in-Ok-lay-clause-source
+returns-in-Ok-lay-clause-source c =
+    source_kept c.args.bytes.now c.in-Ok-lay.laid
+    (laid_source c.args.bytes.now c.requires.short c.args.tokens.now c.requires.lexed c.main_in.result c.main_in.ensures
+    (file_tree c.args.file.now) c.requires.parsed (typed_file_tree c.in-Ok.typed) c.in-Ok.ensures.told
+    (laid_tree c.in-Ok-lay.laid) c.in-Ok-lay.ensures.told) c.laid_program.result c.laid_program.ensures.laid
+
+pub returns-in-Ok-lay-clause-graphs : goal.returns-in-Ok-lay-clause-graphs
+returns-in-Ok-lay-clause-graphs c =
+    graphs_kept c.in-Ok-lay.laid c.laid_program.result c.laid_program.ensures.prepared c.laid_program.ensures.laid
 
 pub returns-in-Ok-lay-clause-refused : goal.returns-in-Ok-lay-clause-refused
 returns-in-Ok-lay-clause-refused c =

@@ -1,0 +1,286 @@
+-- From the answer of a command to the answer to words.
+use Rattle.std.proofs.Common.{◌≡◌, ℕ, List, [], ◌++◌, refl, sym, ◌∙◌, subst, inl, inr}
+use Rattle.std.specs.Io.KnownBytes.{append_known}
+use Rattle.std.specs.Prelude.{◌⊎◌, Option, Some, None}
+use Rattle.cmd_words.specs.declared.commands.AnalyseWords.{AnalyseWords}
+use Rattle.cmd_words.specs.declared.commands.Command.{Command}
+use Rattle.cmd_words.specs.declared.commands.Command.TheVariants.{Analyse, Replay, Generate, Demo}
+use Rattle.cmd_words.specs.declared.commands.DemoWords.{DemoWords}
+use Rattle.big_source.specs.GeneratedSources.{source_text}
+use Rattle.tm_terms.specs.declared.alarms.Alarm.{Alarm}
+use Rattle.tm_terms.specs.declared.refusals.Refusal.{Refusal}
+use Rattle.thread_pass.specs.program_equations.Programs.{ProgramBodies}
+use Rattle.source_programs.specs.Sources.{IsAccepted, IsRefused}
+use Rattle.source_programs.proofs.OneSource.{none_is_both}
+use Rattle.analyser.specs.declared.statuses.Status.{Status}
+use Rattle.analyser.specs.declared.statuses.Status.TheVariants.{NoAlarm, Alarms, Refused, Usage, ReadFault, WriteFault, NoMemory}
+use Rattle.analyser.specs.Answers.{Reports, WritesReport, HasAnswer, HasSummary, IsGenerated, SaysUsage, CommandGives}
+use Rattle.analyser.specs.Answers.{IsCommand, Reads, AnswersFor, Accepts, Refuses, Answers, TakesNoMore, Told}
+use Rattle.analyser.specs.Statuses.{IsReported, IsSinkStop, IsStop, IsWhole}
+use Rattle.analyser.specs.reading.Streams.{Says, SaysFront, SaysNoMore}
+
+-- ## Another set of answers
+
+told_some : (left : Option (List ℕ)) → (bytes : List ℕ) × Told left bytes
+told_some None = ([], tt)
+told_some (Some bytes) = (bytes, refl)
+
+-- what is answered whatever the bytes are
+module _ (May : Status → List ℕ → Type 0) (More : List ℕ → Status → List ℕ → Type 0)
+    (more : (bytes : List ℕ) (status : Status) (text : List ℕ) → May status text → More bytes status text)
+    (left taken taken' : Option (List ℕ)) where
+  pub said_answers : (status : Status) → Says May taken taken' status → Answers More left taken taken' status
+  said_answers status s =
+      let known = told_some left in
+      record {
+        bytes = known.0;
+        told = known.1;
+        text = s.text;
+        may = more known.0 status s.text s.may;
+        appended = s.appended;
+      }
+
+  pub said_takes : SaysNoMore May taken taken' → TakesNoMore More left taken taken'
+  said_takes (inl e) = inl e
+  said_takes (inr s) =
+      let known = told_some left in
+      let front = s.sent in
+      inr (record {
+        bytes = known.0;
+        told = known.1;
+        status = s.status;
+        text = s.text;
+        may = more known.0 s.status s.text s.may;
+        front = front.front;
+        rest = front.rest;
+        split = front.split;
+        appended = front.appended;
+      })
+
+-- what is answered to the bytes
+module _ (May More : List ℕ → Status → List ℕ → Type 0)
+    (more : (bytes : List ℕ) (status : Status) (text : List ℕ) → May bytes status text → More bytes status text)
+    (left taken taken' : Option (List ℕ)) where
+  pub more_answers : (status : Status) → Answers May left taken taken' status → Answers More left taken taken' status
+  more_answers status a = record {
+    bytes = a.bytes;
+    told = a.told;
+    text = a.text;
+    may = more a.bytes status a.text a.may;
+    appended = a.appended;
+  }
+
+  pub more_takes : TakesNoMore May left taken taken' → TakesNoMore More left taken taken'
+  more_takes (inl e) = inl e
+  more_takes (inr a) = inr (record {
+    bytes = a.bytes;
+    told = a.told;
+    status = a.status;
+    text = a.text;
+    may = more a.bytes a.status a.text a.may;
+    front = a.front;
+    rest = a.rest;
+    split = a.split;
+    appended = a.appended;
+  })
+
+-- ## Commands
+
+pub usage_of_none : (c : Option Command) → c ≡ None → (bytes : List ℕ) (status : Status) (text : List ℕ)
+    → SaysUsage status text → CommandGives c bytes status text
+usage_of_none c e bytes status text h = subst (λ d. CommandGives d bytes status text) (sym e) h
+
+pub usage_of_replay : (c : Option Command) → c ≡ Some Replay → (bytes : List ℕ) (status : Status) (text : List ℕ)
+    → SaysUsage status text → CommandGives c bytes status text
+usage_of_replay c e bytes status text h = subst (λ d. CommandGives d bytes status text) (sym e) h
+
+pub answer_of_analyse : (c : Option Command) (w : AnalyseWords) → c ≡ Some (Analyse w) → (bytes : List ℕ)
+    (status : Status) (text : List ℕ) → HasAnswer w bytes status text → CommandGives c bytes status text
+answer_of_analyse c w e bytes status text h = subst (λ d. CommandGives d bytes status text) (sym e) h
+
+pub answer_of_generate : (c : Option Command) (count : ℕ) → c ≡ Some (Generate count) → (bytes : List ℕ)
+    (status : Status) (text : List ℕ) → IsGenerated count status text → CommandGives c bytes status text
+answer_of_generate c count e bytes status text h = subst (λ d. CommandGives d bytes status text) (sym e) h
+
+pub answer_of_demo : (c : Option Command) (w : DemoWords) → c ≡ Some (Demo w) → (bytes : List ℕ) (status : Status)
+    (text : List ℕ) → HasSummary (source_text w.count) status text → CommandGives c bytes status text
+answer_of_demo c w e bytes status text h = subst (λ d. CommandGives d bytes status text) (sym e) h
+
+pub reads_demo : (c : Option Command) (w : DemoWords) → c ≡ Some (Demo w) → Reads c → ⊥
+reads_demo c w e r = subst Reads e r
+
+pub reads_none : (c : Option Command) → c ≡ None → Reads c → ⊥
+reads_none c e r = subst Reads e r
+
+pub reads_replay : (c : Option Command) → c ≡ Some Replay → Reads c → ⊥
+reads_replay c e r = subst Reads e r
+
+pub reads_generate : (c : Option Command) (count : ℕ) → c ≡ Some (Generate count) → Reads c → ⊥
+reads_generate c count e r = subst Reads e r
+
+pub reads_analyse : (c : Option Command) (w : AnalyseWords) → c ≡ Some (Analyse w) → Reads c
+reads_analyse c w e = subst Reads (sym e) tt
+
+-- ## Which statuses come
+
+whole_or_stop : (status : Status) → IsWhole status ⊎ IsStop status
+whole_or_stop NoAlarm = inl tt
+whole_or_stop Alarms = inl tt
+whole_or_stop Refused = inl tt
+whole_or_stop Usage = inl tt
+whole_or_stop ReadFault = inr tt
+whole_or_stop WriteFault = inr tt
+whole_or_stop NoMemory = inr tt
+
+-- the answer of a command is never the usage line
+usage_is_clean : Usage ≡ NoAlarm → ⊥
+usage_is_clean e = cc
+
+no_usage : (c : Option Command) → IsCommand c → (bytes text : List ℕ) → CommandGives c bytes Usage text → ⊥
+no_usage None is bytes text h = is
+no_usage (Some (Analyse w)) is bytes text h = h
+no_usage (Some Replay) is bytes text h = is
+no_usage (Some (Generate count)) is bytes text h = usage_is_clean h.0
+no_usage (Some (Demo w)) is bytes text h = h
+
+-- words that are no command are answered with the usage line
+only_usage : (c : Option Command) → (IsCommand c → ⊥) → (bytes : List ℕ) (status : Status) (text : List ℕ)
+    → CommandGives c bytes status text → status ≡ Usage
+only_usage None none bytes status text h = h.0
+only_usage (Some (Analyse w)) none bytes status text h = absurd (none tt)
+only_usage (Some Replay) none bytes status text h = h.0
+only_usage (Some (Generate count)) none bytes status text h = absurd (none tt)
+only_usage (Some (Demo w)) none bytes status text h = absurd (none tt)
+
+-- what reads is a command
+reads_is : (c : Option Command) → Reads c → IsCommand c
+reads_is None r = r
+reads_is (Some (Analyse w)) r = r
+reads_is (Some Replay) r = r
+reads_is (Some (Generate count)) r = absurd r
+reads_is (Some (Demo w)) r = absurd r
+
+sink_stop : (status : Status) → IsStop status → (status ≡ ReadFault → ⊥) → IsSinkStop status
+sink_stop NoAlarm s no = absurd s
+sink_stop Alarms s no = absurd s
+sink_stop Refused s no = absurd s
+sink_stop Usage s no = absurd s
+sink_stop ReadFault s no = absurd (no refl)
+sink_stop WriteFault s no = inl refl
+sink_stop NoMemory s no = inr refl
+
+-- ## Sources that are accepted or refused
+
+told_bytes : (left : Option (List ℕ)) (known bytes : List ℕ) → left ≡ Some known → Told left bytes → known ≡ bytes
+told_bytes None known bytes e t = absurd (cc)
+told_bytes (Some b) known bytes e t = let f : b ≡ known = cc in sym f ∙ t
+
+-- the statuses that an accepted source may come to
+accepted_comes : (w : AnalyseWords) (bytes : List ℕ) (p : ProgramBodies) → IsAccepted w.thresholds bytes p → (status : Status) (text : List ℕ) → HasAnswer w bytes status text → IsReported status
+accepted_comes w bytes p a NoAlarm text h = inl refl
+accepted_comes w bytes p a Alarms text h = inr refl
+accepted_comes w bytes p a Refused text h = absurd (none_is_both w.thresholds bytes p h.0 a h.1)
+accepted_comes w bytes p a Usage text h = absurd h
+accepted_comes w bytes p a ReadFault text h = absurd h
+accepted_comes w bytes p a WriteFault text h = absurd h
+accepted_comes w bytes p a NoMemory text h = absurd h
+
+none_reported : (w : AnalyseWords) (bytes : List ℕ) (refusal : Refusal) → IsRefused bytes refusal → (report : List Alarm)
+    (text : List ℕ) → WritesReport w bytes report text → ⊥
+none_reported w bytes refusal r report text h =
+    let reports = h.reports in none_is_both w.thresholds bytes reports.program refusal reports.accepted r
+
+refused_comes : (w : AnalyseWords) (bytes : List ℕ) (refusal : Refusal) → IsRefused bytes refusal → (status : Status) (text : List ℕ) → HasAnswer w bytes status text → status ≡ Refused
+refused_comes w bytes refusal r NoAlarm text h = absurd (none_reported w bytes refusal r [] text h)
+refused_comes w bytes refusal r Alarms text h = absurd (none_reported w bytes refusal r h.0 text h.2)
+refused_comes w bytes refusal r Refused text h = refl
+refused_comes w bytes refusal r Usage text h = absurd h
+refused_comes w bytes refusal r ReadFault text h = absurd h
+refused_comes w bytes refusal r WriteFault text h = absurd h
+refused_comes w bytes refusal r NoMemory text h = absurd h
+
+-- the same of a generated source
+summary_comes : (source : List ℕ) (p : ProgramBodies) → IsAccepted [] source p → (status : Status) (text : List ℕ)
+    → HasSummary source status text → IsReported status
+summary_comes source p a NoAlarm text h = inl refl
+summary_comes source p a Alarms text h = inr refl
+summary_comes source p a Refused text h = absurd (none_is_both [] source p h.0 a h.1)
+summary_comes source p a Usage text h = absurd h
+summary_comes source p a ReadFault text h = absurd h
+summary_comes source p a WriteFault text h = absurd h
+summary_comes source p a NoMemory text h = absurd h
+
+none_of : (source : List ℕ) (refusal : Refusal) → IsRefused source refusal → (report : List Alarm)
+    → Reports [] source report → ⊥
+none_of source refusal r report h = none_is_both [] source h.program refusal h.accepted r
+
+refusal_comes : (source : List ℕ) (refusal : Refusal) → IsRefused source refusal → (status : Status) (text : List ℕ)
+    → HasSummary source status text → status ≡ Refused
+refusal_comes source refusal r NoAlarm text h = absurd (none_of source refusal r [] h.0)
+refusal_comes source refusal r Alarms text h = absurd (none_of source refusal r h.0 h.2)
+refusal_comes source refusal r Refused text h = refl
+refusal_comes source refusal r Usage text h = absurd h
+refusal_comes source refusal r ReadFault text h = absurd h
+refusal_comes source refusal r WriteFault text h = absurd h
+refusal_comes source refusal r NoMemory text h = absurd h
+
+-- ## Commands that accept or refuse
+
+command_reports : (c : Option Command) (left : Option (List ℕ)) (bytes known : List ℕ) → AnswersFor c left bytes
+    → Accepts c bytes → Told left known → (status : Status) (text : List ℕ) → CommandGives c known status text
+    → IsReported status
+command_reports None left bytes known e a t status text h = absurd e
+command_reports (Some (Analyse w)) left bytes known e a t status text h =
+    let same : bytes ≡ known = told_bytes left bytes known e t in
+    accepted_comes w known a.0 (subst (λ b. IsAccepted w.thresholds b a.0) same a.1) status text h
+command_reports (Some Replay) left bytes known e a t status text h = absurd e
+command_reports (Some (Generate count)) left bytes known e a t status text h = absurd e
+command_reports (Some (Demo w)) left bytes known e a t status text h =
+    summary_comes (source_text w.count) a.0 (subst (λ b. IsAccepted [] b a.0) e a.1) status text h
+
+command_refuses : (c : Option Command) (left : Option (List ℕ)) (bytes known : List ℕ) (refusal : Refusal)
+    → AnswersFor c left bytes → Refuses c bytes refusal → Told left known → (status : Status) (text : List ℕ)
+    → CommandGives c known status text → status ≡ Refused
+command_refuses None left bytes known refusal e r t status text h = absurd e
+command_refuses (Some (Analyse w)) left bytes known refusal e r t status text h =
+    let same : bytes ≡ known = told_bytes left bytes known e t in
+    refused_comes w known refusal (subst (λ b. IsRefused b refusal) same r) status text h
+command_refuses (Some Replay) left bytes known refusal e r t status text h = absurd e
+command_refuses (Some (Generate count)) left bytes known refusal e r t status text h = absurd e
+command_refuses (Some (Demo w)) left bytes known refusal e r t status text h =
+    refusal_comes (source_text w.count) refusal (subst (λ b. IsRefused b refusal) e r) status text h
+
+-- ## The clauses of the top call
+
+module _ (c : Option Command) (left taken taken' : Option (List ℕ)) (status : Status)
+    (h : IsWhole status → Answers (CommandGives c) left taken taken' status) where
+  pub no_usage_line : IsCommand c → status ≡ Usage → ⊥
+  no_usage_line is e =
+      let whole : IsWhole status = subst IsWhole (sym e) tt in
+      no_usage c is (h whole).bytes (h whole).text
+      (subst (λ s. CommandGives c (h whole).bytes s (h whole).text) e (h whole).may)
+
+  pub usage_line : (status ≡ ReadFault → Reads c) → (IsCommand c → ⊥) → (status ≡ Usage) ⊎ IsSinkStop status
+  usage_line read none = by_case (whole_or_stop status)
+    where
+      by_case : IsWhole status ⊎ IsStop status → (status ≡ Usage) ⊎ IsSinkStop status
+      by_case (inl w) = inl (only_usage c none (h w).bytes status (h w).text (h w).may)
+      by_case (inr s) = inr (sink_stop status s (λ e. none (reads_is c (read e))))
+
+  pub accepted_reported : (bytes : List ℕ) → AnswersFor c left bytes → Accepts c bytes
+      → IsReported status ⊎ IsStop status
+  accepted_reported bytes e a = by_case (whole_or_stop status)
+    where
+      by_case : IsWhole status ⊎ IsStop status → IsReported status ⊎ IsStop status
+      by_case (inr s) = inr s
+      by_case (inl w) =
+          inl (command_reports c left bytes (h w).bytes e a (h w).told status (h w).text (h w).may)
+
+  pub refused_refused : (bytes : List ℕ) (refusal : Refusal) → AnswersFor c left bytes → Refuses c bytes refusal
+      → (status ≡ Refused) ⊎ IsStop status
+  refused_refused bytes refusal e r = by_case (whole_or_stop status)
+    where
+      by_case : IsWhole status ⊎ IsStop status → (status ≡ Refused) ⊎ IsStop status
+      by_case (inr s) = inr s
+      by_case (inl w) =
+          inl (command_refuses c left bytes (h w).bytes refusal e r (h w).told status (h w).text (h w).may)

@@ -1,0 +1,147 @@
+//! Words, sources and their answers: a table over one driver.
+
+use analyser::analyse;
+use std::alloc::Global;
+use std::process::Abort;
+use std::sync::Wait;
+use std::test::Fail;
+use std::thread::Threads;
+use tm_io::{OpenGate, SureSink, SureSource};
+
+/// Divides by what is 0 at the start.
+const DIVISION: &[u8] = b"int x;\n__task(1) void t(void){x=1/x;}";
+
+/// Two tasks that fill a buffer under a mutex, and the same without it.
+const GUARDED: &[u8] = b"__mutex m;int buf[10];int n;\n\
+__task(1) void a(void){__lock(m);if(n<10){buf[n]=1;n=n+1;}__unlock(m);}\n\
+__task(1) void b(void){__lock(m);if(n<10){buf[n]=1;n=n+1;}__unlock(m);}";
+
+const UNGUARDED: &[u8] = b"int buf[10];int n;\n\
+__task(1) void a(void){if(n<10){buf[n]=1;n=n+1;}}\n\
+__task(1) void b(void){if(n<10){buf[n]=1;n=n+1;}}";
+
+const FOURTEEN: &[u8] =
+    b"2:27 RACE\n2:36 INDEX\n2:37 RACE\n2:39 RACE\n2:43 RACE\n2:44 RACE\n2:45 OVERFLOW\n\
+3:27 RACE\n3:36 INDEX\n3:37 RACE\n3:39 RACE\n3:43 RACE\n3:44 RACE\n3:45 OVERFLOW\nalarms 14\n";
+
+/// Overflows where 17 is no threshold.
+const SCALED: &[u8] = b"int x;int r;\n__task(1) void w(void){x=__input(0,12)+5;}\n\
+__task(1) void q(void){r=x*19000000;}";
+
+const USAGE: &[u8] = b"usage: COMMAND [OPTIONS] < source\n";
+
+/// The words, a source, the number with which the program ends on them, and the text that it writes.
+static COMMANDS: [(&[&str], &[u8], u8, &[u8]); 26] = [
+    // How many workers there are does not show.
+    (&["analyse", "--workers", "1"], GUARDED, 0, b"alarms 0\n"),
+    (&["analyse", "--workers", "4"], GUARDED, 0, b"alarms 0\n"),
+    (&["analyse", "--workers=16"], GUARDED, 0, b"alarms 0\n"),
+    (&["analyse", "--workers=1"], UNGUARDED, 1, FOURTEEN),
+    (&["analyse", "--workers=4"], UNGUARDED, 1, FOURTEEN),
+    (&["analyse", "--workers", "16"], UNGUARDED, 1, FOURTEEN),
+    (&["analyse", "--workers", "8"], b"", 0, b"alarms 0\n"),
+    // The history of one worker, and none where there is no task.
+    (
+        &["analyse", "--history"],
+        DIVISION,
+        1,
+        b"read 0 0 0\npublish 0 0 0 0\n2:27 DIV\nalarms 1\n",
+    ),
+    (
+        &["analyse", "--json", "--history"],
+        DIVISION,
+        1,
+        b"read 0 0 0\npublish 0 0 0 0\n{\"alarms\":[{\"class\":\"DIV\",\"col\":27,\"line\":2}],\"count\":1}\n",
+    ),
+    (
+        &["analyse", "--history"],
+        b"int x;__task(1) void t(void){x=1;}",
+        0,
+        b"read 0 0 0\npublish 0 0 0 1\nread 0 0 1\npublish 0 0 1 1\nalarms 0\n",
+    ),
+    (&["analyse", "--history"], b"int x;", 0, b"alarms 0\n"),
+    (
+        &["analyse", "--history"],
+        b"int x",
+        2,
+        b"1:5 refused Syntax\n",
+    ),
+    // JSON.
+    (
+        &["analyse", "--json"],
+        DIVISION,
+        1,
+        b"{\"alarms\":[{\"class\":\"DIV\",\"col\":27,\"line\":2}],\"count\":1}\n",
+    ),
+    (
+        &["analyse", "--json"],
+        b"",
+        0,
+        b"{\"alarms\":[],\"count\":0}\n",
+    ),
+    (&["analyse", "--json"], b"int x", 2, b"1:5 refused Syntax\n"),
+    // Thresholds.
+    (
+        &["analyse"],
+        SCALED,
+        1,
+        b"2:25 RACE\n3:26 RACE\n3:27 OVERFLOW\nalarms 3\n",
+    ),
+    (
+        &["analyse", "17"],
+        SCALED,
+        1,
+        b"2:25 RACE\n3:26 RACE\nalarms 2\n",
+    ),
+    (
+        &["analyse", "--", "17"],
+        SCALED,
+        1,
+        b"2:25 RACE\n3:26 RACE\nalarms 2\n",
+    ),
+    // Words that are no command.
+    (&[], DIVISION, 3, USAGE),
+    (&["analyse", "--workers", "17"], DIVISION, 3, USAGE),
+    (&["analyse", "--json", "--json"], DIVISION, 3, USAGE),
+    (&["analyse", "-5"], DIVISION, 3, USAGE),
+    (&["generate", "0"], DIVISION, 3, USAGE),
+    // Large sources.
+    (&["demo", "1"], b"", 1, b"source 496 bytes\nalarms 4\n"),
+    (
+        &["demo", "--workers", "4", "1"],
+        b"",
+        1,
+        b"source 496 bytes\nalarms 4\n",
+    ),
+    (&["demo", "2"], b"", 1, b"source 547 bytes\nalarms 4\n"),
+];
+
+/// The words have this answer.
+fn expect<R: Abort + Threads + Wait + Sync>(
+    rt: &R,
+    alloc: Global,
+    given: &[&str],
+    source: &[u8],
+    number: u8,
+    text: &[u8],
+) -> Result<(), Fail> {
+    let mut words = Vec::new(alloc);
+    for word in given {
+        words.push(String::from_str(alloc, word)?)?;
+    }
+    let mut source = SureSource::new(source.to_vec(alloc)?);
+    let mut out = SureSink::new(alloc);
+    let status = analyse(rt, alloc, &words, &mut source, &mut out, &OpenGate);
+    assert_eq!(rt; out.taken(), text);
+    assert_eq!(rt; status.number(), number);
+    Ok(())
+}
+
+#[test]
+fn commands(rt: HostRuntime) -> Result<(), Fail> {
+    let alloc = rt.alloc();
+    for (words, source, number, text) in &COMMANDS {
+        expect(&rt, alloc, words, source, *number, text)?;
+    }
+    Ok(())
+}

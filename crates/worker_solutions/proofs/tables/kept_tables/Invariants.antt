@@ -1,0 +1,16 @@
+use Rattle.std.proofs.Common.{◌≡◌, ℕ, ◌<◌, length}
+use Rattle.thread_pass.specs.program_systems.ReadPrograms.{program_of}
+use Rattle.thread_pass.specs.Analyses.{IsLeastTable}
+use Rattle.program_equations.specs.Solutions.{table_at}
+use Rattle.post_recheck.specs.Pairs.{lists_of}
+use Rattle.worker_solutions.specs.QuietHistories.{present_store}
+use Rattle.worker_solutions.proofs.tables.kept_tables.Given as goal
+
+-- the tables so far
+abbrev pub invariant-tasks : goal.invariant-tasks
+invariant-tasks l =
+    record {
+      count : length l.tables.items ≡ l.task;
+      each : (t : ℕ) → t < l.task → IsLeastTable (program_of l.core.program) t
+          (present_store (program_of l.core.program) l.core.past) (table_at (lists_of l.tables.items) t);
+    }

@@ -1,0 +1,2 @@
+-- The histories of a program's workers (QuietHistories).
+pub mod QuietHistories

@@ -1,0 +1,93 @@
+//! The report that workers find.
+ghost use Rattle.std.specs.Prelude.{◌≡◌, ◌≤◌, IfOk};
+ghost use Rattle.std.specs.Arc.{arc_value};
+ghost use Rattle.store_core.specs.Histories.{IsQuiet};
+ghost use Rattle.post_recheck.specs.program_systems.ReadPrograms.{program_of};
+ghost use Rattle.post_recheck.specs.Pairs.{pair_of};
+ghost use Rattle.program_solutions.specs.LeastReports.{IsLeastPair, IsLeastReport};
+ghost use Rattle.program_solutions.specs.Tables.{AreLeastTables};
+ghost use Rattle.worker_solutions.specs.QuietHistories.{IsQuietHistory};
+
+use crate::tables::kept_tables;
+use interfere_set::Store;
+use post_recheck::{Checked, Solution, Table, recheck};
+use program_solutions::{completed, solution_report};
+use shared_analyses::solved_by;
+use std::alloc::Global;
+use std::sync::{Arc, Wait};
+use std::thread::Threads;
+use store_core::StoreCore;
+use thread_pass::Analysis;
+use tm_io::Gate;
+use tm_lattice::{Lattice, NoMemory};
+use tm_terms::Report;
+
+/// The report of a program, and the core of the workers that found its least solution.
+#[derive(Drop)]
+pub struct WorkedOut {
+    /// The report.
+    pub report: Report,
+    /// The core, with its history.
+    pub core: StoreCore<Analysis>,
+}
+
+// The check of least tables and their store: it finds that they are a solution.
+fn checked<R: Threads + Sync>(
+    rt: &R,
+    alloc: Global,
+    analysis: &Analysis,
+    tables: Vec<Table>,
+    store: Arc<Store>,
+) -> Result<Solution, NoMemory>
+    requires { AreLeastTables (program_of analysis.now) (pair_of tables.items (arc_value store)) }
+    ensures { IfOk result (IsLeastPair (program_of analysis.now)) }
+{
+    let (program, facts) = analysis.parts();
+    match recheck(rt, alloc, program, facts, tables, store)? {
+        Checked::Solution(found) => Ok(found),
+        Checked::Uncovered { body: _, edge: _ } => unreachable!(),
+        Checked::UncoveredStore => unreachable!(),
+    }
+}
+
+// The report of a quiet core: that of its store, with the tables that the last passes of its tasks kept.
+fn core_report<R: Threads + Sync>(
+    rt: &R,
+    alloc: Global,
+    core: &StoreCore<Analysis>,
+) -> Result<Report, NoMemory>
+    requires { IsQuiet core.now.program.tasks core.now.past }
+    ensures { IfOk result (λ report. IsLeastReport (program_of core.now.program) report.alarms.items) }
+{
+    let _history = core.history();
+    let analysis = core.program();
+    let tables = kept_tables(alloc, core)?;
+    let all = completed(alloc, analysis, tables)?;
+    let store = Arc::new(alloc, core.store().copied(alloc)?)?;
+    let found = checked(rt, alloc, analysis, all, store)?;
+    solution_report(alloc, analysis, &found)
+}
+
+/// The report of a program, found by 1 to 16 workers, each in a thread of its own where one can be made; with the
+/// history of a store that such workers share.
+pub fn report_by_workers<R: Threads + Wait + Sync, G: Gate>(
+    rt: &R,
+    alloc: Global,
+    analysis: Analysis,
+    workers: u32,
+    gate: &G,
+) -> Result<WorkedOut, NoMemory>
+    requires some { 1 ≤ workers }
+    requires most { workers ≤ 16 }
+
+    // The report is that of the least solution, in whatever order the workers came.
+    ensures report { IfOk result (λ out. IsLeastReport (program_of analysis) out.report.alarms.items) }
+
+    // The history is one of these workers on this program, and it has come to its end.
+    ensures history { IfOk result (λ out. IsQuietHistory (program_of analysis) workers out.core.past) }
+{
+    let core = solved_by(rt, alloc, Arc::new(alloc, analysis)?, workers, gate)?;
+    let _history = core.history();
+    let report = core_report(rt, alloc, &core)?;
+    Ok(WorkedOut { report, core })
+}
