@@ -19,7 +19,7 @@ use Rattle.tm_terms.specs.Texts.{report_text, refusal_text, usage_text}
 use Rattle.thread_pass.specs.tm_laid.Layouts.{LaidTree}
 use Rattle.sound_core.specs.concrete_steps.Occurring.{Occurs}
 use Rattle.thread_pass.specs.program_equations.Programs.{ProgramBodies}
-use Rattle.thread_pass.specs.interfere_set.Stores.{Interferences}
+use Rattle.interfere_set.specs.Stores.{Interferences}
 use Rattle.worker_solutions.specs.QuietHistories.{IsQuietHistory}
 use Rattle.source_programs.specs.Sources.{longest_source, IsAccepted, IsRefused}
 use Rattle.program_solutions.specs.LeastReports.{IsLeastReport}

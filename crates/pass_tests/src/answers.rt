@@ -2,7 +2,8 @@
 
 use crate::pictures::{push_state, push_store, push_table};
 use crate::sources::analysed;
-use program_solutions::{BodyState, Solution, solution};
+use post_recheck::{BodyState, Solution};
+use program_solutions::solution;
 use std::alloc::Global;
 use thread_pass::Analysis;
 use tm_lattice::NoMemory;

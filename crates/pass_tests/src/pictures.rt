@@ -3,7 +3,7 @@
 use cell_env::{CellState, State};
 use interfere_set::{Nested, Store};
 use pointer_dom::{AbsValue, Parts, PointerSet};
-use program_solutions::BodyState;
+use post_recheck::BodyState;
 use std::alloc::Global;
 use strided_dom::Strided;
 use tm_lattice::NoMemory;

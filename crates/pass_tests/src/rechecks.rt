@@ -11,7 +11,8 @@ ghost use Rattle.program_solutions.specs.post_recheck.Pairs.{pair_of, lists_of, 
 use crate::sources::analysed;
 use crate::tables::{BEGUN, BEGUN_TWICE, COUNTS, ENDLESS, MUTUAL, PENDING};
 use interfere_set::Store;
-use program_solutions::{BodyState, Checked, Solution, Table, recheck, recheck_in_order, solution};
+use post_recheck::{BodyState, Checked, Solution, Table, recheck, recheck_in_order};
+use program_solutions::solution;
 use std::alloc::Global;
 use std::sync::Arc;
 use std::test::Fail;

@@ -1,11 +1,11 @@
 -- One table more.
-use Rattle.std.specs.Prelude.{◌≡◌, ◌⊎◌, ℕ, ◌+◌, ◌<◌, ◌≤◌, List, [], ◌∷◌, ◌++◌, length, Option, Result, Ok, Err, IfOk}
+use Rattle.std.specs.Prelude.{◌≡◌, ◌⊎◌, ℕ, ◌+◌, ◌<◌, ◌≤◌, List, [], ◌∷◌, ◌++◌, length, Option, Some, None, Result, Ok, Err, IfOk}
 use Rattle.std.proofs.Common.{sym, ap, subst, ◌∙◌, inl, inr, arith}
 use Rattle.std.specs.declared.vec.Vec.{Vec}
 use Rattle.std.proofs.lemmas.Bool.{cases_lt}
 use Rattle.std.proofs.lemmas.List.{length-map, map-append, get_or_append_left, get_or_push}
-use Rattle.transfer_rows.specs.StateForms.{State}
-use Rattle.program_equations.specs.Solutions.{table_at}
+use Rattle.post_recheck.specs.transfer_rows.StateForms.{State}
+use Rattle.post_recheck.specs.program_equations.Solutions.{table_at}
 use Rattle.post_recheck.specs.Pairs.{lists_of}
 
 -- what holds of each table so far, and of the next one, holds of all
@@ -37,3 +37,9 @@ module _ {A : Type 0} (P : ℕ → List (Option State) → Type 0) (xs ys : List
 pub if_ok_by : {A E : Type 0} {P Q : A → Type 0} (r : Result A E) → IfOk r P → ((a : A) → P a → Q a) → IfOk r Q
 if_ok_by (Ok a) h k = k a h
 if_ok_by (Err e) h k = tt
+
+pub same_some : {K : Type 0} (kept what : K) → Some kept ≡ Some what → kept ≡ what
+same_some kept what e = cc
+
+pub none_some : {K : Type 0} (what : K) → None {A = K} ≡ Some what → ⊥
+none_some what e = cc

@@ -5,7 +5,7 @@ use Rattle.cmd_words.specs.declared.commands.Command.TheVariants.{Analyse, Repla
 use Rattle.store_core.specs.Histories.{Past}
 use Rattle.history_lines.specs.HistoryTexts.{history_text}
 use Rattle.tm_terms.specs.declared.alarms.Alarm.{Alarm}
-use Rattle.thread_pass.specs.interfere_set.Stores.{Interferences}
+use Rattle.interfere_set.specs.Stores.{Interferences}
 use Rattle.thread_pass.specs.program_equations.Programs.{ProgramBodies}
 use Rattle.program_solutions.specs.LeastReports.{IsLeastReport}
 use Rattle.source_programs.specs.Sources.{IsRefused}

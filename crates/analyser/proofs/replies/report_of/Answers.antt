@@ -1,4 +1,4 @@
-use Rattle.tm_laid.specs.Layouts.{laid_tree}
+use Rattle.thread_pass.specs.tm_laid.Layouts.{laid_tree}
 use Rattle.analyser.proofs.Sound.{few_objects, lists_all}
 use Rattle.analyser.proofs.replies.report_of.Goals as goal
 

@@ -1,9 +1,9 @@
-use Rattle.std.proofs.Common.{◌≡◌, ◌∙◌}
+use Rattle.std.proofs.Common.{◌∙◌, ap, sym}
 use Rattle.std.specs.Option.{option_copied}
 use Rattle.post_recheck.specs.program_systems.ReadPrograms.{program_of}
 use Rattle.worker_solutions.specs.QuietHistories.{present_store}
+use Rattle.worker_solutions.proofs.EachTable.{if_ok_by, same_some, none_some}
 use Rattle.worker_solutions.proofs.QuietCores.{kept_least}
-use Rattle.worker_solutions.proofs.EachTable.{if_ok_by, same_kept, none_kept}
 use Rattle.worker_solutions.proofs.tables.kept_table.Goals as goal
 
 pub returns-in-Some : goal.returns-in-Some
@@ -12,14 +12,14 @@ returns-in-Some c =
     let p = program_of core.program in
     let now = c.quiet_kept.ensures core.program core.workers c.args.task core.past (option_copied c.kept.result)
     c.history.ensures.legal c.requires.quiet c.requires.task c.kept.ensures in
-    if_ok_by c.copied_table.result c.copied_table.ensures (λ table e.
-    kept_least p c.args.task (present_store p core.past) c.in-Some.kept.now now.what
-    (same_kept c.kept.result c.in-Some.kept now.what c.in-Some.is now.is) now.made_is now.over table.items
-    (e ∙ c.table.ensures))
+    if_ok_by c.copied_table.result c.copied_table.ensures
+    (λ table e. kept_least p c.args.task (present_store p core.past) c.in-Some.kept.now now.what
+    (same_some c.in-Some.kept.now now.what (sym (ap option_copied c.in-Some.is) ∙ now.is)) now.made_is now.over
+    table.items (e ∙ c.table.ensures))
 
 pub unreachable-requires : goal.unreachable-requires
 unreachable-requires c =
     let core = c.args.core.now in
     let now = c.quiet_kept.ensures core.program core.workers c.args.task core.past (option_copied c.kept.result)
     c.history.ensures.legal c.requires.quiet c.requires.task c.kept.ensures in
-    none_kept c.kept.result now.what c.in-None.is now.is
+    none_some now.what (sym (ap option_copied c.in-None.is) ∙ now.is)
