@@ -1,7 +1,7 @@
 -- Lists that are closed under rules: what some elements give belongs to them.
-use Rattle.std.specs.Prelude.{◌≡◌, ◌⊎◌, ℕ, zero, suc, ◌<◌, ◌≤◌, List, [], ◌∷◌, length, Contains}
+use Rattle.std.specs.Prelude.{◌≡◌, ◌⊎◌, ℕ, zero, suc, ◌≤◌, List, [], ◌∷◌, length, Contains}
 use Rattle.std.proofs.Common.{refl, sym, subst, inl, inr, arith}
-use Rattle.flow_graph.specs.Graphs.{Among}
+use Rattle.region_cells.specs.flow_graph.Graphs.{Among}
 use Rattle.configured_laws.proofs.Lists.{first_or, behind, first, none_in}
 use Rattle.configured_laws.proofs.Choices.{Either}
 

@@ -5,11 +5,11 @@ use Rattle.std.proofs.Common.{refl, sym, ap, ap₂, subst, ◌∙◌, inl, inr, 
 use Rattle.std.proofs.lemmas.Bool.{cases_lt}
 use Rattle.std.proofs.lemmas.List.{get_or_default}
 use Rattle.indexmap.proofs.IndexTableLemmas.Probe.{pigeonhole}
-use Rattle.program_graphs.specs.tm_terms.declared.refusals.Limit.TheVariants as Limits
-use Rattle.program_graphs.specs.tm_terms.Limits.{limit_number}
-use Rattle.program_graphs.specs.tm_laid.Layouts.{LaidTree}
-use Rattle.program_graphs.specs.flow_graph.declared.graphs.Graph.{Graph}
-use Rattle.program_graphs.specs.flow_graph.Graphs.{Edges}
+use Rattle.region_cells.specs.tm_terms.declared.refusals.Limit.TheVariants as Limits
+use Rattle.region_cells.specs.tm_terms.Limits.{limit_number}
+use Rattle.region_cells.specs.tm_laid.Layouts.{LaidTree}
+use Rattle.region_cells.specs.flow_graph.declared.graphs.Graph.{Graph}
+use Rattle.region_cells.specs.flow_graph.Graphs.{Edges}
 use Rattle.program_graphs.specs.mutex_configs.declared.nodes.ConfiguredNode.{ConfiguredNode}
 use Rattle.program_graphs.specs.mutex_configs.declared.nodes.ConfiguredGraph.{ConfiguredGraph}
 use Rattle.program_graphs.specs.mutex_configs.Nodes.{IsBefore, AreNodes, HasMoreNodes, all_copies, IsConfigured}

@@ -5,9 +5,9 @@ use Rattle.std.proofs.Common.{refl, sym, subst, arith, suc-mul}
 use Rattle.std.proofs.lemmas.Bool.{eqb-false, cond_both}
 use Rattle.std.proofs.lemmas.List.{length-append, length-map}
 use Rattle.std.proofs.lemmas.List.Elements.{All-head, All-tail}
-use Rattle.program_graphs.specs.flow_graph.declared.graphs.Edge.{Edge}
-use Rattle.program_graphs.specs.flow_graph.declared.operations.Operation.{Operation}
-use Rattle.program_graphs.specs.flow_graph.Graphs.{Edges, leaving, IsFork, IsPlain}
+use Rattle.region_cells.specs.flow_graph.declared.graphs.Edge.{Edge}
+use Rattle.region_cells.specs.flow_graph.declared.operations.Operation.{Operation}
+use Rattle.region_cells.specs.flow_graph.Graphs.{Edges, leaving, IsFork, IsPlain}
 use Rattle.program_graphs.specs.mutex_configs.declared.nodes.ConfiguredNode.{ConfiguredNode}
 use Rattle.program_graphs.specs.mutex_configs.declared.nodes.EdgeCopy.{EdgeCopy}
 use Rattle.program_graphs.specs.mutex_configs.Sets.{answers_of, is_probe}

@@ -6,6 +6,7 @@ pub mod Closures
 pub mod SomeLive
 pub mod SomeHeads
 pub mod SomeWritten
+pub mod SomeFacts
 pub mod SomeNodes
 pub mod FewEdges
 pub mod SomePrograms

@@ -2,13 +2,13 @@
 use Rattle.std.specs.Prelude.{◌≡◌, ℕ, ◌<◌, List, length, get_or, Ok, Err}
 use Rattle.std.proofs.Common.{sym, subst, ◌∙◌, inl, inr, arith}
 use Rattle.std.proofs.lemmas.List.{same_lists, get_or-map, length-map}
-use Rattle.program_graphs.specs.tm_terms.declared.refusals.Fail.TheVariants as Fails
-use Rattle.program_graphs.specs.tm_terms.declared.refusals.Limit.TheVariants as Limits
-use Rattle.program_graphs.specs.tm_terms.declared.refusals.Refusal.{Refusal}
-use Rattle.program_graphs.specs.tm_terms.Limits.{limit_number}
-use Rattle.program_graphs.specs.tm_laid.Layouts.{LaidTree}
-use Rattle.program_graphs.specs.flow_graph.declared.graphs.Graph.{Graph}
-use Rattle.program_graphs.specs.flow_graph.Graphs.{Edges}
+use Rattle.region_cells.specs.tm_terms.declared.refusals.Fail.TheVariants as Fails
+use Rattle.region_cells.specs.tm_terms.declared.refusals.Limit.TheVariants as Limits
+use Rattle.region_cells.specs.tm_terms.declared.refusals.Refusal.{Refusal}
+use Rattle.region_cells.specs.tm_terms.Limits.{limit_number}
+use Rattle.region_cells.specs.tm_laid.Layouts.{LaidTree}
+use Rattle.region_cells.specs.flow_graph.declared.graphs.Graph.{Graph}
+use Rattle.region_cells.specs.flow_graph.Graphs.{Edges}
 use Rattle.program_graphs.specs.graph_builder.Lowered.{AreGraphs, HasTooManyNodes}
 use Rattle.program_graphs.specs.mutex_configs.declared.nodes.ConfiguredGraph.{ConfiguredGraph}
 use Rattle.program_graphs.specs.mutex_configs.Nodes.{HasMoreNodes}

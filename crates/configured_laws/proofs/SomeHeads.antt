@@ -1,12 +1,12 @@
 -- The heads of a graph with the last nodes of their regions are a list.
-use Rattle.std.specs.Prelude.{◌≡◌, ◌⊎◌, ℕ, ◌<◌, ◌≤◌, List, [], ◌∷◌, map, All, Contains}
+use Rattle.std.specs.Prelude.{◌≡◌, ◌⊎◌, ℕ, ◌≤◌, List, [], ◌∷◌, Contains}
 use Rattle.std.specs.List.Sorted.{IsStrictlyIncreasing}
-use Rattle.std.proofs.Common.{refl, sym, ap, subst, ◌∙◌, inl, inr, arith}
+use Rattle.std.proofs.Common.{refl, sym, ap, subst, inl, inr, arith}
 use Rattle.std.proofs.lemmas.Bool.{cases_lt}
-use Rattle.flow_graph.specs.declared.graphs.Edge.{Edge}
-use Rattle.flow_graph.specs.Graphs.{Edges, Among, IsBack, IsHead, IsInRegion}
-use Rattle.graph_facts.specs.declared.regions.Head.{Head}
-use Rattle.graph_facts.specs.Heads.{IsHeadUpTo, nodes_of, AreHeads}
+use Rattle.region_cells.specs.flow_graph.declared.graphs.Edge.{Edge}
+use Rattle.region_cells.specs.flow_graph.Graphs.{Edges, Among, IsBack, IsHead}
+use Rattle.region_cells.specs.graph_facts.declared.regions.Head.{Head}
+use Rattle.region_cells.specs.graph_facts.Heads.{IsHeadUpTo, nodes_of, AreHeads}
 use Rattle.configured_laws.proofs.Lists.{behind, first}
 use Rattle.configured_laws.proofs.Choices.{Either, both, at_most, same_number, AreChosen, chosen, for_keys}
 

@@ -1,15 +1,15 @@
 -- The live temporaries of a graph are lists.
-use Rattle.std.specs.Prelude.{◌≡◌, ◌⊎◌, ℕ, ◌<◌, List, [], ◌∷◌, ◌++◌, length, get_or, Option, Some, None, Contains}
+use Rattle.std.specs.Prelude.{◌≡◌, ◌⊎◌, ℕ, ◌<◌, List, [], ◌∷◌, ◌++◌, get_or, Option, Some, None, Contains}
 use Rattle.std.specs.List.Sorted.{IsStrictlyIncreasing}
-use Rattle.std.proofs.Common.{refl, sym, ap, subst, inl, inr, arith}
+use Rattle.std.proofs.Common.{sym, ap, subst, inl, inr}
 use Rattle.std.proofs.lemmas.List.Elements.{Contains-append_left, Contains-append_right}
-use Rattle.flow_graph.specs.declared.graphs.Edge.{Edge}
-use Rattle.flow_graph.specs.Operations.{used, given}
-use Rattle.flow_graph.specs.Graphs.{Edges, Among, IsLive, by_use, by_flow}
-use Rattle.graph_facts.specs.Live.{AreLive}
+use Rattle.region_cells.specs.flow_graph.declared.graphs.Edge.{Edge}
+use Rattle.region_cells.specs.flow_graph.Operations.{used, given}
+use Rattle.region_cells.specs.flow_graph.Graphs.{Edges, Among, IsLive, by_use, by_flow}
+use Rattle.region_cells.specs.graph_facts.Live.{AreLive}
 use Rattle.configured_laws.proofs.Lists.{behind, first}
 use Rattle.configured_laws.proofs.Choices.{Either, both, one_of, same_number, is_among, is_in, AreChosen, chosen, for_each}
-use Rattle.configured_laws.proofs.Closures.{IsClosed, closure}
+use Rattle.configured_laws.proofs.Closures.{closure}
 
 -- an operation does not give this temporary
 not_given : (o : Option ℕ) (t : ℕ) → Either (o ≡ Some t → ⊥)

@@ -6,8 +6,8 @@ use Rattle.std.specs.Cmp.{IsEquivalence}
 use Rattle.std.proofs.lemmas.Map.Keys.{IsDistinct-push}
 use Rattle.std.proofs.lemmas.List.{length-append}
 use Rattle.std.proofs.lemmas.Bool.{cases_lt, cond_both, eq-eqb}
-use Rattle.program_graphs.specs.flow_graph.declared.graphs.Edge.{Edge}
-use Rattle.program_graphs.specs.flow_graph.Graphs.{Edges}
+use Rattle.region_cells.specs.flow_graph.declared.graphs.Edge.{Edge}
+use Rattle.region_cells.specs.flow_graph.Graphs.{Edges}
 use Rattle.program_graphs.specs.mutex_configs.declared.nodes.ConfiguredNode.{ConfiguredNode}
 use Rattle.program_graphs.specs.mutex_configs.Sets.{answers_of, leads_nowhere, node_after}
 use Rattle.program_graphs.specs.mutex_configs.Nodes.{IsReached, IsBefore, AreNodes, HasMoreNodes, entry_node}

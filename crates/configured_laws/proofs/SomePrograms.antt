@@ -6,11 +6,11 @@ use Rattle.indexmap.specs.Layout.{hash_map, key_set}
 use Rattle.std.proofs.lemmas.Nat.{mul-le}
 use Rattle.std.proofs.lemmas.Bool.{cases_lt}
 use Rattle.std.proofs.lemmas.List.Elements.{All-head, All-tail}
-use Rattle.program_graphs.specs.tm_terms.declared.refusals.Limit.TheVariants as Limits
-use Rattle.program_graphs.specs.tm_terms.Limits.{limit_number}
-use Rattle.program_graphs.specs.tm_laid.Layouts.{LaidTree, beyond}
-use Rattle.program_graphs.specs.flow_graph.declared.graphs.Graph.{Graph}
-use Rattle.program_graphs.specs.flow_graph.Graphs.{Edges}
+use Rattle.region_cells.specs.tm_terms.declared.refusals.Limit.TheVariants as Limits
+use Rattle.region_cells.specs.tm_terms.Limits.{limit_number}
+use Rattle.region_cells.specs.tm_laid.Layouts.{LaidTree, beyond}
+use Rattle.region_cells.specs.flow_graph.declared.graphs.Graph.{Graph}
+use Rattle.region_cells.specs.flow_graph.Graphs.{Edges}
 use Rattle.program_graphs.specs.mutex_configs.declared.nodes.ConfiguredNode.{ConfiguredNode}
 use Rattle.program_graphs.specs.mutex_configs.declared.nodes.ConfiguredGraph.{ConfiguredGraph}
 use Rattle.program_graphs.specs.mutex_configs.Nodes.{AreNodes, IsConfigured, all_copies}

@@ -1,19 +1,20 @@
 -- The cells that are written in the regions of heads are lists.
-use Rattle.std.specs.Prelude.{◌≡◌, ◌⊎◌, ℕ, zero, suc, ◌+◌, ◌<◌, ◌≤◌, Bool, true, false, List, [], ◌∷◌, length, get_or}
+use Rattle.std.specs.Prelude.{◌≡◌, ℕ, zero, suc, ◌+◌, ◌<◌, ◌≤◌, Bool, true, false, List, [], ◌∷◌, length, get_or}
 use Rattle.std.specs.Prelude.{Contains}
 use Rattle.std.proofs.Common.{refl, sym, subst, inl, inr, arith, true≢false}
 use Rattle.std.proofs.lemmas.Bool.{cases_lt}
 use Rattle.std.proofs.lemmas.List.{get_or_default}
-use Rattle.tm_typed.specs.declared.types.Scalar.{Scalar}
-use Rattle.tm_laid.specs.Layouts.{LaidTree, object_at, abstract_at, is_same_scalar}
-use Rattle.flow_graph.specs.declared.graphs.Edge.{Edge}
-use Rattle.flow_graph.specs.declared.operations.Into.{Into}
-use Rattle.flow_graph.specs.declared.operations.Into.TheVariants as Intos
-use Rattle.flow_graph.specs.declared.operations.Operation.{Operation}
-use Rattle.flow_graph.specs.declared.operations.Operation.TheVariants as Op
-use Rattle.flow_graph.specs.Graphs.{Edges, Among, IsInRegion, IsOfObject, IsOfScalar, StoresInto, WritesCell, IsWritten}
-use Rattle.graph_facts.specs.declared.regions.Head.{Head}
-use Rattle.graph_facts.specs.Heads.{IsHeadUpTo, AreHeads}
+use Rattle.region_cells.specs.tm_typed.declared.types.Scalar.{Scalar}
+use Rattle.region_cells.specs.tm_laid.Layouts.{LaidTree, object_at, abstract_at, is_same_scalar}
+use Rattle.region_cells.specs.flow_graph.declared.graphs.Edge.{Edge}
+use Rattle.region_cells.specs.flow_graph.declared.operations.Into.{Into}
+use Rattle.region_cells.specs.flow_graph.declared.operations.Into.TheVariants as Intos
+use Rattle.region_cells.specs.flow_graph.declared.operations.Operation.{Operation}
+use Rattle.region_cells.specs.flow_graph.declared.operations.Operation.TheVariants as Op
+use Rattle.region_cells.specs.flow_graph.Graphs.{Edges, IsInRegion, IsOfObject, StoresInto}
+use Rattle.region_cells.specs.flow_graph.Graphs.{WritesCell, IsWritten}
+use Rattle.region_cells.specs.graph_facts.declared.regions.Head.{Head}
+use Rattle.region_cells.specs.graph_facts.Heads.{IsHeadUpTo, AreHeads}
 use Rattle.region_cells.specs.Written.{AreWritten, AreAllWritten}
 use Rattle.configured_laws.proofs.Lists.{behind, first}
 use Rattle.configured_laws.proofs.Choices.{Either, both, at_most, some_among, AreChosen, chosen, for_each}

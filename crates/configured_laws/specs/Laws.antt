@@ -1,11 +1,15 @@
 -- Each layout of a typed file has a program or exceeds a limit, and not both.
-use Rattle.std.specs.Prelude.{◌≡◌, ◌⊎◌, List, [], ◌∷◌, map, Ok, Err}
-use Rattle.program_graphs.specs.tm_terms.declared.refusals.Fail.TheVariants as Fails
-use Rattle.program_graphs.specs.tm_terms.declared.refusals.Limit.TheVariants as Limits
-use Rattle.program_graphs.specs.tm_terms.declared.refusals.Refusal.{Refusal}
-use Rattle.program_graphs.specs.tm_laid.Layouts.{LaidTree, beyond}
-use Rattle.program_graphs.specs.flow_graph.declared.graphs.Graph.{Graph}
-use Rattle.program_graphs.specs.flow_graph.Graphs.{Edges}
+use Rattle.std.specs.Prelude.{◌≡◌, ◌⊎◌, ℕ, List, [], ◌∷◌, map, Ok, Err}
+use Rattle.region_cells.specs.tm_terms.declared.refusals.Fail.TheVariants as Fails
+use Rattle.region_cells.specs.tm_terms.declared.refusals.Limit.TheVariants as Limits
+use Rattle.region_cells.specs.tm_terms.declared.refusals.Refusal.{Refusal}
+use Rattle.region_cells.specs.tm_laid.Layouts.{LaidTree, beyond}
+use Rattle.region_cells.specs.flow_graph.declared.graphs.Graph.{Graph}
+use Rattle.region_cells.specs.flow_graph.Graphs.{Edges}
+use Rattle.region_cells.specs.graph_facts.declared.regions.Head.{Head}
+use Rattle.region_cells.specs.graph_facts.Live.{AreLive}
+use Rattle.region_cells.specs.graph_facts.Heads.{AreHeads}
+use Rattle.region_cells.specs.Written.{AreAllWritten}
 use Rattle.program_graphs.specs.mutex_configs.declared.nodes.ConfiguredGraph.{ConfiguredGraph}
 use Rattle.program_graphs.specs.lowering_laws.LaidFiles.{IsLaidFile}
 use Rattle.program_graphs.specs.Prepared.{Graphed, IsPrepared}
@@ -46,3 +50,17 @@ abbrev pub ProgramsAreAlike : Type 0
 ProgramsAreAlike =
     (laid : LaidTree) (p q : Graphed) → IsProgram laid p → IsProgram laid q
     → (edges_of p.graphs ≡ edges_of q.graphs) × AreAlike p.configured q.configured
+
+-- ## What the graphs of a program have
+
+-- Live temporaries, and heads with the cells that are written in their regions, are lists, whatever the graph.
+pub record HasFacts (laid : LaidTree) (g : Edges) (nodes : ℕ) : Type 0 where
+  pub live : List (List ℕ)
+  pub are_live : AreLive g nodes live
+  pub heads : List Head
+  pub are_heads : AreHeads g heads
+  pub written : List (List ℕ)
+  pub are_written : AreAllWritten laid g heads written
+
+abbrev pub FactsOfGraphs : Type 0
+FactsOfGraphs = (laid : LaidTree) (g : Edges) (nodes : ℕ) → HasFacts laid g nodes

@@ -1,5 +1,5 @@
 //! The laws. They speak of definitions alone: no call is made.
-ghost use Rattle.configured_laws.specs.Laws.{NeverBoth, OneLimit, ProgramsAreAlike, SomeProgram};
+ghost use Rattle.configured_laws.specs.Laws.{FactsOfGraphs, NeverBoth, OneLimit, ProgramsAreAlike, SomeProgram};
 
 /// The layout of a typed file has a program: the graph of each body with its configured graph. Or else it exceeds the
 /// limit of nodes, or that of work.
@@ -12,4 +12,10 @@ pub fn one_answer()
     ensures apart { NeverBoth }
     ensures limit { OneLimit }
     ensures program { ProgramsAreAlike }
+{}
+
+/// What a program has of each graph is there, whatever the graph: its live temporaries, and its heads with the cells
+/// that are written in their regions.
+pub fn facts_of_graphs()
+    ensures { FactsOfGraphs }
 {}

@@ -9,4 +9,4 @@
 
 mod laws;
 
-pub use laws::{one_answer, some_program};
+pub use laws::{facts_of_graphs, one_answer, some_program};
