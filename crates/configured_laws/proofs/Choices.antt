@@ -89,28 +89,28 @@ module _ (P : ℕ → Type 0) (by : (x : ℕ) → Either (P x)) where
       → (ys : List ℕ) × ((z : ℕ) → Contains ys z → P z) × ((z : ℕ) → Contains xs z → P z → Contains ys z)
   picked [] = ([], λ z c. absurd (none_in z c), λ z c p. absurd (none_in z c))
   picked (x ∷ xs) =
-    let (ys, has, all) = picked xs in
-    elim (by x) [
-      | inl p ↦ (
-        x ∷ ys,
-        λ z c. elim (first_or x ys z c) [
-          | inl e ↦ subst P e p
-          | inr d ↦ has z d
-        ],
-        λ z c q. elim (first_or x xs z c) [
-          | inl e ↦ subst (Contains (x ∷ ys)) e (first x ys)
-          | inr d ↦ behind x ys z (all z d q)
-        ],
-      )
-      | inr not ↦ (
-        ys,
-        has,
-        λ z c q. elim (first_or x xs z c) [
-          | inl e ↦ absurd (not (subst P (sym e) q))
-          | inr d ↦ all z d q
-        ],
-      )
-    ]
+      let (ys, has, all) = picked xs in
+      elim (by x) [
+        | inl p ↦ (
+          x ∷ ys,
+          λ z c. elim (first_or x ys z c) [
+            | inl e ↦ subst P e p
+            | inr d ↦ has z d
+          ],
+          λ z c q. elim (first_or x xs z c) [
+            | inl e ↦ subst (Contains (x ∷ ys)) e (first x ys)
+            | inr d ↦ behind x ys z (all z d q)
+          ],
+        )
+        | inr not ↦ (
+          ys,
+          has,
+          λ z c q. elim (first_or x xs z c) [
+            | inl e ↦ absurd (not (subst P (sym e) q))
+            | inr d ↦ all z d q
+          ],
+        )
+      ]
 
   rising_by : (m n : ℕ) → (m < n) ⊎ ((m ≡ n) ⊎ (n < m))
   rising_by m n = elim (cases_lt m n) [
