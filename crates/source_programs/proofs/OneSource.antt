@@ -140,7 +140,7 @@ module _ (bytes : List ℕ) where
 
   -- ## Accepted and refused
 
-  none : (laid : LaidTree) (r : Refusal) → IsLaidSource bytes laid
+  pub none : (laid : LaidTree) (r : Refusal) → IsLaidSource bytes laid
       → ((s : Refusal) → IsPrepared laid (Err (Fails.Refused s)) → ⊥) → IsRefused bytes r → ⊥
   none laid _ h never (too_long l) = let short = h.short in omega (arith, short, l)
   none laid _ h never (not_lexed s l) = ok_is_err (one_lexing bytes h.lexed l)

@@ -27,7 +27,6 @@ use Rattle.program_graphs.proofs.low.typed_file_laws.Layable.{comes, are_layable
 use Rattle.c_typing.specs.Views.{answer_of as typed_answer}
 use Rattle.program_graphs.specs.lowering_laws.LaidFiles.{IsLaidFile}
 use Rattle.mutex_configs.specs.declared.programs.Program.{Program}
-use Rattle.program_graphs.specs.graph_builder.Lowered.{AreGraphs}
 use Rattle.program_graphs.specs.Prepared.{answer_of, IsPrepared}
 use Rattle.thresholds.specs.Thresholds.{numbers_of, AreThresholds}
 use Rattle.program_laws.specs.program_equations.Programs.{ProgramBodies, IsProgramOf}
@@ -176,9 +175,8 @@ pub source_kept : (bytes : List ℕ) (laid : Laid) → IsLaidSource bytes (laid_
 source_kept bytes laid source (Ok p) same = subst (λ (l : LaidTree). IsLaidSource bytes l) (sym same) source
 source_kept bytes laid source (Err f) same = tt
 
-pub graphs_kept : (laid : Laid) (result : Result Program Fail) → IsPrepared (laid_tree laid) (answer_of result)
+pub prepared_kept : (laid : Laid) (result : Result Program Fail) → IsPrepared (laid_tree laid) (answer_of result)
     → IfOk result (λ p. laid_tree p.laid ≡ laid_tree laid)
-    → IfOk result (λ p. AreGraphs (laid_tree p.laid) p.graphs.graphs.items)
-graphs_kept laid (Ok p) prepared same =
-    subst (λ (l : LaidTree). AreGraphs l p.graphs.graphs.items) (sym same) prepared.0
-graphs_kept laid (Err f) prepared same = tt
+    → IfOk result (λ p. IsPrepared (laid_tree p.laid) (answer_of (Ok p)))
+prepared_kept laid (Ok p) prepared same = subst (λ (l : LaidTree). IsPrepared l (answer_of (Ok p))) (sym same) prepared
+prepared_kept laid (Err f) prepared same = tt

@@ -10,7 +10,6 @@ ghost use Rattle.program_graphs.specs.Prepared.{answer_of, IsPrepared};
 ghost use Rattle.thresholds.specs.Thresholds.{numbers_of, AreThresholds};
 ghost use Rattle.program_laws.specs.program_equations.Programs.{ProgramBodies, IsProgramOf};
 ghost use Rattle.program_laws.specs.program_systems.Analysable.{IsAnalysable};
-ghost use Rattle.program_graphs.specs.graph_builder.Lowered.{AreGraphs};
 ghost use Rattle.source_programs.specs.Sources.{longest_source, IsAccepted, IsLaidSource, source_limit, IsRefused};
 ghost use Rattle.source_programs.specs.Sources.{IfRefused};
 
@@ -79,7 +78,7 @@ fn typed_program(
     ensures analysable { IfOk result IsAnalysable }
     ensures numbered { IfOk result (λ program. length program.laid.objects.items ≤ 2 ^ 32) }
     ensures source { IfOk result (λ program. IsLaidSource bytes.now (laid_tree program.laid)) }
-    ensures graphs { IfOk result (λ program. AreGraphs (laid_tree program.laid) program.graphs.graphs.items) }
+    ensures prepared { IfOk result (λ program. IsPrepared (laid_tree program.laid) (answer_of (Ok program))) }
     ensures refused { IfRefused result (IsRefused bytes.now) }
 {
     match typed(alloc, file, main_in(bytes, tokens)) {
@@ -106,7 +105,7 @@ fn parsed_program(
     ensures analysable { IfOk result IsAnalysable }
     ensures numbered { IfOk result (λ program. length program.laid.objects.items ≤ 2 ^ 32) }
     ensures source { IfOk result (λ program. IsLaidSource bytes.now (laid_tree program.laid)) }
-    ensures graphs { IfOk result (λ program. AreGraphs (laid_tree program.laid) program.graphs.graphs.items) }
+    ensures prepared { IfOk result (λ program. IsPrepared (laid_tree program.laid) (answer_of (Ok program))) }
     ensures refused { IfRefused result (IsRefused bytes.now) }
 {
     match parse(alloc, tokens) {
@@ -124,7 +123,7 @@ fn lexed_program(alloc: Global, bytes: &[u8], given: &[u32]) -> Result<Program, 
     ensures analysable { IfOk result IsAnalysable }
     ensures numbered { IfOk result (λ program. length program.laid.objects.items ≤ 2 ^ 32) }
     ensures source { IfOk result (λ program. IsLaidSource bytes.now (laid_tree program.laid)) }
-    ensures graphs { IfOk result (λ program. AreGraphs (laid_tree program.laid) program.graphs.graphs.items) }
+    ensures prepared { IfOk result (λ program. IsPrepared (laid_tree program.laid) (answer_of (Ok program))) }
     ensures refused { IfRefused result (IsRefused bytes.now) }
 {
     match lex(alloc, bytes) {
@@ -148,9 +147,9 @@ pub fn source_program(alloc: Global, bytes: &[u8], given: &[u32]) -> Result<Prog
     // Numbers of 32 bits are enough for its objects.
     ensures numbered { IfOk result (λ program. length program.laid.objects.items ≤ 2 ^ 32) }
 
-    // The layout is that of the source, and the graphs are those of its bodies.
+    // The layout is that of the source, and it has these graphs and configured graphs.
     ensures source { IfOk result (λ program. IsLaidSource bytes.now (laid_tree program.laid)) }
-    ensures graphs { IfOk result (λ program. AreGraphs (laid_tree program.laid) program.graphs.graphs.items) }
+    ensures prepared { IfOk result (λ program. IsPrepared (laid_tree program.laid) (answer_of (Ok program))) }
 
     // Every refusal is one of the source. Beside these answers comes only want of memory.
     ensures refused { IfRefused result (IsRefused bytes.now) }

@@ -3,7 +3,7 @@ use Rattle.tm_laid.specs.tm_typed.TypedFiles.{typed_file_tree}
 use Rattle.tm_laid.specs.Layouts.{laid_tree}
 use Rattle.source_programs.proofs.Analysing.{program_analysable}
 use Rattle.source_programs.proofs.Stations.{typing_refused, layout_refused, laid_source, laid_file, layable, order_kept}
-use Rattle.source_programs.proofs.Stations.{program_accepted, program_refused, objects_kept, source_kept, graphs_kept}
+use Rattle.source_programs.proofs.Stations.{program_accepted, program_refused, objects_kept, source_kept, prepared_kept}
 use Rattle.source_programs.proofs.sources.typed_program.Goals as goal
 
 pub lay-requires : goal.lay-requires
@@ -42,9 +42,9 @@ returns-in-Ok-lay-clause-source c =
     (file_tree c.args.file.now) c.requires.parsed (typed_file_tree c.in-Ok.typed) c.in-Ok.ensures.told
     (laid_tree c.in-Ok-lay.laid) c.in-Ok-lay.ensures.told) c.laid_program.result c.laid_program.ensures.laid
 
-pub returns-in-Ok-lay-clause-graphs : goal.returns-in-Ok-lay-clause-graphs
-returns-in-Ok-lay-clause-graphs c =
-    graphs_kept c.in-Ok-lay.laid c.laid_program.result c.laid_program.ensures.prepared c.laid_program.ensures.laid
+pub returns-in-Ok-lay-clause-prepared : goal.returns-in-Ok-lay-clause-prepared
+returns-in-Ok-lay-clause-prepared c =
+    prepared_kept c.in-Ok-lay.laid c.laid_program.result c.laid_program.ensures.prepared c.laid_program.ensures.laid
 
 pub returns-in-Ok-lay-clause-refused : goal.returns-in-Ok-lay-clause-refused
 returns-in-Ok-lay-clause-refused c =
