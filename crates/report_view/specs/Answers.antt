@@ -1,0 +1,47 @@
+-- What the program answers: the view of a report over a text, or why there is none.
+use Rattle.std.specs.Prelude.{◌≡◌, ℕ, ◌+◌, ◌⊎◌, Bool, List, Option}
+use Rattle.std.specs.Io.KnownBytes.{append_known}
+use Rattle.report_views.specs.declared.causes.Cause.{Cause}
+use Rattle.report_views.specs.declared.views.Form.{Form}
+use Rattle.report_views.specs.Causes.{cause_text, IsCause, longest_report, longest_text}
+use Rattle.report_views.specs.Views.{IsView}
+use Rattle.report_view.specs.Streams.{IsRead, TakesFrontOf}
+
+-- By what two streams have left before and after a call: the report, and the text whose first file has this name.
+module _ (form : Form) (name : List ℕ) (report_left report_left' text_left text_left' : Option (List ℕ)) where
+  -- these bytes of both were read: each to its end, or past the most that it may have
+  pub record AreRead (report text : List ℕ) : Type 0 where
+    pub report_read : IsRead report_left report_left' (longest_report + 1) report
+    pub text_read : IsRead text_left text_left' (longest_text + 1) text
+
+  -- a stream has taken the whole view of the report, which has an alarm or none
+  pub record Shows (alarm : Bool) (taken taken' : Option (List ℕ)) : Type 0 where
+    pub report : List ℕ
+    pub text : List ℕ
+    pub read : AreRead report text
+    pub view : List ℕ
+    pub is : IsView form name report text alarm view
+    pub appended : taken' ≡ append_known taken view
+
+  -- a stream has taken a front of the view
+  pub record ShowsFront (taken taken' : Option (List ℕ)) : Type 0 where
+    pub report : List ℕ
+    pub text : List ℕ
+    pub read : AreRead report text
+    pub alarm : Bool
+    pub view : List ℕ
+    pub is : IsView form name report text alarm view
+    pub front : TakesFrontOf view taken taken'
+
+  -- a stream has taken the line of the cause for which there is no view
+  pub record Tells (taken taken' : Option (List ℕ)) : Type 0 where
+    pub report : List ℕ
+    pub text : List ℕ
+    pub read : AreRead report text
+    pub cause : Cause
+    pub is : IsCause name report text cause
+    pub appended : taken' ≡ append_known taken (cause_text cause)
+
+  -- a stream has taken nothing, or a front of the view
+  abbrev pub ShowsNoMore : Option (List ℕ) → Option (List ℕ) → Type 0
+  ShowsNoMore taken taken' = (taken' ≡ taken) ⊎ ShowsFront taken taken'

@@ -1,0 +1,5 @@
+pub mod Answers
+pub mod Statuses
+pub mod Streams
+pub mod Words
+pub mod reading

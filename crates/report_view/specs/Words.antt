@@ -1,0 +1,23 @@
+-- Which words are a command, each a list of bytes behind the program's name.
+use Rattle.std.specs.Prelude.{ℕ, List, [], ◌∷◌, codes, Option, Some, None, option_map, bytes_eq, if◌then◌else◌}
+use Rattle.report_views.specs.declared.views.Form.{Form}
+use Rattle.report_views.specs.declared.views.Form.TheVariants.{Lines, Sarif, Summary}
+
+-- the form that a word asks for
+abbrev pub form_of : List ℕ → Option Form
+form_of word =
+    if bytes_eq word (codes "--lines") then Some Lines
+    else (if bytes_eq word (codes "--sarif") then Some Sarif
+    else (if bytes_eq word (codes "--summary") then Some Summary
+    else None))
+
+-- what a command asks for
+pub record Asked : Type 0 where
+  pub form : Form
+  pub text : List ℕ
+  pub name : List ℕ
+
+-- a form, the file that holds the text, and the name of the file from which its first line comes; no other words are a command
+abbrev pub asked_of : List (List ℕ) → Option Asked
+asked_of (word ∷ file ∷ first ∷ []) = option_map (λ form. record { form = form; text = file; name = first }) (form_of word)
+asked_of _ = None

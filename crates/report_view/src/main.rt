@@ -1,0 +1,62 @@
+//! The program `report_view FORM TEXT NAME < REPORT`: it reads a report, as JSON, from standard input, and the text that
+//! it is of from the file TEXT, and writes the view of the report to standard output. FORM is `--lines`, `--sarif` or
+//! `--summary`; NAME is the name of the file from which the first line of the text comes, spelled as in a line mark. Why
+//! a report is refused goes to standard error. Where the system does not give the program its words, it writes nothing and
+//! ends with status 7.
+#![tactic(auto)]
+
+mod input;
+mod output;
+mod statuses;
+mod top;
+mod words;
+
+use crate::statuses::Status;
+use crate::top::answer;
+use crate::words::{Asked, read_words};
+use std::env;
+use std::fs::File;
+use std::process::ExitCode;
+use tm_io::{StdSink, StdSource};
+
+/// The status where the system does not give the program its words.
+const NO_WORDS: u8 = 7;
+
+/// The line that says how the program is used.
+const USAGE: &str = "usage: report_view --lines|--sarif|--summary TEXT NAME < REPORT";
+
+/// What the program does with words, behind its own name.
+fn run(rt: &HostRuntime, words: &[String]) -> Status {
+    let Some(asked) = read_words(words) else {
+        return match rt.eprintln(USAGE) {
+            Ok(()) => Status::Usage,
+            Err(_) => Status::WriteFault,
+        };
+    };
+    let Ok(text) = File::open(rt, asked.text) else {
+        return Status::ReadFault;
+    };
+    let mut report = StdSource::new(rt.stdin());
+    let mut text = StdSource::new(text);
+    let mut out = StdSink::new(rt.stdout());
+    let mut told = StdSink::new(rt.stderr());
+    answer(
+        rt.alloc(),
+        asked,
+        &mut report,
+        &mut text,
+        &mut out,
+        &mut told,
+    )
+}
+
+fn main(rt: HostRuntime) -> ExitCode {
+    let Ok(mut words) = env::args(&rt) else {
+        return ExitCode::from(NO_WORDS);
+    };
+    let _program = words.next();
+    let Ok(words) = words.collect::<Vec<String>>(rt.alloc()) else {
+        return ExitCode::from(Status::NoMemory.number());
+    };
+    ExitCode::from(run(&rt, &words).number())
+}
