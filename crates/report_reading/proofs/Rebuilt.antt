@@ -9,8 +9,8 @@ use Rattle.serde_json.specs.Read.{max_depth, read}
 use Rattle.serde_json.specs.View.{items_of}
 use Rattle.serde_json.specs.Written.{compact_text, has_float}
 use Rattle.serde_json.proofs.OnLiterals.{serde_json_on_literals}
-use Rattle.tm_terms.specs.tm_cint.declared.Class.{Class}
-use Rattle.tm_terms.specs.tm_cint.declared.Class.TheVariants.{Overflow, Div, Shift, Index, Pointer, Deref, Lock, Race}
+use Rattle.tm_cint.specs.declared.Class.{Class}
+use Rattle.tm_cint.specs.declared.Class.TheVariants.{Overflow, Div, Shift, Index, Pointer, Deref, Lock, Race}
 use Rattle.tm_terms.specs.declared.alarms.Alarm.{Alarm}
 use Rattle.tm_terms.specs.Texts.{class_text}
 use Rattle.report_json.specs.JsonReports.{alarm_data, json_text, report_data, report_object}

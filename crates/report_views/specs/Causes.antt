@@ -5,7 +5,7 @@ use Rattle.serde_json.specs.Read.{read}
 use Rattle.tm_terms.specs.declared.alarms.Alarm.{Alarm}
 use Rattle.tm_terms.specs.declared.places.Place.{Place}
 use Rattle.tm_terms.specs.Texts.{line_of, place_text}
-use Rattle.report_json.specs.JsonReports.{report_data}
+use Rattle.report_reading.specs.report_json.JsonReports.{report_data}
 use Rattle.report_reading.specs.Reports.{IsNoReport}
 use Rattle.source_marks.specs.Marks.{IsBrokenAt, lines_of, origins_of, Origin}
 use Rattle.report_views.specs.Spots.{IsOutside}
