@@ -1,8 +1,9 @@
 #!/usr/bin/env bash
-# Shows reports in the files of their sources: benches/view.sh [--unproved]. It needs gcc, clang and make.
+# Shows reports in the files of their sources: benches/view.sh [--unproved]. It needs gcc, clang, make and python3.
 #
 # The example of two files and a header is compiled and run by gcc and clang, unchanged, and analysed: its alarms stand at
 # the lines of its files, also through a link, from another folder, and under names with blanks, quotes and backslashes.
+# The logs of all examples are checked, and have the places of the lines.
 set -eu
 here=$(cd "$(dirname "$0")" && pwd)
 top=${here%/*}
@@ -58,6 +59,31 @@ for compiler in gcc clang; do
     same "$wanted" "$got" "from another folder, by $compiler"
 done
 unset CC
+
+# The logs and summaries of the examples: each log has the places and classes of the lines.
+for source in "$top"/examples/*.c "$top/examples/project/project.c"; do
+    told "$top/analyse" --sarif "$source" >"$work/log"
+    sed -i '$d' "$work/log"
+    python3 "$here/sarif.py" "$work/log"
+    same "$(told "$top/analyse" "$source" | sed -n 's/^\(.*:[0-9]*:[0-9]*: [A-Z]*\): .*/\1/p')" \
+        "$(python3 -c 'import json, sys, urllib.parse
+for run in json.load(open(sys.argv[1]))["runs"]:
+    for it in run["results"]:
+        at = it["locations"][0]["physicalLocation"]
+        print(urllib.parse.unquote(at["artifactLocation"]["uri"]), at["region"]["startLine"], at["region"]["startColumn"],
+              " " + it["ruleId"], sep=":")' "$work/log")" "the log of ${source##*/}"
+    same "$(told "$top/analyse" "$source" | tail -n 2)" "$(told "$top/analyse" --summary "$source" | tail -n 2)" \
+        "the summary of ${source##*/}"
+done
+
+# Refusals at their places, marks that cannot be followed, and names that are no UTF-8.
+printf '# 7 "a b.h"\nint\n=;\n' >"$work/refused.c"
+same $'a b.h:8:1: refused Syntax\nstatus 2' "$(told "$top/analyse" --preprocessed "$work/refused.c")" "a refusal"
+printf '# 99999999999 "a.h"\nint n;\n' >"$work/broken.c"
+same "status 10" "$(told "$top/analyse" --preprocessed "$work/broken.c")" "a broken mark"
+printf 'int n;\n__task(1) void t(void) { n = 1 / n; }\n' >"$work/"$'n\xff.c'
+same "$work/"$'n\xff.c:2:32: DIV: the divisor may be zero\nalarms 1\nstatus 1' \
+    "$(told "$top/analyse" "$work/"$'n\xff.c')" "a name that is no UTF-8"
 
 # A preprocessor that fails, and one that is not there.
 printf '#error no\n' >"$work/error.c"
