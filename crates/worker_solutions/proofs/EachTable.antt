@@ -15,7 +15,7 @@ module _ {A : Type 0} (P : ℕ → List (Option State) → Type 0) (xs ys : List
   split = ap lists_of is ∙ map-append (λ (v : Vec (Option State) A). v.items) xs (x ∷ [])
 
   counted : length (lists_of xs) ≡ n
-  counted = length-map (λ (v : Vec (Option State) A). v.items) xs ∙ count
+  counted = length-map xs (λ (v : Vec (Option State) A). v.items) ∙ count
 
   pub each_table : ((t : ℕ) → t < n → P t (table_at (lists_of xs) t)) → P n x.items → (t : ℕ) → t < n + 1
       → P t (table_at (lists_of ys) t)
@@ -39,7 +39,7 @@ if_ok_by (Ok a) h k = k a h
 if_ok_by (Err e) h k = tt
 
 pub same_some : {K : Type 0} (kept what : K) → Some kept ≡ Some what → kept ≡ what
-same_some kept what e = cc
+same_some kept what e = (let r = e in cc)
 
-pub none_some : {K : Type 0} (what : K) → None {A = K} ≡ Some what → ⊥
-none_some what e = cc
+pub none_some : {K : Type 0} (what : K) → None ≡ Some what → ⊥
+none_some what e = (let r = e in cc)

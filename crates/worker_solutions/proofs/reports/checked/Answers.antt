@@ -7,7 +7,7 @@ use Rattle.program_solutions.proofs.Checking.{fits_with, found_least, none_uncov
 use Rattle.worker_solutions.proofs.reports.checked.Goals as goal
 
 pub recheck-requires-clause-fits : goal.recheck-requires-clause-fits
-recheck-requires-clause-fits g c =
+recheck-requires-clause-fits g c κs within =
     let pair = pair_of c.args.tables.items (arc_value c.args.store) in
     fits_with c.args.analysis.now c.parts.result.0.now c.parts.result.1.now c.parts.ensures.analysable
     c.parts.ensures.facts c.parts.ensures.program pair c.requires

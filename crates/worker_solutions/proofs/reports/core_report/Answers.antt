@@ -1,7 +1,11 @@
-use Rattle.std.proofs.Common.{◌∙◌}
+use denote.Param.Send.{sendable}
+use Rattle.shared_analyses.proofs.Analyses.{analysis_send, analysis_sync}
+use Rattle.std.proofs.Common.{◌∙◌, subst, sym}
+use Rattle.std.proofs.lemmas.List.{length-map}
 use Rattle.std.specs.Arc.{arc_value}
 use Rattle.post_recheck.specs.program_systems.ReadPrograms.{program_of}
-use Rattle.post_recheck.specs.Pairs.{lists_of}
+use Rattle.post_recheck.specs.Pairs.{lists_of, pair_of}
+use Rattle.program_solutions.specs.Tables.{AreCompleted, AreLeastTables}
 use Rattle.worker_solutions.proofs.Legal.{legal_of}
 use Rattle.worker_solutions.proofs.QuietCores.{least_over}
 use Rattle.worker_solutions.proofs.reports.core_report.Goals as goal
@@ -9,7 +13,36 @@ use Rattle.worker_solutions.proofs.reports.core_report.Goals as goal
 pub checked-requires : goal.checked-requires
 checked-requires g c =
     let core = c.args.core.now in
-    least_over (program_of core.program) c.program.ensures.program core.workers core.past
-    (legal_of core.program core.workers core.past c.history.ensures.legal) c.requires
-    (lists_of c.in_ok-tables.tables.items) (lists_of c.in_ok-all.all.items) _ c.in_ok-tables.ensures.least
-    c.in_ok-all.ensures (arc_value c.in_ok-store.store) _
+    let same = c.deref.ensures ∙ c.program-analysis.ensures.value in
+    let count = length-map c.in_ok-tables.tables.items _ ∙ c.in_ok-tables.ensures.count in
+    let all = subst (λ r. AreCompleted (program_of r) (lists_of c.in_ok-tables.tables.items)
+    (lists_of c.in_ok-all.all.items)) same c.in_ok-all.ensures in
+    let store = c.in_ok-store.ensures.ok ∙ c.in_ok-copied.ensures ∙ c.store.ensures in
+    let is = c.program-analysis.ensures.program in
+    let again = c.deref-2.ensures ∙ c.program-analysis.ensures.value in
+    let least = least_over (program_of core.program) is core.workers core.past
+    (legal_of core.program core.workers core.past c.history-history.ensures.legal) c.requires
+    (lists_of c.in_ok-tables.tables.items) (lists_of c.in_ok-all.all.items) count c.in_ok-tables.ensures.least
+    all (arc_value c.in_ok-store.store) store in (
+      search (sendable) depth 20,
+      subst (λ r. AreLeastTables (program_of r) (pair_of c.in_ok-all.all.items (arc_value c.in_ok-store.store)))
+          (sym again) least,
+    )
+
+pub history-history-requires-send-P : goal.history-history-requires-send-P
+history-history-requires-send-P g c κs = search (analysis_send, sendable) depth 20
+
+pub history-history-requires-sync-P : goal.history-history-requires-sync-P
+history-history-requires-sync-P g c κs = search (analysis_sync, sendable) depth 20
+
+pub program-analysis-requires-send-P : goal.program-analysis-requires-send-P
+program-analysis-requires-send-P g c κs = search (analysis_send, sendable) depth 20
+
+pub program-analysis-requires-sync-P : goal.program-analysis-requires-sync-P
+program-analysis-requires-sync-P g c κs = search (analysis_sync, sendable) depth 20
+
+pub store-requires-send-P : goal.store-requires-send-P
+store-requires-send-P g c κs = search (analysis_send, sendable) depth 20
+
+pub store-requires-sync-P : goal.store-requires-sync-P
+store-requires-sync-P g c κs = search (analysis_sync, sendable) depth 20
