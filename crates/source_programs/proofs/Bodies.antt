@@ -10,7 +10,7 @@ use Rattle.mutex_configs.specs.flow_graph.Graphs.{Edges, IsHead, IsInRegion}
 use Rattle.mutex_configs.specs.graph_facts.declared.regions.Head.{Head}
 use Rattle.mutex_configs.specs.graph_facts.Live.{AreLive}
 use Rattle.mutex_configs.specs.graph_facts.Heads.{IsHeadUpTo, nodes_of, AreHeads}
-use Rattle.program_laws.specs.region_cells.Written.{AreAllWritten}
+use Rattle.configured_laws.specs.region_cells.Written.{AreAllWritten}
 use Rattle.mutex_configs.specs.declared.nodes.ConfiguredGraph.{ConfiguredGraph}
 use Rattle.program_laws.specs.task_equations.Bodies.{Body}
 use Rattle.program_laws.specs.program_equations.Programs.{ProgramBodies, IsBodyIn, IsNumbered}

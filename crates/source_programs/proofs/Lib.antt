@@ -2,5 +2,8 @@ pub mod Accepted
 pub mod Analysing
 pub mod Bodies
 pub mod OneSource
+pub mod SomeBodies
+pub mod SomeSource
+pub mod SomeThresholds
 pub mod Programs
 pub mod Stations

@@ -1,7 +1,6 @@
 -- A source has one answer.
 use Rattle.std.specs.Prelude.{◌≡◌, ◌⊎◌, ℕ, ◌<◌, ◌≤◌, ℤ, List, length, get_or, Option, Some, None, Result, Ok, Err}
 use Rattle.std.proofs.Common.{refl, sym, ap, subst, ◌∙◌, inl, inr, arith}
-use Rattle.std.proofs.lemmas.Bool.{cases_lt}
 use Rattle.tm_terms.specs.declared.refusals.Fail.TheVariants as Fails
 use Rattle.tm_terms.specs.declared.refusals.Refusal.{Refusal}
 use Rattle.tm_terms.specs.declared.tokens.Name.{Name}
@@ -16,7 +15,7 @@ use Rattle.mutex_configs.specs.flow_graph.Graphs.{Edges}
 use Rattle.mutex_configs.specs.graph_facts.Live.{AreLive}
 use Rattle.mutex_configs.specs.graph_facts.Heads.{AreHeads}
 use Rattle.program_graphs.specs.graph_builder.Lowered.{AreGraphs}
-use Rattle.program_laws.specs.region_cells.Written.{AreAllWritten}
+use Rattle.configured_laws.specs.region_cells.Written.{AreAllWritten}
 use Rattle.mutex_configs.specs.declared.nodes.ConfiguredGraph.{ConfiguredGraph}
 use Rattle.mutex_configs.specs.Programs.{AreConfigured}
 use Rattle.program_graphs.specs.Prepared.{Graphed, IsPrepared}
@@ -24,14 +23,11 @@ use Rattle.thresholds.specs.Thresholds.{AreInOrder, AreThresholds, numbers_of}
 use Rattle.program_laws.specs.task_equations.Bodies.{Body}
 use Rattle.program_laws.specs.program_equations.Programs.{ProgramBodies, body_at, pointers_in, IsBodyIn, IsProgramOf}
 use Rattle.c_lexer.proofs.AnswerLemmas.{one_answer as one_lexing}
-use Rattle.c_lexer.proofs.TotalLemmas.{some_answer as some_lexing}
-use Rattle.c_parser.proofs.FileAnswers.{answered as some_file}
 use Rattle.c_parser.proofs.FileComplete.{file_complete}
 use Rattle.c_typing.proofs.low.typing_laws.OneAnswer.{one_answer as one_typing}
-use Rattle.c_typing.proofs.low.typing_laws.SomeAnswer.{some_answer as some_typing}
 use Rattle.source_programs.specs.Sources.{longest_source, main_in, TypesAs, IsLaidSource, IsAccepted, source_limit}
 use Rattle.source_programs.specs.Sources.{IsRefused, too_long, not_lexed, not_parsed, not_typed, not_laid, not_prepared}
-use Rattle.source_programs.specs.Laws.{NoneIsBoth, OneProgram, AreSyntaxErrors, OneRefusal, SomeSource}
+use Rattle.source_programs.specs.Laws.{NoneIsBoth, OneProgram, AreSyntaxErrors, OneRefusal}
 use Rattle.configured_laws.proofs.Lists.{ascending_are_one}
 use Rattle.configured_laws.specs.Laws.{AreAlike}
 use Rattle.configured_laws.proofs.ConfiguredAlike.{as_many, alike_at}
@@ -332,42 +328,3 @@ one_refusal bytes _ s (not_typed {tokens = ts} {refusal = r} a l t) b = typed_on
 one_refusal bytes _ s (not_laid {tokens = ts} {file = file} {refusal = r} a l t e) b =
     laid_once bytes ts file r s a l t e b
 one_refusal bytes _ s (not_prepared {laid = laid} {refusal = r} k p) b = prepared_once bytes laid r s k p b
-
--- ## Some answer
-
-abbrev Answered : List ℕ → Type 0
-Answered bytes = ((laid : LaidTree) × IsLaidSource bytes laid) ⊎ ((r : Refusal) × IsRefused bytes r)
-
-module _ (bytes : List ℕ) (short : length bytes ≤ longest_source) where
-  module _ (tokens : List Token) (lexed : Lexes bytes (Ok tokens)) where
-    of_file : (file : TypedFileTree) → TypesAs (main_in bytes tokens) tokens (Ok file)
-        → (answer : Result LaidTree Refusal) → laid_out file ≡ answer → Answered bytes
-    of_file file t (Ok laid) e =
-        inl (laid, record { short = short; tokens = tokens; lexed = lexed; file = file; typed = t; answered = e })
-    of_file file t (Err refusal) e = inr (refusal, not_laid short lexed t e)
-
-    of_typed : (items : List ItemTree) → Parses tokens (Ok items) → (answer : Result TypedFileTree Refusal)
-        → IsTyped (main_in bytes tokens) items answer → Answered bytes
-    of_typed items p (Ok file) t =
-        of_file file (record { items = items; parsed = p; typed = t }) (laid_out file) refl
-    of_typed items p (Err refusal) t =
-        inr (refusal, not_typed short lexed (record { items = items; parsed = p; typed = t }))
-
-    of_parsed : (answer : Result (List ItemTree) Refusal) → Parses tokens answer → Answered bytes
-    of_parsed (Ok items) p =
-        let t = some_typing (main_in bytes tokens) items in
-        of_typed items p t.0 t.1
-    of_parsed (Err refusal) p = inr (refusal, not_parsed short lexed p)
-
-  of_lexed : (answer : Result (List Token) Refusal) → Lexes bytes answer → Answered bytes
-  of_lexed (Ok tokens) lexed =
-      let p = some_file tokens in
-      of_parsed tokens lexed p.0 p.1
-  of_lexed (Err refusal) lexed = inr (refusal, not_lexed short lexed)
-
-pub some_source : SomeSource
-some_source bytes = by_length (cases_lt longest_source (length bytes))
-  where
-    by_length : (longest_source < length bytes) ⊎ (length bytes ≤ longest_source) → Answered bytes
-    by_length (inl long) = inr (source_limit, too_long long)
-    by_length (inr short) = of_lexed bytes short (some_lexing bytes).0 (some_lexing bytes).1

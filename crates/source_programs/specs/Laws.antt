@@ -1,11 +1,13 @@
 -- Each source has one answer.
-use Rattle.std.specs.Prelude.{◌≡◌, ◌⊎◌, ℕ, ℤ, List}
+use Rattle.std.specs.Prelude.{◌≡◌, ◌⊎◌, ℕ, ℤ, pos, List, [], All, Ok}
 use Rattle.tm_terms.specs.declared.places.Place.{Place}
 use Rattle.tm_terms.specs.declared.refusals.Refusal.{Refusal}
 use Rattle.tm_trees.specs.Parsing.{syntax_error}
 use Rattle.tm_laid.specs.Layouts.{LaidTree}
 use Rattle.mutex_configs.specs.flow_graph.declared.graphs.Graph.{Graph}
 use Rattle.mutex_configs.specs.declared.nodes.ConfiguredGraph.{ConfiguredGraph}
+use Rattle.thresholds.specs.strided_dom.Progression.{IsInReach}
+use Rattle.program_graphs.specs.Prepared.{Graphed, IsPrepared}
 use Rattle.program_laws.specs.program_equations.Programs.{ProgramBodies, IsProgramOf}
 use Rattle.source_programs.specs.Sources.{IsLaidSource, IsAccepted, IsRefused}
 
@@ -35,6 +37,19 @@ abbrev pub OneRefusal : Type 0
 OneRefusal =
     (bytes : List ℕ) (r s : Refusal) → IsRefused bytes r → IsRefused bytes s → (r ≡ s) ⊎ AreSyntaxErrors r s
 
--- each source is refused, or has a layout
+-- lengths of arrays are in the reach of strided sets
+abbrev pub AreInReach : List ℕ → Type 0
+AreInReach lengths = All (λ n. IsInReach (pos n)) lengths
+
+-- These bytes are a source of a typed file, whose layout has a program: graphs with their configured graphs. And where
+-- the lengths of its arrays are in the reach of strided sets, they are accepted with no number given.
+pub record HasProgram (bytes : List ℕ) : Type 0 where
+  pub laid : LaidTree
+  pub source : IsLaidSource bytes laid
+  pub graphed : Graphed
+  pub prepared : IsPrepared laid (Ok graphed)
+  pub accepted : AreInReach laid.file.lengths → (p : ProgramBodies) × IsAccepted [] bytes p
+
+-- each source is refused, or has a program
 abbrev pub SomeSource : Type 0
-SomeSource = (bytes : List ℕ) → ((laid : LaidTree) × IsLaidSource bytes laid) ⊎ ((r : Refusal) × IsRefused bytes r)
+SomeSource = (bytes : List ℕ) → HasProgram bytes ⊎ ((r : Refusal) × IsRefused bytes r)

@@ -15,7 +15,8 @@ pub fn one_source()
     ensures refusal { OneRefusal }
 {}
 
-/// A source is refused, or has a layout.
+/// A source is refused, or has a program: its layout, and the graphs of its bodies with their configured graphs. Where
+/// no length of its arrays is above 2^100, it is accepted.
 pub fn some_source()
     ensures { SomeSource }
 {}
