@@ -10,10 +10,13 @@ use Rattle.tm_terms.specs.declared.refusals.Refusal.{Refusal}
 use Rattle.tm_terms.specs.Texts.{refusal_text}
 use Rattle.source_programs.specs.Sources.{longest_source, IsRefused, too_long, not_lexed, not_parsed}
 use Rattle.source_programs.specs.Sources.{not_typed, not_laid, not_prepared}
+use Rattle.source_replays.specs.declared.replays.Outcome.{Outcome}
+use Rattle.source_replays.specs.declared.replays.Outcome.TheVariants as Outcomes
+use Rattle.source_replays.proofs.Alike.{long_ones_are_alike}
 use Rattle.analyser.specs.declared.statuses.Status.{Status}
 use Rattle.analyser.specs.declared.statuses.Status.TheVariants.{NoAlarm, Alarms, Refused, Usage, ReadFault, WriteFault, NoMemory}
 use Rattle.analyser.specs.Answers.{Reports, WritesReport, HistoryFor, HasAnswer, HasSummary, IsGenerated}
-use Rattle.analyser.specs.Answers.{IsReadOut, Answers, TakesNoMore, Told, report_lines}
+use Rattle.analyser.specs.Answers.{IsReplayed, replay_status, IsReadOut, Answers, TakesNoMore, Told, report_lines}
 use Rattle.analyser.specs.Statuses.{IsWhole}
 use Rattle.analyser.specs.reading.Replies.{TellsAlarms}
 use Rattle.analyser.specs.reading.Streams.{TakesFrontOf, Says, SaysNoMore}
@@ -118,6 +121,21 @@ longer_answered w bytes more long Usage text h = absurd h
 longer_answered w bytes more long ReadFault text h = absurd h
 longer_answered w bytes more long WriteFault text h = absurd h
 longer_answered w bytes more long NoMemory text h = absurd h
+
+-- the same of a replay
+pub longer_replayed : (bytes more : List ℕ) → longest_source < length bytes → (status : Status) (text : List ℕ)
+    → IsReplayed bytes status text → IsReplayed (bytes ++ more) status text
+longer_replayed bytes more long status text h =
+    record { outcome = h.outcome; comes = h.comes; has = long_ones_are_alike bytes more h.outcome text long h.has }
+
+-- each comes with a whole text
+pub replay_is_whole : (bytes : List ℕ) (status : Status) (text : List ℕ) → IsReplayed bytes status text → IsWhole status
+replay_is_whole bytes status text h = subst IsWhole (sym h.comes) (whole h.outcome)
+  where
+    whole : (outcome : Outcome) → IsWhole (replay_status outcome)
+    whole Outcomes.Clean = tt
+    whole Outcomes.Found = tt
+    whole Outcomes.Refused = tt
 
 -- what a command may answer to the bytes that it reads: where they are too long, a front of them decides
 module _ (May : List ℕ → Status → List ℕ → Type 0)

@@ -12,9 +12,14 @@ use Rattle.tm_terms.specs.declared.refusals.Refusal.{Refusal}
 use Rattle.thread_pass.specs.program_equations.Programs.{ProgramBodies}
 use Rattle.source_programs.specs.Sources.{IsAccepted, IsRefused}
 use Rattle.source_programs.proofs.OneSource.{none_is_both}
+use Rattle.source_replays.specs.declared.replays.Outcome.{Outcome}
+use Rattle.source_replays.specs.declared.replays.Outcome.TheVariants as Outcomes
+use Rattle.source_replays.specs.Replays.{IsRefusedReplay, HasReplay, TellsRefusal, AsksForNone}
+use Rattle.source_replays.proofs.Alike.{none_is_both as no_replay}
 use Rattle.analyser.specs.declared.statuses.Status.{Status}
 use Rattle.analyser.specs.declared.statuses.Status.TheVariants.{NoAlarm, Alarms, Refused, Usage, ReadFault, WriteFault, NoMemory}
 use Rattle.analyser.specs.Answers.{Reports, WritesReport, HasAnswer, HasSummary, IsGenerated, SaysUsage, CommandGives}
+use Rattle.analyser.specs.Answers.{IsReplayed, AsksForRun, replay_status}
 use Rattle.analyser.specs.Answers.{IsCommand, Reads, AnswersFor, Accepts, Refuses, Answers, TakesNoMore, Told}
 use Rattle.analyser.specs.Statuses.{IsReported, IsSinkStop, IsStop, IsWhole}
 use Rattle.analyser.specs.reading.Streams.{Says, SaysFront, SaysNoMore}
@@ -90,9 +95,9 @@ pub usage_of_none : (c : Option Command) → c ≡ None → (bytes : List ℕ) (
     → SaysUsage status text → CommandGives c bytes status text
 usage_of_none c e bytes status text h = subst (λ d. CommandGives d bytes status text) (sym e) h
 
-pub usage_of_replay : (c : Option Command) → c ≡ Some Replay → (bytes : List ℕ) (status : Status) (text : List ℕ)
-    → SaysUsage status text → CommandGives c bytes status text
-usage_of_replay c e bytes status text h = subst (λ d. CommandGives d bytes status text) (sym e) h
+pub answer_of_replay : (c : Option Command) → c ≡ Some Replay → (bytes : List ℕ) (status : Status) (text : List ℕ)
+    → IsReplayed bytes status text → CommandGives c bytes status text
+answer_of_replay c e bytes status text h = subst (λ d. CommandGives d bytes status text) (sym e) h
 
 pub answer_of_analyse : (c : Option Command) (w : AnalyseWords) → c ≡ Some (Analyse w) → (bytes : List ℕ)
     (status : Status) (text : List ℕ) → HasAnswer w bytes status text → CommandGives c bytes status text
@@ -112,8 +117,8 @@ reads_demo c w e r = subst Reads e r
 pub reads_none : (c : Option Command) → c ≡ None → Reads c → ⊥
 reads_none c e r = subst Reads e r
 
-pub reads_replay : (c : Option Command) → c ≡ Some Replay → Reads c → ⊥
-reads_replay c e r = subst Reads e r
+pub reads_replay : (c : Option Command) → c ≡ Some Replay → Reads c
+reads_replay c e = subst Reads (sym e) tt
 
 pub reads_generate : (c : Option Command) (count : ℕ) → c ≡ Some (Generate count) → Reads c → ⊥
 reads_generate c count e r = subst Reads e r
@@ -136,10 +141,15 @@ whole_or_stop NoMemory = inr tt
 usage_is_clean : Usage ≡ NoAlarm → ⊥
 usage_is_clean e = cc
 
+never_usage : (outcome : Outcome) → Usage ≡ replay_status outcome → ⊥
+never_usage Outcomes.Clean e = cc
+never_usage Outcomes.Found e = cc
+never_usage Outcomes.Refused e = cc
+
 no_usage : (c : Option Command) → IsCommand c → (bytes text : List ℕ) → CommandGives c bytes Usage text → ⊥
 no_usage None is bytes text h = is
 no_usage (Some (Analyse w)) is bytes text h = h
-no_usage (Some Replay) is bytes text h = is
+no_usage (Some Replay) is bytes text h = never_usage h.outcome h.comes
 no_usage (Some (Generate count)) is bytes text h = usage_is_clean h.0
 no_usage (Some (Demo w)) is bytes text h = h
 
@@ -148,7 +158,7 @@ only_usage : (c : Option Command) → (IsCommand c → ⊥) → (bytes : List �
     → CommandGives c bytes status text → status ≡ Usage
 only_usage None none bytes status text h = h.0
 only_usage (Some (Analyse w)) none bytes status text h = absurd (none tt)
-only_usage (Some Replay) none bytes status text h = h.0
+only_usage (Some Replay) none bytes status text h = absurd (none tt)
 only_usage (Some (Generate count)) none bytes status text h = absurd (none tt)
 only_usage (Some (Demo w)) none bytes status text h = absurd (none tt)
 
@@ -161,13 +171,13 @@ reads_is (Some (Generate count)) r = absurd r
 reads_is (Some (Demo w)) r = absurd r
 
 sink_stop : (status : Status) → IsStop status → (status ≡ ReadFault → ⊥) → IsSinkStop status
-sink_stop NoAlarm s no = absurd s
-sink_stop Alarms s no = absurd s
-sink_stop Refused s no = absurd s
-sink_stop Usage s no = absurd s
-sink_stop ReadFault s no = absurd (no refl)
-sink_stop WriteFault s no = inl refl
-sink_stop NoMemory s no = inr refl
+sink_stop NoAlarm s other = absurd s
+sink_stop Alarms s other = absurd s
+sink_stop Refused s other = absurd s
+sink_stop Usage s other = absurd s
+sink_stop ReadFault s other = absurd (other refl)
+sink_stop WriteFault s other = inl refl
+sink_stop NoMemory s other = inr refl
 
 -- ## Sources that are accepted or refused
 
@@ -224,6 +234,23 @@ refusal_comes source refusal r ReadFault text h = absurd h
 refusal_comes source refusal r WriteFault text h = absurd h
 refusal_comes source refusal r NoMemory text h = absurd h
 
+-- the same of replays
+run_comes : (bytes : List ℕ) → AsksForRun bytes → (outcome : Outcome) (text : List ℕ) → HasReplay bytes outcome text
+    → IsReported (replay_status outcome)
+run_comes bytes a Outcomes.Clean text h = inl refl
+run_comes bytes a Outcomes.Found text h = inr refl
+run_comes bytes a Outcomes.Refused text h = absurd (by_kind h)
+  where
+    by_kind : TellsRefusal bytes text ⊎ AsksForNone bytes text → ⊥
+    by_kind (inl t) = no_replay bytes a.laid t.refusal a.replayable t.refused
+    by_kind (inr n) = let clash : Some a.choices ≡ None = sym a.asked ∙ n.none in cc
+
+refusal_of_run : (bytes : List ℕ) (refusal : Refusal) → IsRefusedReplay bytes refusal → (outcome : Outcome)
+    (text : List ℕ) → HasReplay bytes outcome text → replay_status outcome ≡ Refused
+refusal_of_run bytes refusal r Outcomes.Clean text h = absurd (no_replay bytes h.laid refusal h.replayable r)
+refusal_of_run bytes refusal r Outcomes.Found text h = absurd (no_replay bytes h.laid refusal h.replayable r)
+refusal_of_run bytes refusal r Outcomes.Refused text h = refl
+
 -- ## Commands that accept or refuse
 
 command_reports : (c : Option Command) (left : Option (List ℕ)) (bytes known : List ℕ) → AnswersFor c left bytes
@@ -233,7 +260,9 @@ command_reports None left bytes known e a t status text h = absurd e
 command_reports (Some (Analyse w)) left bytes known e a t status text h =
     let same : bytes ≡ known = told_bytes left bytes known e t in
     accepted_comes w known a.0 (subst (λ b. IsAccepted w.thresholds b a.0) same a.1) status text h
-command_reports (Some Replay) left bytes known e a t status text h = absurd e
+command_reports (Some Replay) left bytes known e a t status text h =
+    let same : bytes ≡ known = told_bytes left bytes known e t in
+    subst IsReported (sym h.comes) (run_comes known (subst AsksForRun same a) h.outcome text h.has)
 command_reports (Some (Generate count)) left bytes known e a t status text h = absurd e
 command_reports (Some (Demo w)) left bytes known e a t status text h =
     summary_comes (source_text w.count) a.0 (subst (λ b. IsAccepted [] b a.0) e a.1) status text h
@@ -245,7 +274,9 @@ command_refuses None left bytes known refusal e r t status text h = absurd e
 command_refuses (Some (Analyse w)) left bytes known refusal e r t status text h =
     let same : bytes ≡ known = told_bytes left bytes known e t in
     refused_comes w known refusal (subst (λ b. IsRefused b refusal) same r) status text h
-command_refuses (Some Replay) left bytes known refusal e r t status text h = absurd e
+command_refuses (Some Replay) left bytes known refusal e r t status text h =
+    let same : bytes ≡ known = told_bytes left bytes known e t in
+    h.comes ∙ refusal_of_run known refusal (subst (λ b. IsRefusedReplay b refusal) same r) h.outcome text h.has
 command_refuses (Some (Generate count)) left bytes known refusal e r t status text h = absurd e
 command_refuses (Some (Demo w)) left bytes known refusal e r t status text h =
     refusal_comes (source_text w.count) refusal (subst (λ b. IsRefused b refusal) e r) status text h

@@ -11,6 +11,8 @@ use Rattle.report_json.specs.JsonReports.{json_text}
 use Rattle.store_core.specs.Histories.{Past}
 use Rattle.history_lines.specs.HistoryTexts.{history_text}
 use Rattle.big_source.specs.GeneratedSources.{source_text, summary_text}
+use Rattle.concrete_steps.specs.declared.worlds.Choice.{Choice}
+use Rattle.replay_lines.specs.Choices.{asked_of}
 use Rattle.tm_terms.specs.tm_cint.declared.Class.{Class}
 use Rattle.tm_terms.specs.declared.alarms.Alarm.{Alarm}
 use Rattle.tm_terms.specs.declared.places.Place.{Place}
@@ -23,6 +25,9 @@ use Rattle.interfere_set.specs.Stores.{Interferences}
 use Rattle.worker_solutions.specs.QuietHistories.{IsQuietHistory}
 use Rattle.source_programs.specs.Sources.{longest_source, IsAccepted, IsRefused}
 use Rattle.program_solutions.specs.LeastReports.{IsLeastReport}
+use Rattle.source_replays.specs.declared.replays.Outcome.{Outcome}
+use Rattle.source_replays.specs.declared.replays.Outcome.TheVariants as Outcomes
+use Rattle.source_replays.specs.Replays.{IsReplayable, IsRefusedReplay, HasReplay}
 use Rattle.analyser.specs.declared.statuses.Status.{Status}
 use Rattle.analyser.specs.declared.statuses.Status.TheVariants.{NoAlarm, Alarms, Refused, Usage, ReadFault}
 use Rattle.analyser.specs.declared.statuses.Status.TheVariants.{WriteFault, NoMemory}
@@ -96,6 +101,25 @@ HasSummary source ReadFault text = ⊥
 HasSummary source WriteFault text = ⊥
 HasSummary source NoMemory text = ⊥
 
+-- the status that goes with what became of a replay
+abbrev pub replay_status : Outcome → Status
+replay_status Outcomes.Clean = NoAlarm
+replay_status Outcomes.Found = Alarms
+replay_status Outcomes.Refused = Refused
+
+-- The status and the text that the command `replay` answers these bytes with.
+pub record IsReplayed (bytes : List ℕ) (status : Status) (text : List ℕ) : Type 0 where
+  pub outcome : Outcome
+  pub comes : status ≡ replay_status outcome
+  pub has : HasReplay bytes outcome text
+
+-- the bytes are a source that is accepted, and choices behind it
+pub record AsksForRun (bytes : List ℕ) : Type 0 where
+  pub laid : LaidTree
+  pub replayable : IsReplayable bytes laid
+  pub choices : List Choice
+  pub asked : asked_of bytes ≡ Some choices
+
 -- the status and the text that the command `generate` answers with
 abbrev pub IsGenerated : ℕ → Status → List ℕ → Type 0
 IsGenerated count status text = (status ≡ NoAlarm) × (text ≡ source_text count)
@@ -106,11 +130,11 @@ SaysUsage status text = (status ≡ Usage) × (text ≡ usage_text)
 
 -- ## Commands
 
--- the text that may come with a status, for a command and these bytes; there is no `replay` today
+-- the text that may come with a status, for a command and these bytes
 abbrev pub CommandGives : Option Command → List ℕ → Status → List ℕ → Type 0
 CommandGives None bytes status text = SaysUsage status text
 CommandGives (Some (Analyse w)) bytes status text = HasAnswer w bytes status text
-CommandGives (Some Replay) bytes status text = SaysUsage status text
+CommandGives (Some Replay) bytes status text = IsReplayed bytes status text
 CommandGives (Some (Generate count)) bytes status text = IsGenerated count status text
 CommandGives (Some (Demo w)) bytes status text = HasSummary (source_text w.count) status text
 
@@ -118,11 +142,11 @@ CommandGives (Some (Demo w)) bytes status text = HasSummary (source_text w.count
 abbrev pub MayGive : List (List ℕ) → List ℕ → Status → List ℕ → Type 0
 MayGive words = CommandGives (command_of words)
 
--- the command is one of those that there are today: all but `replay`
+-- the words are a command
 abbrev pub IsCommand : Option Command → Type 0
 IsCommand None = ⊥
 IsCommand (Some (Analyse w)) = Unit {0}
-IsCommand (Some Replay) = ⊥
+IsCommand (Some Replay) = Unit {0}
 IsCommand (Some (Generate count)) = Unit {0}
 IsCommand (Some (Demo w)) = Unit {0}
 
@@ -130,7 +154,7 @@ IsCommand (Some (Demo w)) = Unit {0}
 abbrev pub Reads : Option Command → Type 0
 Reads None = ⊥
 Reads (Some (Analyse w)) = Unit {0}
-Reads (Some Replay) = ⊥
+Reads (Some Replay) = Unit {0}
 Reads (Some (Generate count)) = ⊥
 Reads (Some (Demo w)) = ⊥
 
@@ -138,7 +162,7 @@ Reads (Some (Demo w)) = ⊥
 abbrev pub AnswersFor : Option Command → Option (List ℕ) → List ℕ → Type 0
 AnswersFor None left bytes = ⊥
 AnswersFor (Some (Analyse w)) left bytes = left ≡ Some bytes
-AnswersFor (Some Replay) left bytes = ⊥
+AnswersFor (Some Replay) left bytes = left ≡ Some bytes
 AnswersFor (Some (Generate count)) left bytes = ⊥
 AnswersFor (Some (Demo w)) left bytes = bytes ≡ source_text w.count
 
@@ -146,7 +170,7 @@ AnswersFor (Some (Demo w)) left bytes = bytes ≡ source_text w.count
 abbrev pub Accepts : Option Command → List ℕ → Type 0
 Accepts None bytes = ⊥
 Accepts (Some (Analyse w)) bytes = (p : ProgramBodies) × IsAccepted w.thresholds bytes p
-Accepts (Some Replay) bytes = ⊥
+Accepts (Some Replay) bytes = AsksForRun bytes
 Accepts (Some (Generate count)) bytes = ⊥
 Accepts (Some (Demo w)) bytes = (p : ProgramBodies) × IsAccepted [] bytes p
 
@@ -154,7 +178,7 @@ Accepts (Some (Demo w)) bytes = (p : ProgramBodies) × IsAccepted [] bytes p
 abbrev pub Refuses : Option Command → List ℕ → Refusal → Type 0
 Refuses None bytes refusal = ⊥
 Refuses (Some (Analyse w)) bytes refusal = IsRefused bytes refusal
-Refuses (Some Replay) bytes refusal = ⊥
+Refuses (Some Replay) bytes refusal = IsRefusedReplay bytes refusal
 Refuses (Some (Generate count)) bytes refusal = ⊥
 Refuses (Some (Demo w)) bytes refusal = IsRefused bytes refusal
 

@@ -1,10 +1,11 @@
 //! The status and the text that a command answers with.
 
-ghost use Rattle.std.specs.Prelude.{◌≡◌, ◌≤◌, ◌++◌, IfOk, string_bytes};
-ghost use Rattle.big_source.specs.GeneratedSources.{source_text};
+ghost use Rattle.std.specs.Prelude.{◌≡◌, ◌≤◌, ◌++◌, IfOk, IsTrue, false, string_bytes};
+ghost use Rattle.big_source.specs.GeneratedSources.{source_text, summary_text};
 ghost use Rattle.tm_terms.specs.Texts.{refusal_text};
 ghost use Rattle.thread_pass.specs.program_systems.ReadPrograms.{program_of};
-ghost use Rattle.analyser.specs.Answers.{HasAnswer, HasSummary, IsGenerated, report_lines};
+ghost use Rattle.analyser.specs.Answers.{HasAnswer, HasSummary, IsGenerated, IsReplayed, replay_status};
+ghost use Rattle.analyser.specs.Answers.{report_lines};
 ghost use Rattle.analyser.specs.reading.Replies.{AreLines, IsFound, IsSolved, TellsAlarms};
 
 use crate::statuses::Status;
@@ -14,6 +15,7 @@ use history_lines::history_lines;
 use program_solutions::least_report;
 use report_json::report_json;
 use source_programs::source_program;
+use source_replays::{Outcome, replay};
 use std::alloc::Global as Heap;
 use std::sync::Wait;
 use std::thread::Threads;
@@ -68,6 +70,23 @@ fn lines_of(alloc: Heap, core: &StoreCore<Analysis>, history: bool) -> Result<St
     }
 }
 
+/// Whether one worker works, whose history is not asked for.
+fn is_alone(manner: Manner) -> bool
+    ensures { IsTrue result → manner.history ≡ false }
+{
+    !manner.history && manner.workers == 1
+}
+
+/// What workers have worked out, with the lines of their history where they are asked for.
+fn told_of(alloc: Heap, worked: WorkedOut, history: bool) -> Result<Solved, NoMemory>
+    ensures report { IfOk result (λ solved. solved.report ≡ worked.report) }
+    ensures lines { IfOk result (λ solved. AreLines history worked.core.past (string_bytes solved.history)) }
+{
+    let WorkedOut { report, core } = worked;
+    let history = lines_of(alloc, &core, history)?;
+    Ok(Solved { report, history })
+}
+
 /// The report of a program. One worker whose history is not asked for passes the tasks in turn on the calling thread,
 /// which comes to an end; else workers share a store, and the gate is told of their passes.
 fn report_by<R: Threads + Wait + Sync, G: Gate>(
@@ -81,16 +100,15 @@ fn report_by<R: Threads + Wait + Sync, G: Gate>(
     requires most { manner.workers ≤ 16 }
     ensures { IfOk result (IsSolved (program_of analysis) manner.workers manner.history) }
 {
-    if !manner.history && manner.workers == 1 {
+    if is_alone(manner) {
         let report = least_report(alloc, &analysis)?;
         return Ok(Solved {
             report,
             history: String::new(alloc),
         });
     }
-    let WorkedOut { report, core } = report_by_workers(rt, alloc, analysis, manner.workers, gate)?;
-    let history = lines_of(alloc, &core, manner.history)?;
-    Ok(Solved { report, history })
+    let worked = report_by_workers(rt, alloc, analysis, manner.workers, gate)?;
+    told_of(alloc, worked, manner.history)
 }
 
 /// What is found of the bytes of a source, with these numbers given as thresholds.
@@ -162,6 +180,28 @@ fn whole_text(alloc: Heap, history: String, report: &Report, json: bool) -> Resu
     Ok(text)
 }
 
+/// The answer of `analyse` that is a report, behind the lines of a history.
+fn report_reply(alloc: Heap, solved: Solved, json: bool) -> Result<Reply, NoMemory>
+    ensures tells { IfOk result (λ reply. TellsAlarms solved.report.alarms.items reply.status) }
+    ensures text { IfOk result (λ reply. string_bytes reply.text
+        ≡ string_bytes solved.history ++ report_lines json solved.report.alarms.items) }
+{
+    let Solved { report, history } = solved;
+    let text = whole_text(alloc, history, &report, json)?;
+    let status = report_status(&report);
+    Ok(Reply { status, text })
+}
+
+/// The answer of `demo` that tells of a source and its report.
+fn summary_reply(alloc: Heap, source: &[u8], report: &Report) -> Result<Reply, NoMemory>
+    ensures tells { IfOk result (λ reply. TellsAlarms report.now.alarms.items reply.status) }
+    ensures text { IfOk result (λ reply. string_bytes reply.text ≡ summary_text source.now report.now.alarms.items) }
+{
+    let text = summary(alloc, source, report)?;
+    let status = report_status(report);
+    Ok(Reply { status, text })
+}
+
 /// The answer of `analyse` to the bytes of a source.
 pub fn answer_to<R: Threads + Wait + Sync, G: Gate>(
     rt: &R,
@@ -179,11 +219,7 @@ pub fn answer_to<R: Threads + Wait + Sync, G: Gate>(
         history: asked.history,
     };
     match report_of(rt, alloc, bytes, asked.thresholds.as_slice(), manner, gate)? {
-        Found::Reported(Solved { report, history }) => {
-            let text = whole_text(alloc, history, &report, asked.json)?;
-            let status = report_status(&report);
-            Ok(Reply { status, text })
-        }
+        Found::Reported(solved) => report_reply(alloc, solved, asked.json),
         Found::Refused(refusal) => refused(alloc, refusal),
     }
 }
@@ -216,11 +252,29 @@ pub fn summarised<R: Threads + Wait + Sync, G: Gate>(
         history: false,
     };
     match report_of(rt, alloc, source.as_bytes(), &[], manner, gate)? {
-        Found::Reported(Solved { report, history: _ }) => {
-            let text = summary(alloc, source.as_bytes(), &report)?;
-            let status = report_status(&report);
-            Ok(Reply { status, text })
-        }
+        Found::Reported(solved) => summary_reply(alloc, source.as_bytes(), &solved.report),
         Found::Refused(refusal) => refused(alloc, refusal),
     }
+}
+
+/// The status that goes with what became of a replay.
+fn replay_status(outcome: Outcome) -> Status
+    ensures { result ≡ replay_status outcome }
+{
+    match outcome {
+        Outcome::Clean => Status::NoAlarm,
+        Outcome::Found => Status::Alarms,
+        Outcome::Refused => Status::Refused,
+    }
+}
+
+/// The answer of `replay` to the bytes of a source with choices behind it.
+pub fn replayed(alloc: Heap, bytes: &[u8]) -> Result<Reply, NoMemory>
+    ensures { IfOk result (λ reply. IsReplayed bytes.now reply.status (string_bytes reply.text)) }
+{
+    let reply = replay(alloc, bytes)?;
+    Ok(Reply {
+        status: replay_status(reply.outcome),
+        text: reply.text,
+    })
 }

@@ -7,15 +7,15 @@ ghost use Rattle.cmd_words.specs.Words.{command_of, texts_of};
 ghost use Rattle.big_source.specs.GeneratedSources.{source_text};
 ghost use Rattle.tm_terms.specs.declared.refusals.Refusal.{Refusal as RefusalOf};
 ghost use Rattle.analyser.specs.Answers.{Accepts, Answers, AnswersFor, CommandGives, HasAnswer, HasSummary};
-ghost use Rattle.analyser.specs.Answers.{IsCommand, IsGenerated, IsReadOut, MayGive, Reads, Refuses, SaysUsage};
-ghost use Rattle.analyser.specs.Answers.{TakesNoMore};
+ghost use Rattle.analyser.specs.Answers.{IsCommand, IsGenerated, IsReadOut, IsReplayed, MayGive, Reads, Refuses};
+ghost use Rattle.analyser.specs.Answers.{SaysUsage, TakesNoMore};
 ghost use Rattle.analyser.specs.Statuses.{IsReported, IsSinkStop, IsStop, IsWhole};
 ghost use Rattle.analyser.specs.reading.Replies.{AsksWorkers};
 ghost use Rattle.analyser.specs.reading.Streams.{Says, SaysNoMore, TakesFrontOf};
 
 use crate::input::{InputError, read_all};
 use crate::output::write_all;
-use crate::replies::{answer_to, generated, summarised};
+use crate::replies::{answer_to, generated, replayed, summarised};
 use crate::statuses::Status;
 use cmd_words::{AnalyseWords, Command, DemoWords, read_words};
 use std::alloc::Global as Heap;
@@ -122,6 +122,30 @@ fn analyse_source<R: Threads + Wait + Sync, S: Source, K: Sink, G: Gate>(
     }
 }
 
+/// The command `replay`: reads the source to its end, or past the limit, and writes how its run goes, or its refusal.
+fn replay_source<S: Source, K: Sink>(alloc: Heap, source: &mut S, out: &mut K) -> Status
+    ensures whole { IsWhole result →
+        Answers IsReplayed (S.left source.old) (K.taken out.old) (K.taken out.new) result }
+    ensures front { TakesNoMore IsReplayed (S.left source.old) (K.taken out.old) (K.taken out.new) }
+    ensures all { IsWhole result → IsReadOut (S.left source.old) (S.left source.new) }
+    ensures read { result ≡ Status.ReadFault →
+        Rose (S.faults source.old) (S.faults source.new) × (K.taken out.new ≡ K.taken out.old) }
+    ensures write { result ≡ Status.WriteFault → Rose (K.faults out.old) (K.faults out.new) }
+    ensures source_faults { result ≢ Status.ReadFault → S.faults source.new ≡ S.faults source.old }
+    ensures sink_faults { result ≢ Status.WriteFault → K.faults out.new ≡ K.faults out.old }
+{
+    let mut bytes = Vec::new(alloc);
+    match read_all(source, &mut bytes) {
+        Ok(()) => {}
+        Err(InputError::Failed) => return Status::ReadFault,
+        Err(InputError::NoMemory) => return Status::NoMemory,
+    }
+    match replayed(alloc, &bytes) {
+        Ok(reply) => send(out, reply.text.as_bytes(), reply.status),
+        Err(NoMemory) => Status::NoMemory,
+    }
+}
+
 /// Answers a command and a source, or words that are no command.
 fn answer_command<R: Threads + Wait + Sync, S: Source, K: Sink, G: Gate>(
     rt: &R,
@@ -131,7 +155,7 @@ fn answer_command<R: Threads + Wait + Sync, S: Source, K: Sink, G: Gate>(
     out: &mut K,
     gate: &G,
 ) -> Status
-    requires { AsksWorkers command }
+    requires asks { AsksWorkers command }
     ensures headline { IsWhole result →
         Answers (CommandGives command) (S.left source.old) (K.taken out.old) (K.taken out.new) result }
     ensures front { TakesNoMore (CommandGives command) (S.left source.old) (K.taken out.old) (K.taken out.new) }
@@ -146,7 +170,7 @@ fn answer_command<R: Threads + Wait + Sync, S: Source, K: Sink, G: Gate>(
     match command {
         None => send_usage(out),
         Some(Command::Analyse(asked)) => analyse_source(rt, alloc, &asked, source, out, gate),
-        Some(Command::Replay) => send_usage(out),
+        Some(Command::Replay) => replay_source(alloc, source, out),
         Some(Command::Generate(count)) => send_source(alloc, count, out),
         Some(Command::Demo(asked)) => send_summary(rt, alloc, asked, out, gate),
     }

@@ -1,3 +1,5 @@
+use denote.Param.Send.{sendable}
+use Rattle.shared_analyses.proofs.Analyses.{analysis_send, analysis_sync}
 use Rattle.std.proofs.Common.{ap, ◌∙◌}
 use Rattle.std.specs.Prelude.{string_bytes}
 use Rattle.history_lines.specs.HistoryTexts.{history_text}
@@ -13,4 +15,16 @@ returns-then-history c =
 
 pub returns-else-history : goal.returns-else-history
 returns-else-history c =
-    no_lines c.args.core.now.past (string_bytes c.new.result) c.args.history c.if-history.false c.new.ensures
+    no_lines c.args.core.now.past (string_bytes c.new.result) c.args.history c.if-history.false c.new.ensures.bytes
+
+pub history-requires-send-P : goal.history-requires-send-P
+history-requires-send-P c κs = search (analysis_send, sendable) depth 20
+
+pub history-requires-sync-P : goal.history-requires-sync-P
+history-requires-sync-P c κs = search (analysis_sync, sendable) depth 20
+
+pub history_lines-requires-send-P : goal.history_lines-requires-send-P
+history_lines-requires-send-P c κs = search (analysis_send, sendable) depth 20
+
+pub history_lines-requires-sync-P : goal.history_lines-requires-sync-P
+history_lines-requires-sync-P c κs = search (analysis_sync, sendable) depth 20

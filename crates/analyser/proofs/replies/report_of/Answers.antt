@@ -15,4 +15,5 @@ returns-in_ok-found-in-Ok g c =
     (record { program = _; accepted = a; least = is.0; lists = lists_all given bytes _ a few report is.0 }, is.1)
 
 pub returns-in-Err-Refused : goal.returns-in-Err-Refused
-returns-in-Err-Refused g c = rw c.in-Err-Refused.field-0-is at c.in-Err-Refused.ensures.refused
+returns-in-Err-Refused g c =
+    rw c.in-Err-Refused.refusal-is (rw c.in-Err-Refused.field-0-is at c.in-Err-Refused.ensures.refused)
