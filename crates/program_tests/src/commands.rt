@@ -28,10 +28,19 @@ const FOURTEEN: &[u8] =
 const SCALED: &[u8] = b"int x;int r;\n__task(1) void w(void){x=__input(0,12)+5;}\n\
 __task(1) void q(void){r=x*19000000;}";
 
+/// Choices behind sources: a stop, races, and a run to its end.
+const STOPPED: &[u8] = b"int x;\n__task(1) void t(void){x=1/x;}\n#replay\nwake 0\nrun 0 0\nrun 0 0";
+
+const RACING: &[u8] = b"int x;int r;\n__task(2) void hi(void){x=5;r=10/x;}\n\
+__task(1) void lo(void){x=0;}\n#replay\nwake 1\nrun 1 0\nwake 0\nrun 0 0\nrun 0 0\nrun 0 0";
+
+const WHOLE: &[u8] = b"int x;int r;\nint main(void){x=5;return 0;}\n\
+__task(1) void t(void){r=10/x;}\n#replay\nrun 1 0\nwake 0\nrun 0 0\nrun 0 0\n";
+
 const USAGE: &[u8] = b"usage: COMMAND [OPTIONS] < source\n";
 
 /// The words, a source, the number with which the program ends on them, and the text that it writes.
-static COMMANDS: [(&[&str], &[u8], u8, &[u8]); 26] = [
+static COMMANDS: [(&[&str], &[u8], u8, &[u8]); 33] = [
     // How many workers there are does not show.
     (&["analyse", "--workers", "1"], GUARDED, 0, b"alarms 0\n"),
     (&["analyse", "--workers", "4"], GUARDED, 0, b"alarms 0\n"),
@@ -99,7 +108,20 @@ static COMMANDS: [(&[&str], &[u8], u8, &[u8]); 26] = [
         1,
         b"2:25 RACE\n3:26 RACE\nalarms 2\n",
     ),
+    // Runs by choices.
+    (&["replay"], STOPPED, 1, b"stopped 3 2:27 DIV\n"),
+    (&["replay"], RACING, 1, b"2:26 RACE\n3:26 RACE\nran 6\n"),
+    (&["replay"], WHOLE, 0, b"ran 4\n"),
+    (
+        &["replay"],
+        b"int x;\n__task(1) void t(void){x=1/x;}\n#replay\nrun 0 0",
+        1,
+        b"notallowed 1\n",
+    ),
+    (&["replay"], b"int x;", 2, b"refused replay\n"),
+    (&["replay"], b"int x\n#replay\n", 2, b"1:5 refused Syntax\n"),
     // Words that are no command.
+    (&["replay", "0"], STOPPED, 3, USAGE),
     (&[], DIVISION, 3, USAGE),
     (&["analyse", "--workers", "17"], DIVISION, 3, USAGE),
     (&["analyse", "--json", "--json"], DIVISION, 3, USAGE),
