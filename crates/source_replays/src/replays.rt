@@ -7,6 +7,7 @@ ghost use Rattle.source_programs.specs.Sources.{source_limit};
 ghost use Rattle.source_replays.specs.Replays.{HasReplay, IsReplayable, no_replay_text};
 ghost use Rattle.source_replays.specs.reading.Replies.{IsRefusalLine, TellsRun};
 
+use crate::depths::may_need_much_stack;
 use concrete_worlds::laws::laid_files_have_worlds;
 use replay_lines::{Ending, choices_in, replay_text, source_in};
 use replay_runs::{Run, run_by};
@@ -88,12 +89,15 @@ fn told(alloc: Global, run: &Run) -> Result<Reply, NoMemory>
     Ok(Reply { outcome, text })
 }
 
-/// The answer to bytes of whose source this is the layout.
+/// The answer to bytes of whose source this is the layout. Where the stack may be too small, that is want of memory.
 fn replayed(alloc: Global, bytes: &[u8], laid: &Laid) -> Result<Reply, NoMemory>
     requires replayable { IsReplayable bytes.now (laid_tree laid.now) }
     requires worlds { HasWorlds laid.now }
     ensures { IfOk result (λ reply. HasReplay bytes.now reply.outcome (string_bytes reply.text)) }
 {
+    if may_need_much_stack(alloc, source_in(bytes), laid)? {
+        return Err(NoMemory);
+    }
     match choices_in(alloc, bytes)? {
         Some(choices) => {
             let run = run_by(alloc, laid, &choices)?;
