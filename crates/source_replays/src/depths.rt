@@ -5,7 +5,8 @@ use std::alloc::Global;
 use tm_laid::Laid;
 use tm_lattice::NoMemory;
 
-// So many levels of trees and calls in one another fit a stack of 8 MB: twice as many were seen to.
+// So many levels of trees and calls in one another fit a stack of 8 MB: 3,100 of statements and 5,700 of expressions
+// were seen to.
 const LEVELS: u64 = 2048;
 
 // No expression is higher than 500, and no statement.
