@@ -218,8 +218,8 @@ pub fn analyse<R: Threads + Wait + Sync, S: Source, K: Sink, G: Gate>(
     ensures source_faults { result ≢ Status.ReadFault → S.faults source.new ≡ S.faults source.old }
     ensures sink_faults { result ≢ Status.WriteFault → K.faults out.new ≡ K.faults out.old }
 
-    // Bytes that the command accepts come to a report, and those that it refuses to their refusal, unless a device fails
-    // or memory runs out.
+    // Bytes that the command accepts come to a report, and those that it refuses to their refusal, unless a device
+    // fails or memory runs out.
     ensures accepted { (bytes : List ℕ) → AnswersFor (command_of (texts_of words.now)) (S.left source.old) bytes →
         Accepts (command_of (texts_of words.now)) bytes → IsReported result ⊎ IsStop result }
     ensures refused { (bytes : List ℕ) (r : RefusalOf) →

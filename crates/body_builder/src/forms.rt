@@ -110,8 +110,8 @@ impl Here<'_> {
         }
     }
 
-    /// A value is there, which is that of another expression. Whether this one is a pointer counts for a branch alone: it
-    /// is asked only there, since the question goes down the expression.
+    /// A value is there, which is that of another expression. Whether this one is a pointer counts for a branch alone:
+    /// it is asked only there, since the question goes down the expression.
     #[tactic(auto, unfolding(crate::specs::reading::Expressions::ends))]
     pub(crate) fn same_ends(
         &self,
@@ -121,7 +121,8 @@ impl Here<'_> {
         place: Place,
         temp: Option<u32>,
     ) -> Result<Found, NoMemory>
-        ensures { IfOk result (λ x. Finds (ends wanted (gives_pointer (tree_in self.now.laid.now) (rvalue_tree other.now))
+        ensures { IfOk result
+            (λ x. Finds (ends wanted (gives_pointer (tree_in self.now.laid.now) (rvalue_tree other.now))
             place temp (so_far (tree_in self.now.laid.now) to.old)) (so_far (tree_in self.now.laid.now) to.new) x) }
     {
         match wanted {

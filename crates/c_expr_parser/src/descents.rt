@@ -2,7 +2,8 @@ ghost use Rattle.std.specs.Prelude.{◌≡◌, ◌≤◌, ◌+◌, suc, true, le
 ghost use Rattle.tm_terms.specs.ExprTrees.{tree_of, no_arguments};
 ghost use Rattle.tm_terms.specs.ExprSpelling.{prefix_of};
 ghost use Rattle.c_expr_parser.specs.reading.Parts.{seen_rest, name_at};
-ghost use Rattle.c_expr_parser.specs.reading.Founds.{pair_of, seen_found, seen_arguments, seen_type, IfFound, IsStep, IsLow};
+ghost use Rattle.c_expr_parser.specs.reading.Founds.{pair_of, seen_found, seen_arguments, seen_type, IfFound, IsStep};
+ghost use Rattle.c_expr_parser.specs.reading.Founds.{IsLow};
 ghost use Rattle.c_expr_parser.specs.reading.Descent.{arguments, arguments_from, called, name_form, prefix_form};
 ghost use Rattle.c_expr_parser.specs.reading.Descent.{inside_form, closed_type, cast_form, sizeof_type_form};
 ghost use Rattle.c_expr_parser.specs.reading.Descent.{sizeof_form, input_form, islocked_form, sign_form, word_form};

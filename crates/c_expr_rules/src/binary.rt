@@ -2,7 +2,8 @@
 ghost use Rattle.std.specs.Prelude.{◌≡◌};
 ghost use Rattle.tm_typed.specs.TypedTrees.{rvalue_tree, rated, operand_tree};
 ghost use Rattle.tm_typed.specs.Refusals.{Gives};
-ghost use Rattle.tm_typed.specs.Rules.{is_shift, is_comparison, working_type, right_type, FitsRight, binary_made, integers_rules, order_rules, others_rules, binary_rules};
+ghost use Rattle.tm_typed.specs.Rules.{is_shift, is_comparison, working_type, right_type, FitsRight, binary_made};
+ghost use Rattle.tm_typed.specs.Rules.{integers_rules, order_rules, others_rules, binary_rules};
 
 use crate::conversions::converted;
 use crate::forms::{integer_made, refused, truth_made};
@@ -113,7 +114,8 @@ fn integers(
     right: Valued,
     second: Integer,
 ) -> Result<Operand, Fail>
-    ensures { Gives operand_tree result (integers_rules operator place (rated left) first.of first.fold (rated right) second.of second.fold) }
+    ensures { Gives operand_tree result
+        (integers_rules operator place (rated left) first.of first.fold (rated right) second.of second.fold) }
 {
     let of = working_type(operator, first.of, second.of);
     let to = right_type(operator, of, second.of);

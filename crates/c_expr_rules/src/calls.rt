@@ -93,7 +93,8 @@ fn call_made(
     sort: Sort,
     place: Place,
 ) -> Result<Operand, Fail>
-    ensures { Gives operand_tree result (made (a_function_call function site (as_rvalues arguments.items) place) sort place) }
+    ensures { Gives operand_tree result
+        (made (a_function_call function site (as_rvalues arguments.items) place) sort place) }
 {
     made(
         alloc,
@@ -118,7 +119,8 @@ fn function_call(
     arguments: Vec<Valued>,
     entry: &FunctionEntry,
 ) -> Result<Operand, Fail>
-    ensures { Gives operand_tree result (function_rules scope.now place function site (map rated arguments.items) (Some (function_of entry.now))) }
+    ensures { Gives operand_tree result
+        (function_rules scope.now place function site (map rated arguments.items) (Some (function_of entry.now))) }
 {
     if has_structure(&arguments) {
         return refused(Kind::Unsupported, place);

@@ -2,7 +2,8 @@
 ghost use Rattle.std.specs.Prelude.{◌≡◌};
 ghost use Rattle.tm_typed.specs.TypedTrees.{rated, operand_tree};
 ghost use Rattle.tm_typed.specs.Refusals.{Gives};
-ghost use Rattle.tm_typed.specs.Rules.{logical_rules, conditional_pair, conditional_sorts, conditional_rules, comma_rules};
+ghost use Rattle.tm_typed.specs.Rules.{logical_rules, conditional_pair, conditional_sorts, conditional_rules};
+ghost use Rattle.tm_typed.specs.Rules.{comma_rules};
 ghost use Rattle.c_expr_rules.specs.Pairs.{pair_of};
 
 use crate::conversions::converted;
@@ -74,7 +75,8 @@ fn chosen(
     first: Valued,
     second: Valued,
 ) -> Result<Operand, Fail>
-    ensures { Gives operand_tree result (conditional_sorts scope.now place (rated condition) (rated first) first.sort (rated second) second.sort) }
+    ensures { Gives operand_tree result
+        (conditional_sorts scope.now place (rated condition) (rated first) first.sort (rated second) second.sort) }
 {
     match (first.sort, second.sort) {
         (Sort::Integer(a, f), Sort::Integer(b, g)) => {
@@ -123,7 +125,8 @@ pub fn conditional(
     first: Valued,
     second: Valued,
 ) -> Result<Operand, Fail>
-    ensures { Gives operand_tree result (conditional_rules scope.now place (rated condition) (rated first) (rated second)) }
+    ensures { Gives operand_tree result
+        (conditional_rules scope.now place (rated condition) (rated first) (rated second)) }
 {
     if !condition.sort.is_condition() {
         return refused(Kind::Mismatch, place);

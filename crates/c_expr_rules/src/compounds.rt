@@ -2,7 +2,8 @@
 ghost use Rattle.std.specs.Prelude.{◌≡◌};
 ghost use Rattle.tm_typed.specs.TypedTrees.{lvalue_tree, rated, operand_tree};
 ghost use Rattle.tm_typed.specs.Refusals.{Gives};
-ghost use Rattle.tm_typed.specs.Rules.{is_additive, is_difference, compound_integer, compound_pointer, compound_value, compound_rules};
+ghost use Rattle.tm_typed.specs.Rules.{is_additive, is_difference, compound_integer, compound_pointer, compound_value};
+ghost use Rattle.tm_typed.specs.Rules.{compound_rules};
 ghost use Rattle.tm_typed.specs.Typing.{compound_sign};
 
 use crate::binary::{right_type, working_type};
@@ -35,7 +36,8 @@ fn compound_integer(
     cell: IntType,
     valued: Valued,
 ) -> Result<Operand, Fail>
-    ensures { Gives operand_tree result (compound_integer operator place (lvalue_tree target.value) of cell (rated valued) valued.sort) }
+    ensures { Gives operand_tree result (compound_integer operator place (lvalue_tree target.value) of
+        cell (rated valued) valued.sort) }
 {
     match valued.sort {
         Sort::Integer(from, _) => {
@@ -77,7 +79,8 @@ fn compound_pointer(
     to: Qualified,
     valued: Valued,
 ) -> Result<Operand, Fail>
-    ensures { Gives operand_tree result (compound_pointer scope.now operator place (lvalue_tree target.value) of class to (rated valued) valued.sort) }
+    ensures { Gives operand_tree result (compound_pointer scope.now operator place (lvalue_tree target.value) of
+        class to (rated valued) valued.sort) }
 {
     match valued.sort {
         Sort::Integer(..) => {

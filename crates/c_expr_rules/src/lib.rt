@@ -1,5 +1,5 @@
-//! The rules of expressions: for each construct, from its typed parts to its typed form or to the first row of its rules
-//! that it meets. How parts are reached in a tree, and what type names name, this crate does not know.
+//! The rules of expressions: for each construct, from its typed parts to its typed form or to the first row of its
+//! rules that it meets. How parts are reached in a tree, and what type names name, this crate does not know.
 //!
 //! For `p - q` of two pointers `infix` answers Unsupported at the `-`; for `p - 1` it answers a `Move` backwards.
 #![tactic(auto)]

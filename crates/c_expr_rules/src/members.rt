@@ -3,7 +3,8 @@ ghost use Rattle.std.specs.Prelude.{◌≡◌};
 ghost use Rattle.tm_typed.specs.TypedTrees.{lvalue_tree, rated, operand_tree};
 ghost use Rattle.tm_typed.specs.Refusals.{Gives};
 ghost use Rattle.tm_typed.specs.Scopes.{ctype_of};
-ghost use Rattle.tm_typed.specs.Rules.{pointer_subscript, lvalue_subscript, subscript_rules, member_type, is_volatile_pointer, dot_rules, arrow_rules};
+ghost use Rattle.tm_typed.specs.Rules.{pointer_subscript, lvalue_subscript, subscript_rules, member_type};
+ghost use Rattle.tm_typed.specs.Rules.{is_volatile_pointer, dot_rules, arrow_rules};
 
 use crate::conversions::loaded;
 use crate::forms::{designated, refused};
@@ -53,7 +54,8 @@ fn lvalue_subscript(
     of: Qualified,
     index: Valued,
 ) -> Result<Operand, Fail>
-    ensures { Gives operand_tree result (lvalue_subscript scope.now place (lvalue_tree array.value) of (rated index) (ctype_of scope.now of.number)) }
+    ensures { Gives operand_tree result (lvalue_subscript scope.now place (lvalue_tree array.value) of
+        (rated index) (ctype_of scope.now of.number)) }
 {
     match scope.ctype(of.number) {
         CType::Array { element, length } => {

@@ -62,7 +62,8 @@ pub fn infix(
     left: Operand,
     right: Operand,
 ) -> Result<Operand, Fail>
-    ensures { Gives operand_tree result (infix_rules scope.now operator place (operand_tree left) (operand_tree right)) }
+    ensures { Gives operand_tree result
+        (infix_rules scope.now operator place (operand_tree left) (operand_tree right)) }
 {
     let right = valued(alloc, scope, right)?;
     match operator {

@@ -29,7 +29,8 @@ fn with_null_right(
     right: Valued,
     common: Sort,
 ) -> Result<Option<Pair>, NoMemory>
-    ensures { GivesOption pair_of result (cond (is_null right.sort) (pair (rated left).value (a_null right.place) common) None) }
+    ensures { GivesOption pair_of result
+        (cond (is_null right.sort) (pair (rated left).value (a_null right.place) common) None) }
 {
     if !right.sort.is_null() {
         return Ok(None);
@@ -50,7 +51,8 @@ fn with_null_left(
     right: Valued,
     common: Sort,
 ) -> Result<Option<Pair>, NoMemory>
-    ensures { GivesOption pair_of result (cond (is_null left.sort) (pair (a_null left.place) (rated right).value common) None) }
+    ensures { GivesOption pair_of result
+        (cond (is_null left.sort) (pair (a_null left.place) (rated right).value common) None) }
 {
     if !left.sort.is_null() {
         return Ok(None);
@@ -144,7 +146,8 @@ fn moved(
     of: Qualified,
     index: Valued,
 ) -> Result<Operand, Fail>
-    ensures { Gives operand_tree result (move_rules scope.now minus index_first place (rated pointer) of (rated index)) }
+    ensures { Gives operand_tree result (move_rules scope.now minus index_first place (rated pointer) of
+        (rated index)) }
 {
     if !scope.is_complete(of.number) {
         return refused(Kind::Mismatch, place);
@@ -193,7 +196,8 @@ pub(crate) fn difference(
     left: Valued,
     right: Valued,
 ) -> Result<Operand, Fail>
-    ensures { Gives operand_tree result (difference_rules scope.now place (rated left) left.sort (rated right) right.sort) }
+    ensures { Gives operand_tree result
+        (difference_rules scope.now place (rated left) left.sort (rated right) right.sort) }
 {
     match (left.sort, right.sort) {
         (Sort::Pointer(of), Sort::Integer(..)) => {

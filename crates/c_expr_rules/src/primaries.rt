@@ -3,7 +3,8 @@ ghost use Rattle.std.specs.Prelude.{◌≡◌, ◌<◌, ◌^◌, find, pos, IfSo
 ghost use Rattle.tm_cint.specs.IntTypes.{is_in};
 ghost use Rattle.tm_typed.specs.TypedTrees.{rated, operand_tree};
 ghost use Rattle.tm_typed.specs.Refusals.{Gives};
-ghost use Rattle.tm_typed.specs.Rules.{name_rules, candidates, constant_type, constant_rules, character_rules, folded_in_int, bound, input_rules, islocked_rules};
+ghost use Rattle.tm_typed.specs.Rules.{name_rules, candidates, constant_type, constant_rules, character_rules};
+ghost use Rattle.tm_typed.specs.Rules.{folded_in_int, bound, input_rules, islocked_rules};
 
 use crate::forms::{constant, designated, made, refused};
 use std::alloc::Global;

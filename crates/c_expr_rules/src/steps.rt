@@ -20,7 +20,8 @@ fn step_lvalue(
     target: Box<Lvalue>,
     of: Qualified,
 ) -> Result<Operand, Fail>
-    ensures { Gives operand_tree result (step_by scope.now step place (lvalue_tree target.value) of (entry scope.now of.number) (ctype_of scope.now of.number)) }
+    ensures { Gives operand_tree result (step_by scope.now step place (lvalue_tree target.value) of
+        (entry scope.now of.number) (ctype_of scope.now of.number)) }
 {
     match scope.ctype(of.number) {
         CType::Int(cell) => {

@@ -2,7 +2,8 @@
 ghost use Rattle.std.specs.Prelude.{◌≡◌};
 ghost use Rattle.tm_typed.specs.TypedTrees.{rated, operand_tree};
 ghost use Rattle.tm_typed.specs.Refusals.{Gives};
-ghost use Rattle.tm_typed.specs.Rules.{address_rules, dereference_rules, not_rules, minus_rules, complement_rules, plus_rules};
+ghost use Rattle.tm_typed.specs.Rules.{address_rules, dereference_rules, not_rules, minus_rules, complement_rules};
+ghost use Rattle.tm_typed.specs.Rules.{plus_rules};
 
 use crate::conversions::converted;
 use crate::forms::{boxed, designated, integer_made, made, refused, truth_made};

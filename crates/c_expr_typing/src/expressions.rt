@@ -5,7 +5,8 @@ ghost use Rattle.tm_typed.specs.TypedTrees.{operand_tree};
 ghost use Rattle.tm_typed.specs.Refusals.{then_with, row, Gives};
 ghost use Rattle.tm_typed.specs.Scopes.{named};
 ghost use Rattle.tm_typed.specs.Operands.{valued};
-ghost use Rattle.tm_typed.specs.Rules.{bound, callee, call_rules, cast_rules, sizeof_type_rules, subscript_rules, conditional_rules};
+ghost use Rattle.tm_typed.specs.Rules.{bound, callee, call_rules, cast_rules, sizeof_type_rules, subscript_rules};
+ghost use Rattle.tm_typed.specs.Rules.{conditional_rules};
 ghost use Rattle.tm_typed.specs.Typing.{typing, typing_all, calls, argument_calls};
 ghost use Rattle.tm_typed.specs.TypeNames.{type_of_name};
 ghost use Rattle.c_expr_typing.specs.Values.{rated_items};
@@ -44,7 +45,8 @@ fn cast_to(
 
 // `sizeof` of the type of a type name.
 fn sizeof_named(alloc: Global, scope: &Scope, place: Place, to: CastType) -> Result<Operand, Fail>
-    ensures { Gives operand_tree result (row to.is_left_out Kind.Unsupported place (sizeof_type_rules scope.now place to.of.number)) }
+    ensures { Gives operand_tree result
+        (row to.is_left_out Kind.Unsupported place (sizeof_type_rules scope.now place to.of.number)) }
 {
     if to.is_left_out {
         return Err(Fail::Refused(Refusal {
@@ -64,7 +66,8 @@ fn subscripted(
     array: Operand,
     index: Operand,
 ) -> Result<Operand, Fail>
-    ensures { Gives operand_tree result (subscript_rules scope.now place (operand_tree array) (valued scope.now (operand_tree index))) }
+    ensures { Gives operand_tree result
+        (subscript_rules scope.now place (operand_tree array) (valued scope.now (operand_tree index))) }
 {
     let index = valued(alloc, scope, index)?;
     subscript(alloc, scope, place, array, index)
@@ -79,7 +82,9 @@ fn chosen(
     first: Operand,
     second: Operand,
 ) -> Result<Operand, Fail>
-    ensures { Gives operand_tree result (conditional_rules scope.now place (valued scope.now (operand_tree condition)) (valued scope.now (operand_tree first)) (valued scope.now (operand_tree second))) }
+    ensures { Gives operand_tree result
+        (conditional_rules scope.now place (valued scope.now (operand_tree condition))
+        (valued scope.now (operand_tree first)) (valued scope.now (operand_tree second))) }
 {
     let condition = valued(alloc, scope, condition)?;
     let first = valued(alloc, scope, first)?;
@@ -125,7 +130,10 @@ fn called(
     exprs: &[Expr],
     place: Place,
 ) -> Result<Operand, Fail>
-    ensures value { Gives operand_tree result (then_with (callee place (named scope.now function)) (λ g. then_with (typing_all type_of_name scope.now (suc site.old) (as_arguments exprs.now)) (λ vs. call_rules scope.now place site.old vs g))) }
+    ensures value { Gives operand_tree result
+        (then_with (callee place (named scope.now function))
+        (λ g. then_with (typing_all type_of_name scope.now (suc site.old) (as_arguments exprs.now))
+        (λ vs. call_rules scope.now place site.old vs g))) }
     ensures sites { OnOk result (site.new ≡ site.old + suc (argument_calls (as_arguments exprs.now))) }
 {
     match callee(place, scope.named(function)) {

@@ -1,8 +1,8 @@
 //! Expressions: from trees to typed trees, exactly by the rules of typing. Which names and types are visible is given;
 //! declarations and statements, this crate does not know.
 //!
-//! In the scope of `int a[3];` the tree of `a[1] + 'x'` becomes a `Binary` in `int` of a `Load` of the element 1 of `a` and
-//! the constant 120; that of `a + a` is refused as Mismatch at the `+`.
+//! In the scope of `int a[3];` the tree of `a[1] + 'x'` becomes a `Binary` in `int` of a `Load` of the element 1 of `a`
+//! and the constant 120; that of `a + a` is refused as Mismatch at the `+`.
 #![tactic(auto)]
 
 mod expressions;

@@ -1,5 +1,5 @@
-//! Folded values of integer expressions (C99 6.6): what an operator gives where its operands are folded, not built of what
-//! may be, or faulty. Which operators an expression has, and in which types they work, this crate does not know.
+//! Folded values of integer expressions (C99 6.6): what an operator gives where its operands are folded, not built of
+//! what may be, or faulty. Which operators an expression has, and in which types they work, this crate does not know.
 //!
 //! `0 && 1/0` is folded to 0, since its right operand is not evaluated; `1/0 ? 2 : 3` is not folded.
 #![tactic(auto)]
@@ -9,7 +9,8 @@ ghost use Rattle.tm_cint.specs.IntTypes.{IsIn};
 ghost use Rattle.tm_cint.specs.Conversions.{converted_value};
 ghost use Rattle.tm_cint.specs.Operators.{IsRightOperand};
 ghost use Rattle.tm_typed.specs.Operands.{fold_converted};
-ghost use Rattle.tm_typed.specs.Rules.{fold_outcome, not_fold, minus_fold, complement_fold, FitsRight, values_fold, binary_fold, logical_fold, chosen_fold};
+ghost use Rattle.tm_typed.specs.Rules.{fold_outcome, not_fold, minus_fold, complement_fold, FitsRight, values_fold};
+ghost use Rattle.tm_typed.specs.Rules.{binary_fold, logical_fold, chosen_fold};
 
 use tm_cint::{BinOp, Class, IntType, arith, convert};
 use tm_typed::Fold;

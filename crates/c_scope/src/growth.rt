@@ -1,7 +1,10 @@
 //! What changes a scope: names and tags that are declared, blocks that begin and end, and rows of the tables.
-ghost use Rattle.std.specs.Prelude.{◌≡◌, ◌*◌, ◌<◌, ◌≤◌, length, take, map, slice_get, slice_set, get_or, true, false, [], ◌∷◌, ◌++◌, OnOk, OnErr, IfOk};
+ghost use Rattle.std.specs.Prelude.{◌≡◌, ◌*◌, ◌<◌, ◌≤◌, length, take, map, slice_get, slice_set, get_or, true, false};
+ghost use Rattle.std.specs.Prelude.{[], ◌∷◌, ◌++◌, OnOk, OnErr, IfOk};
 ghost use Rattle.tm_typed.specs.Scopes.{structure_of, function_of, structure, entry};
-ghost use Rattle.tm_typed.specs.TypeRows.{is_founded, apart_from_const, cells_in, abstract_cells_in, size_in, alignment_in, of_pointers_in, row_in, number_in, with_row, with_type, clipped, wrapped};
+ghost use Rattle.tm_typed.specs.TypeRows.{is_founded, apart_from_const, cells_in, abstract_cells_in, size_in};
+ghost use Rattle.tm_typed.specs.TypeRows.{alignment_in, of_pointers_in, row_in, number_in, with_row, with_type};
+ghost use Rattle.tm_typed.specs.TypeRows.{clipped, wrapped};
 ghost use Rattle.tm_typed.specs.Specifiers.{new_structure};
 ghost use Rattle.tm_typed.specs.Functions.{function, names_here};
 ghost use Rattle.tm_typed.specs.States.{with_name, with_tag, entered, left_to};
@@ -58,7 +61,8 @@ impl Scope {
         self.outer_tags = self.tags.len();
     }
 
-    /// The present block ends, so that its names and tags are no longer visible; `outside` stand outside the one around it.
+    /// The present block ends, so that its names and tags are no longer visible; `outside` stand outside the one around
+    /// it.
     pub fn leave(&mut self, outside: Outside)
         ensures { self.new ≡ left_to outside.names outside.tags self.old }
     {
@@ -75,9 +79,11 @@ impl Scope {
         self.outer_names = self.names.len();
     }
 
-    /// The names of the present block are no longer visible, its tags are; `outside` names stand outside the one around it.
+    /// The names of the present block are no longer visible, its tags are; `outside` names stand outside the one around
+    /// it.
     pub fn leave_names(&mut self, outside: usize)
-        ensures { self.new ≡ record self.old { names = take self.old.outer_names self.old.names; outer_names = outside } }
+        ensures { self.new ≡ record self.old
+            { names = take self.old.outer_names self.old.names; outer_names = outside } }
     {
         self.names.truncate(self.outer_names);
         self.outer_names = outside;
@@ -100,7 +106,8 @@ impl Scope {
         self.names.since(alloc, self.outer_names)
     }
 
-    /// The tags of the present block are no longer visible, its names are; `outside` tags stand outside the one around it.
+    /// The tags of the present block are no longer visible, its names are; `outside` tags stand outside the one around
+    /// it.
     pub fn leave_tags(&mut self, outside: usize)
         ensures { self.new ≡ record self.old { tags = take self.old.outer_tags self.old.tags; outer_tags = outside } }
     {
@@ -272,7 +279,8 @@ impl Scope {
 
     /// The `{` of a structure is read.
     pub fn open_structure(&mut self, number: u32)
-        ensures { self.new ≡ record self.old { structs = slice_set self.old.structs number (record (structure self.old number) { opened = true }) } }
+        ensures { self.new ≡ record self.old
+            { structs = slice_set self.old.structs number (record (structure self.old number) { opened = true }) } }
     {
         self.structs.open(number);
     }
@@ -281,7 +289,8 @@ impl Scope {
     pub fn complete_structure(&mut self, number: u32, entry: StructEntry) -> Result<(), NoMemory>
         requires incomplete { (structure self.old number).complete ≡ false }
         requires complete { entry.complete ≡ true }
-        ensures ok { OnOk result (self.new ≡ record self.old { structs = slice_set self.old.structs number (structure_of entry) }) }
+        ensures ok { OnOk result (self.new
+            ≡ record self.old { structs = slice_set self.old.structs number (structure_of entry) }) }
         ensures err { OnErr result (self.new ≡ self.old) }
     {
         self.structs.complete(number, entry)
@@ -296,7 +305,8 @@ impl Scope {
 
     /// A further function. After want of memory all is as before.
     pub fn add_function(&mut self, entry: FunctionEntry) -> Result<(), NoMemory>
-        ensures ok { OnOk result (self.new ≡ record self.old { functions = self.old.functions ++ function_of entry ∷ [] }) }
+        ensures ok { OnOk result (self.new
+            ≡ record self.old { functions = self.old.functions ++ function_of entry ∷ [] }) }
         ensures err { OnErr result (self.new ≡ self.old) }
     {
         match self.functions.push(entry) {
@@ -309,7 +319,10 @@ impl Scope {
 impl Scope {
     /// A function has a body from now on.
     pub fn define_function(&mut self, number: u32)
-        ensures { self.new ≡ record self.old { functions = slice_set self.old.functions number (record (function self.old number) { defined = true }) } }
+        ensures { self.new ≡ record self.old {
+          functions = slice_set self.old.functions number
+              (record (function self.old number) { defined = true });
+        } }
     {
         let index = number as usize;
         if index < self.functions.len() {

@@ -2,8 +2,8 @@
 //! are looked up by an index, never by a scan. Which declarations there are and which are refused, this crate does not
 //! know.
 //!
-//! Behind `int x; { char x;` the name `x` has two declarations: `named` gives the inner one, and the outer one again once
-//! the block is left.
+//! Behind `int x; { char x;` the name `x` has two declarations: `named` gives the inner one, and the outer one again
+//! once the block is left.
 #![tactic(auto)]
 
 mod bindings;

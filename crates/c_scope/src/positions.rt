@@ -35,8 +35,10 @@ impl Model for Positions {
 
     ghost view = { λ p. names_of p.declared.items };
 
-    ghost invariant = { λ p. ((n : Name) → joined (get is_same_name p.latest n) ≡ last_position (names_of p.declared.items) n)
-        × ((i : ℕ) (d : Declared) → slice_get p.declared.items i ≡ Some d → d.before ≡ last_position (names_of (take i p.declared.items)) d.name) };
+    ghost invariant = { λ p. ((n : Name)
+        → joined (get is_same_name p.latest n) ≡ last_position (names_of p.declared.items) n)
+        × ((i : ℕ) (d : Declared) → slice_get p.declared.items i ≡ Some d
+        → d.before ≡ last_position (names_of (take i p.declared.items)) d.name) };
 }
 
 impl Positions {

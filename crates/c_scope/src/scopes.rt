@@ -1,6 +1,8 @@
 //! Scopes: what is visible at a place of the text.
 ghost use Rattle.std.specs.Prelude.{◌≡◌, option_map, slice_get, IfSome, IfNone};
-ghost use Rattle.tm_typed.specs.Scopes.{function_of, structure_of, no_structure, named, named_here, tagged, tagged_here, entry, ctype_of, is_same_type, structure, is_complete, cells_of, abstract_cells_of, size_of, alignment_of, member_of};
+ghost use Rattle.tm_typed.specs.Scopes.{function_of, structure_of, no_structure, named, named_here, tagged};
+ghost use Rattle.tm_typed.specs.Scopes.{tagged_here, entry, ctype_of, is_same_type, structure, is_complete, cells_of};
+ghost use Rattle.tm_typed.specs.Scopes.{abstract_cells_of, size_of, alignment_of, member_of};
 ghost use Rattle.tm_typed.specs.Operands.{scalar_of};
 ghost use Rattle.tm_typed.specs.TypeRows.{number_in};
 

@@ -1,5 +1,6 @@
 //! The table of structures, and their members by name.
-ghost use Rattle.std.specs.Prelude.{◌≡◌, ◌<◌, ◌≤◌, true, false, option_map, slice_get, slice_set, get_or, cond, map, length, [], ◌∷◌, ◌++◌, IfSome, IfNone, OnOk, OnErr};
+ghost use Rattle.std.specs.Prelude.{◌≡◌, ◌<◌, ◌≤◌, true, false, option_map, slice_get, slice_set, get_or, cond, map};
+ghost use Rattle.std.specs.Prelude.{length, [], ◌∷◌, ◌++◌, IfSome, IfNone, OnOk, OnErr};
 ghost use Rattle.indexmap.specs.IndexMap.{get, spare};
 ghost use Rattle.c_scope.specs.declared.structures.MemberKey.{MemberKey};
 ghost use Rattle.c_scope.specs.reading.Members.{is_same_key, with_members};
@@ -41,7 +42,8 @@ impl Model for Structures {
 
     ghost invariant = { λ s. ((k : ℕ) (n : Name) → get is_same_key s.members (record { structure = k; name = n })
         ≡ last_declared (λ m. m.name) n (get_or (map structure_of s.entries.items) k no_structure).members)
-        × ((k : ℕ) → (get_or (map structure_of s.entries.items) k no_structure).complete ≡ false → (get_or (map structure_of s.entries.items) k no_structure).members ≡ []) };
+        × ((k : ℕ) → (get_or (map structure_of s.entries.items) k no_structure).complete ≡ false
+        → (get_or (map structure_of s.entries.items) k no_structure).members ≡ []) };
 }
 
 impl Structures {
@@ -127,7 +129,8 @@ impl Structures {
 
     /// The `{` of a structure is read.
     pub fn open(&mut self, number: u32)
-        ensures { self.new ≡ slice_set self.old number (record (get_or self.old number no_structure) { opened = true }) }
+        ensures { self.new ≡ slice_set self.old number
+            (record (get_or self.old number no_structure) { opened = true }) }
     {
         let index = number as usize;
         if index < self.entries.len() {
@@ -160,7 +163,8 @@ impl Structures {
 // Members of a structure are found by their names, beside those that are found so far.
 fn note_members(found: &mut IndexMap<MemberKey, Member>, structure: u32, members: &[Member])
     requires { length members.now ≤ spare found.old }
-    ensures { (k : MemberKey) → get is_same_key found.new k ≡ with_members structure members.now k (get is_same_key found.old k) }
+    ensures { (k : MemberKey)
+        → get is_same_key found.new k ≡ with_members structure members.now k (get is_same_key found.old k) }
 {
     for member in members {
         let key = MemberKey {

@@ -35,7 +35,8 @@ impl Model for Types {
 
     ghost view = { λ t. t.entries.items };
 
-    ghost invariant = { λ t. (t.rows.keys ≡ map (λ e. e.ctype) t.entries.items) × (length t.entries.items ≤ 4294967295) };
+    ghost invariant = { λ t. (t.rows.keys ≡ map (λ e. e.ctype) t.entries.items)
+        × (length t.entries.items ≤ 4294967295) };
 }
 
 impl Types {

@@ -1,8 +1,8 @@
-//! What specifiers and type names name: from the words of a list to a type of the table. How expressions and declarators
-//! are typed, this crate does not know.
+//! What specifiers and type names name: from the words of a list to a type of the table. How expressions and
+//! declarators are typed, this crate does not know.
 //!
-//! `unsigned char * const` names a pointer that is `const`, to the type `unsigned char`; its row is the one that the table
-//! has for `unsigned char *`.
+//! `unsigned char * const` names a pointer that is `const`, to the type `unsigned char`; its row is the one that the
+//! table has for `unsigned char *`.
 #![tactic(auto)]
 
 mod pointers;

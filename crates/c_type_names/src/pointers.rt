@@ -2,7 +2,9 @@
 ghost use Rattle.std.specs.Prelude.{◌≡◌, OnOk, IfOk};
 ghost use Rattle.tm_terms.specs.ExprTrees.{type_tree};
 ghost use Rattle.tm_typed.specs.Refusals.{Gives};
-ghost use Rattle.tm_typed.specs.TypeNames.{is_void, is_volatile_pointer, is_no_target, bare, pointer_to, pointer_word, with_pointer_word, pointed_in, is_star, is_void_star, cast_type, type_of_name};
+ghost use Rattle.tm_typed.specs.TypeNames.{is_void, is_volatile_pointer, is_no_target, bare, pointer_to, pointer_word};
+ghost use Rattle.tm_typed.specs.TypeNames.{with_pointer_word, pointed_in, is_star, is_void_star, cast_type};
+ghost use Rattle.tm_typed.specs.TypeNames.{type_of_name};
 
 use crate::said::{base, plain};
 use crate::words::words;

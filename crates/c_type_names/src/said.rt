@@ -1,7 +1,8 @@
 //! What the words of a list of specifiers say together.
 ghost use Rattle.std.specs.Prelude.{◌≡◌};
 ghost use Rattle.tm_typed.specs.Types.{int_number};
-ghost use Rattle.tm_typed.specs.Specifiers.{nothing_said, said_qualifier, said_basic, said_type, plain, integer_said, type_said, base, by_sign};
+ghost use Rattle.tm_typed.specs.Specifiers.{nothing_said, said_qualifier, said_basic, said_type, plain, integer_said};
+ghost use Rattle.tm_typed.specs.Specifiers.{type_said, base, by_sign};
 
 use tm_cint::IntType;
 use tm_terms::{Basic, Qualifier};

@@ -184,8 +184,8 @@ fn is_alive(laid: &Laid, path: u32, object: u32) -> bool
     }
 }
 
-/// A pointer that is followed: what it designates. Condition: the file can be laid out, and there are no more cells than
-/// its limit.
+/// A pointer that is followed: what it designates. Condition: the file can be laid out, and there are no more cells
+/// than its limit.
 pub fn dereferenced(
     alloc: Global,
     state: &State<AbsValue>,
@@ -194,7 +194,8 @@ pub fn dereferenced(
 ) -> Result<Calculated, NoMemory>
     requires layable { IsLayable (typed_file_tree followed.now.laid.now.file) followed.now.laid.now.file.order.items }
     requires few { length followed.now.laid.now.cells.items ≤ 65536 }
-    ensures { IfOk result (λ given. IsCalculated (dereferenced (is_alive (laid_tree followed.now.laid.now) followed.now.path)
+    ensures { IfOk result
+        (λ given. IsCalculated (dereferenced (is_alive (laid_tree followed.now.laid.now) followed.now.path)
         (λ object offset. stands_at (laid_tree followed.now.laid.now) object offset followed.now.target) source)
         state.now given) }
 {

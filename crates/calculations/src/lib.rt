@@ -2,8 +2,9 @@
 //! give, the classes of errors that are not excluded, and what a comparison that holds leaves of both sides. They read
 //! temporaries alone: no cell and no store.
 //!
-//! Where the temporaries 0 and 1 are {1, 2} and {0, 5}, their quotient in an `int` gives 0 to 2, and the class of a zero
-//! divisor is not excluded; and where `0 < 1` is known to hold, {1, 2} is left of the one side, and {5} of the other.
+//! Where the temporaries 0 and 1 are {1, 2} and {0, 5}, their quotient in an `int` gives 0 to 2, and the class of a
+//! zero divisor is not excluded; and where `0 < 1` is known to hold, {1, 2} is left of the one side, and {5} of the
+//! other.
 #![tactic(auto)]
 
 mod addresses;

@@ -1,5 +1,6 @@
 -- What the marking of the functions that one reaches keeps.
-use Rattle.std.specs.Prelude.{◌≡◌, ℕ, suc, ◌<◌, ◌+◌, ◌⊎◌, Bool, true, false, List, [], ◌∷◌, length, get_or, All, Contains}
+use Rattle.std.specs.Prelude.{◌≡◌, ℕ, suc, ◌<◌, ◌+◌, ◌⊎◌, Bool, true, false, List, [], ◌∷◌, length, get_or, All}
+use Rattle.std.specs.Prelude.{Contains}
 use Rattle.tm_typed.specs.CallGraph.{Reaches, calls_in}
 
 abbrev pub IsMarked : List Bool → ℕ → Type 0

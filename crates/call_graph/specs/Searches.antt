@@ -1,5 +1,6 @@
 -- What a search through the calls keeps.
-use Rattle.std.specs.Prelude.{◌≡◌, ℕ, ◌<◌, ◌≤◌, ◌+◌, ◌-◌, Bool, true, false, List, [], ◌∷◌, ◌++◌, length, take, get_or, replicate, All, Contains}
+use Rattle.std.specs.Prelude.{◌≡◌, ℕ, ◌<◌, ◌≤◌, ◌+◌, ◌-◌, Bool, true, false, List, [], ◌∷◌, ◌++◌, length, take, get_or}
+use Rattle.std.specs.Prelude.{replicate, All, Contains}
 use Rattle.tm_typed.specs.CallGraph.{Reaches, AreCalleesFirst, calls_in}
 use Rattle.call_graph.specs.declared.searches.Mark.{Mark}
 use Rattle.call_graph.specs.declared.searches.Mark.TheVariants as Marks
@@ -14,7 +15,8 @@ IsPath calls [] = Unit {0}
 IsPath calls (f ∷ []) = Unit {0}
 IsPath calls (f ∷ g ∷ fs) = Contains (calls f) g × IsPath calls (g ∷ fs)
 
--- A search with these functions on its path: each calls the next, what is open is among them, what is done stands in the order, and the calls that were taken are done.
+-- A search with these functions on its path: each calls the next, what is open is among them, what is done stands in
+-- the order, and the calls that were taken are done.
 pub record IsSearch (graph : List (List ℕ)) (marks : List Mark) (taken path order : List ℕ) : Type 0 where
   pub same_marks : length marks ≡ length graph
   pub same_taken : length taken ≡ length graph
@@ -47,7 +49,8 @@ work_of graph s = pending s.marks.items s.taken.items graph + length s.path.item
 
 -- nothing is met
 abbrev pub IsUnmet : Search → ℕ → Type 0
-IsUnmet s n = (s.marks.items ≡ replicate n Marks.New) × (s.taken.items ≡ replicate n 0) × (s.path.items ≡ []) × (s.order.items ≡ [])
+IsUnmet s n = (s.marks.items ≡ replicate n Marks.New) × (s.taken.items ≡ replicate n 0) × (s.path.items ≡ [])
+    × (s.order.items ≡ [])
 
 -- what was met stays met
 pub record KeepsMet (old new : List Mark) : Type 0 where

@@ -40,7 +40,9 @@ fn begin(calls: &[Vec<u32>], search: &mut Search, f: u32) -> Result<bool, NoMemo
 fn callees_first(alloc: Global, calls: &[Vec<u32>]) -> Result<Option<Vec<u32>>, NoMemory>
     requires graph { IsGraph (lists calls.now) }
     requires few { length calls.now < 2 ^ 32 }
-    ensures { IfOk result (λ found. MatchOption found (HasCycle (lists calls.now)) (λ order. IsWholeOrder (lists calls.now) order.items)) }
+    ensures { IfOk result
+        (λ found. MatchOption found (HasCycle (lists calls.now))
+        (λ order. IsWholeOrder (lists calls.now) order.items)) }
 {
     let mut search = new_search(alloc, calls.len())?;
     for f in 0..calls.len() as u32 {
@@ -65,7 +67,8 @@ fn first_recursive(
 ) -> Result<Option<u32>, NoMemory>
     requires graph { IsGraph (lists calls.now) }
     requires within { All (λ f. f < length calls.now) functions.now }
-    ensures { IfOk result (λ first. MatchOption first (All (λ f. Reaches (calls_in (lists calls.now)) f f → ⊥) functions.now)
+    ensures { IfOk result
+        (λ first. MatchOption first (All (λ f. Reaches (calls_in (lists calls.now)) f f → ⊥) functions.now)
         (λ f. IsFirstRecursive (calls_in (lists calls.now)) functions.now f)) }
 {
     for f in functions {

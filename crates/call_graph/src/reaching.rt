@@ -11,7 +11,8 @@ use tm_lattice::NoMemory;
 // Marks a function; where it was not marked, it waits.
 fn mark(marks: &mut Vec<bool>, waiting: &mut Vec<u32>, callee: u32) -> Result<(), NoMemory>
     requires { callee < vec_len marks.old }
-    ensures { OnOk result (HasMarked (callee ∷ []) marks.old.items marks.new.items waiting.old.items waiting.new.items) }
+    ensures { OnOk result
+        (HasMarked (callee ∷ []) marks.old.items marks.new.items waiting.old.items waiting.new.items) }
 {
     if marks[callee as usize] {
         return Ok(());

@@ -1,5 +1,5 @@
-//! A search through the calls, depth first, by a list of open functions: it gives an order in which each function stands
-//! behind those that it calls, or finds a function that reaches itself.
+//! A search through the calls, depth first, by a list of open functions: it gives an order in which each function
+//! stands behind those that it calls, or finds a function that reaches itself.
 ghost use Rattle.std.specs.Prelude.{◌≡◌, [], ◌∷◌, ◌++◌, ◌<◌, length, IfOk};
 ghost use Rattle.call_graph.specs.Graphs.{lists, IsGraph};
 ghost use Rattle.call_graph.specs.Searches.{IsSearchOf, IsUnmet, Steps, Ends};
@@ -42,8 +42,8 @@ pub(crate) fn new_search(alloc: Global, count: usize) -> Result<Search, NoMemory
     })
 }
 
-// One step at the function f, the last of the path: it is done, or a call of it is looked at. False where that call leads
-// back to the path.
+// One step at the function f, the last of the path: it is done, or a call of it is looked at. False where that call
+// leads back to the path.
 fn step(calls: &[Vec<u32>], search: &mut Search, f: u32) -> Result<bool, NoMemory>
     requires graph { IsGraph (lists calls.now) }
     requires searching { IsSearchOf (lists calls.now) search.old (search.old.path.items ++ f ∷ []) }

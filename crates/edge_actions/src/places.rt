@@ -2,7 +2,8 @@
 ghost use Rattle.std.specs.Prelude.{◌≡◌};
 ghost use Rattle.strided_dom.specs.Progression.{IsInReach};
 ghost use Rattle.tm_laid.specs.Layouts.{laid_tree, path_at, object_at, cell_at, abstract_at, is_same_scalar};
-ghost use Rattle.edge_actions.specs.Layouts.{is_reachable, is_shared_cell, is_smashed_cell, open_value, numbers_between};
+ghost use Rattle.edge_actions.specs.Layouts.{is_reachable, is_shared_cell, is_smashed_cell, open_value};
+ghost use Rattle.edge_actions.specs.Layouts.{numbers_between};
 
 use pointer_dom::{AbsValue, PointerSet};
 use std::alloc::Global;

@@ -66,7 +66,8 @@ fn with_cell(
     offset: u32,
     targets: Targets,
 ) -> Result<Targets, NoMemory>
-    ensures { IfOk result (λ more. more.items ≡ targets.items ++ cell_of_type (laid_tree laid.now) scalar object offset) }
+    ensures { IfOk result (λ more. more.items ≡ targets.items
+        ++ cell_of_type (laid_tree laid.now) scalar object offset) }
 {
     let mut targets = targets;
     let cell = cell_at(

@@ -3,8 +3,8 @@
 //! edges that do nothing, give a temporary without a look at memory, or load; those that test, store, clear or use
 //! mutexes stand in crates of their own. They know no graph and no table of states.
 //!
-//! An edge that loads by an address that leads to the shared cell `x` alone, where the task knows {1} there and sees {2}
-//! of another task, leads to a state in which the temporary is {1, 2} and a copy of `x`; it reaches `x`, and adds
+//! An edge that loads by an address that leads to the shared cell `x` alone, where the task knows {1} there and sees
+//! {2} of another task, leads to a state in which the temporary is {1, 2} and a copy of `x`; it reaches `x`, and adds
 //! nothing to the store.
 #![tactic(auto)]
 

@@ -159,7 +159,8 @@ pub fn load(
     requires task { view.now.task < length view.now.priorities.now }
     requires writers { HavePriorities store.now (length view.now.priorities.now) }
     ensures { IfOk result (λ after. IsAfter (around_of view.now)
-        (loads (spots_of (laid_tree view.now.laid.now) view.now.task scalar) target address) state.now store.now after) }
+        (loads (spots_of (laid_tree view.now.laid.now) view.now.task scalar) target address) state.now store.now
+        after) }
 {
     let targets = reached(alloc, view, state, address, scalar)?;
     let cells = targets.as_slice();
@@ -184,7 +185,8 @@ fn given_any(
     value: AbsValue,
 ) -> Result<Option<State<AbsValue>>, NoMemory>
     ensures { IfOk result (λ after. after
-        ≡ option_map (arrived (around_of view.now)) (after_load_any (around_of view.now) state.now target cells.now value)) }
+        ≡ option_map (arrived (around_of view.now))
+        (after_load_any (around_of view.now) state.now target cells.now value)) }
 {
     match cells {
         [] => Ok(None),

@@ -4,7 +4,8 @@ ghost use Rattle.strided_dom.specs.Progression.{single, IsInReach};
 ghost use Rattle.tm_cint.specs.Operators.{IsComparison};
 ghost use Rattle.calculations.specs.interfere_set.Stores.{Interferences};
 ghost use Rattle.calculations.specs.transfer_rows.StateForms.{only_numbers, only_pointers};
-ghost use Rattle.calculations.specs.transfer_rows.Actions.{temporary, fixed, numbers_compare, pointers_compare, usable, refines};
+ghost use Rattle.calculations.specs.transfer_rows.Actions.{temporary, fixed, numbers_compare, pointers_compare, usable};
+ghost use Rattle.calculations.specs.transfer_rows.Actions.{refines};
 ghost use Rattle.calculations.specs.transfer_rows.Rows.{after_filter};
 ghost use Rattle.edge_actions.specs.Edges.{around_of, filter_of, only_null};
 ghost use Rattle.edge_effects.specs.Effects.{IsAfter};
@@ -189,7 +190,8 @@ pub fn refine(
     Ok(plain(alloc, arrived, no_classes()))
 }
 
-/// An edge that asks that a pointer is not the invalid one: the class `pointer` is not excluded exactly where it may be.
+/// An edge that asks that a pointer is not the invalid one: the class `pointer` is not excluded exactly where it may
+/// be.
 pub fn usable(
     alloc: Global,
     view: &EdgeView,

@@ -5,7 +5,8 @@ ghost use Rattle.flow_graph.specs.declared.operations.Operation.TheVariants as O
 ghost use Rattle.body_builder.specs.concrete_steps.Places.{result_type};
 ghost use Rattle.body_builder.specs.concrete_steps.NextAction.{function_at};
 ghost use Rattle.tm_typed.specs.TypedStatements.{as_typed_trees};
-ghost use Rattle.body_builder.specs.lowering.Built.{nothing_piece, fallen_piece, result_of, result_at, is_return, nodes_by};
+ghost use Rattle.body_builder.specs.lowering.Built.{nothing_piece, fallen_piece, result_of, result_at, is_return};
+ghost use Rattle.body_builder.specs.lowering.Built.{nodes_by};
 ghost use Rattle.body_builder.specs.lowering.Built.{function_piece};
 ghost use Rattle.body_builder.specs.Fragments.{tree_in, so_far, calls_on, IsPart};
 ghost use Rattle.statement_builder.specs.Waiting.{waiting};

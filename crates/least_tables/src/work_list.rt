@@ -1,5 +1,6 @@
 //! The work list: edges are applied until none brings more.
-ghost use Rattle.std.specs.Prelude.{◌≡◌, ◌<◌, ℕ, length, Some, None, IfOk, IsOk, IsTrue, MatchBool, slice_index_or, true};
+ghost use Rattle.std.specs.Prelude.{◌≡◌, ◌<◌, ℕ, length, Some, None, IfOk, IsOk, IsTrue, MatchBool, slice_index_or};
+ghost use Rattle.std.specs.Prelude.{true};
 ghost use Rattle.least_tables.specs.Solutions.{at, IsStarted, IsClosedTable, IsMetOrPending, IsLeastAbove};
 ghost use Rattle.least_tables.specs.Solutions.{IsLeastSolution};
 ghost use Rattle.least_tables.specs.reading.WorkLists.{IsStart, IsStep, IsIndex, AreFollowed};

@@ -106,7 +106,8 @@ fn taken(
     value: &AbsValue,
 ) -> Result<Option<AbsValue>, NoMemory>
     ensures { IfOk result (λ more. value_or more value.now ≡ joined_values value.now
-        (cond (is_shared_cell (laid_tree view.now.laid.now) cell) (handed view.now.task mutex cell store.now) no_value)) }
+        (cond (is_shared_cell (laid_tree view.now.laid.now) cell) (handed view.now.task mutex cell store.now)
+        no_value)) }
 {
     // The calls tell that these are values.
     let _own = value.is_nothing();

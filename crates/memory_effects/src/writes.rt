@@ -76,7 +76,8 @@ fn joined(
     cell: u32,
     entry: &CellState<AbsValue>,
 ) -> Result<Option<CellState<AbsValue>>, NoMemory>
-    ensures { IfOk result (λ after. kept_or after entry.now ≡ joining (is_shared_cell (laid_tree view.now.laid.now) cell)
+    ensures { IfOk result (λ after. kept_or after entry.now
+        ≡ joining (is_shared_cell (laid_tree view.now.laid.now) cell)
         view.now.held value.now entry.now) }
 {
     // The calls tell that these are values.

@@ -17,7 +17,9 @@ pub record Asked : Type 0 where
   pub text : List ℕ
   pub name : List ℕ
 
--- a form, the file that holds the text, and the name of the file from which its first line comes; no other words are a command
+-- a form, the file that holds the text, and the name of the file from which its first line comes; no other words are a
+-- command
 abbrev pub asked_of : List (List ℕ) → Option Asked
-asked_of (word ∷ file ∷ first ∷ []) = option_map (λ form. record { form = form; text = file; name = first }) (form_of word)
+asked_of (word ∷ file ∷ first ∷ []) =
+    option_map (λ form. record { form = form; text = file; name = first }) (form_of word)
 asked_of _ = None

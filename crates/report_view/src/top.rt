@@ -83,14 +83,16 @@ pub fn answer<R: Source, T: Source, K: Sink, E: Sink>(
     out: &mut K,
     told: &mut E,
 ) -> Status
-    // Status 0 or 1: `out` has taken the view of the report, in which each of its alarms stands once, at the place that the
-    // line marks of the text give; the status says whether there is one.
+    // Status 0 or 1: `out` has taken the view of the report, in which each of its alarms stands once, at the place that
+    // the line marks of the text give; the status says whether there is one.
     ensures shown { (alarm : Bool) → result ≡ shown_status alarm → Shows asked.entry.form asked.entry.name.now
-        (R.left report.old) (R.left report.new) (T.left text.old) (T.left text.new) alarm (K.taken out.old) (K.taken out.new) }
+        (R.left report.old) (R.left report.new) (T.left text.old) (T.left text.new) alarm (K.taken out.old)
+        (K.taken out.new) }
 
     // Status 2: there is no view, `told` has taken why, and `out` nothing.
     ensures refused { result ≡ Status.Refused → Tells asked.entry.form asked.entry.name.now
-        (R.left report.old) (R.left report.new) (T.left text.old) (T.left text.new) (E.taken told.old) (E.taken told.new)
+        (R.left report.old) (R.left report.new) (T.left text.old) (T.left text.new) (E.taken told.old)
+        (E.taken told.new)
         × (K.taken out.new ≡ K.taken out.old) }
 
     // Whatever comes, `out` has taken nothing, or a front of the view.

@@ -1,5 +1,6 @@
 -- Alarms as compilers print them: a line FILE:LINE:COL: CLASS: SENTENCE for each, and then their number.
-use Rattle.std.specs.Prelude.{ℕ, ◌+◌, ◌/◌, ◌%◌, ◌==◌, ◌||◌, List, [], ◌∷◌, ◌++◌, length, nat_lt, codes, decimal, if◌then◌else◌}
+use Rattle.std.specs.Prelude.{ℕ, ◌+◌, ◌/◌, ◌%◌, ◌==◌, ◌||◌, List, [], ◌∷◌, ◌++◌, length, nat_lt, codes, decimal}
+use Rattle.std.specs.Prelude.{if◌then◌else◌}
 use Rattle.std.specs.List.{flat_map}
 use Rattle.tm_cint.specs.declared.Class.{Class}
 use Rattle.tm_terms.specs.Texts.{class_text, count_line, line_of}

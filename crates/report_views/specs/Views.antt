@@ -28,8 +28,8 @@ pub record IsShown (form : Form) (origins : List Origin) (alarms : List Alarm) (
   pub any : alarm ≡ has_alarm spots
   pub written : view ≡ form_text form spots
 
--- the view of a report, as bytes, over a text, whose first file has this name: that of its alarms, at the places that the
--- line marks of the text give
+-- the view of a report, as bytes, over a text, whose first file has this name: that of its alarms, at the places that
+-- the line marks of the text give
 pub record IsView (form : Form) (name report text : List ℕ) (alarm : Bool) (view : List ℕ) : Type 0 where
   pub alarms : List Alarm
   pub origins : List Origin

@@ -1,6 +1,6 @@
-//! Reports as engineers read them: a report, as JSON, and the preprocessed text that it is of give a line for each alarm
-//! at its place in the file that it was written in, the log that build servers take (SARIF 2.1.0), or how many alarms
-//! each class has. It knows reports, line marks and texts, and neither words of a command nor streams.
+//! Reports as engineers read them: a report, as JSON, and the preprocessed text that it is of give a line for each
+//! alarm at its place in the file that it was written in, the log that build servers take (SARIF 2.1.0), or how many
+//! alarms each class has. It knows reports, line marks and texts, and neither words of a command nor streams.
 //!
 //! The alarm `DIV` at line 2, column 27 of a text whose second line comes from line 12 of `pump.c` has the line
 //! `pump.c:12:27: DIV: the divisor may be zero`.

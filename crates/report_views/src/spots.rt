@@ -54,7 +54,8 @@ pub fn spots_of<'a>(
     origins: &[Origin<'a>],
     alarms: &[Alarm],
 ) -> Result<Vec<Spot<'a>>, SpotFail>
-    ensures ok { IfOk result (λ spots. spots_of (map origin_seen origins.now) alarms.now ≡ Some (map spot_seen spots.items)) }
+    ensures ok { IfOk result (λ spots. spots_of (map origin_seen origins.now) alarms.now
+        ≡ Some (map spot_seen spots.items)) }
     ensures outside { (place : PlaceOf) → IsErrOf result (SpotFail.Outside place) →
         IsOutside (map origin_seen origins.now) alarms.now place }
 {

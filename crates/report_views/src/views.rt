@@ -101,7 +101,8 @@ fn placed<'a>(
     origins: &[Origin<'a>],
     alarms: &[Alarm],
 ) -> Result<Vec<Spot<'a>>, ViewFail>
-    ensures ok { IfOk result (λ spots. spots_of (map origin_seen origins.now) alarms.now ≡ Some (map spot_seen spots.items)) }
+    ensures ok { IfOk result (λ spots. spots_of (map origin_seen origins.now) alarms.now
+        ≡ Some (map spot_seen spots.items)) }
     ensures refused { (cause : CauseOf) → IsErrOf result (ViewFail.Refused cause) →
         IsMisplaced (map origin_seen origins.now) alarms.now cause }
 {

@@ -1,7 +1,9 @@
 -- Which line of which file each line of a preprocessed text comes from, by the line marks that stand in the text (C99
 -- 6.10.4). A text is a list of bytes, and byte 0 stands for none past its end.
-use Rattle.std.specs.Prelude.{◌≡◌, ◌<◌, ◌+◌, ◌-◌, ◌*◌, ◌==◌, ◌||◌, ℕ, Bool, true, false, List, [], ◌∷◌, length, take, drop}
-use Rattle.std.specs.Prelude.{slice_get, slice_index, fold, nat_le, codes, Option, Some, None, option_map, option_and_then}
+use Rattle.std.specs.Prelude.{◌≡◌, ◌<◌, ◌+◌, ◌-◌, ◌*◌, ◌==◌, ◌||◌, ℕ, Bool, true, false, List, [], ◌∷◌, length, take}
+use Rattle.std.specs.Prelude.{drop}
+use Rattle.std.specs.Prelude.{slice_get, slice_index, fold, nat_le, codes, Option, Some, None, option_map}
+use Rattle.std.specs.Prelude.{option_and_then}
 use Rattle.std.specs.Prelude.{if◌then◌else◌, bytes_eq}
 use Rattle.std.specs.List.{prefix_len}
 use Rattle.std.specs.Char.{is_ascii_digit}
@@ -58,8 +60,8 @@ number_of digits =
     if length digits == 0 then None
     else (if nat_le (decimal_value digits) greatest_line then Some (decimal_value digits) else None)
 
--- the number of the first quote, byte 34, that is not protected, where the text begins at byte k: a `\`, byte 92, that is
--- not protected itself protects the byte behind it
+-- the number of the first quote, byte 34, that is not protected, where the text begins at byte k: a `\`, byte 92, that
+-- is not protected itself protects the byte behind it
 abbrev pub name_end : ℕ → Bool → List ℕ → Option ℕ
 name_end k protected [] = None
 name_end k true (b ∷ text) = name_end (k + 1) false text

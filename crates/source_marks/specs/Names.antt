@@ -1,7 +1,8 @@
--- The names of files that line marks spell: between the quotes of a mark `\"` is a quote, `\\` a backslash, `\n` and `\t`
--- are the bytes 10 and 9, and `\` with three octal digits is the byte of their value. Any other byte, and any other `\`,
--- is itself.
-use Rattle.std.specs.Prelude.{ℕ, zero, suc, ◌+◌, ◌-◌, ◌*◌, ◌==◌, ◌||◌, ◌&&◌, Bool, nat_le, List, [], ◌∷◌, drop, slice_index}
+-- The names of files that line marks spell: between the quotes of a mark `\"` is a quote, `\\` a backslash, `\n` and
+-- `\t` are the bytes 10 and 9, and `\` with three octal digits is the byte of their value. Any other byte, and any
+-- other `\`, is itself.
+use Rattle.std.specs.Prelude.{ℕ, zero, suc, ◌+◌, ◌-◌, ◌*◌, ◌==◌, ◌||◌, ◌&&◌, Bool, nat_le, List, [], ◌∷◌, drop}
+use Rattle.std.specs.Prelude.{slice_index}
 use Rattle.std.specs.Prelude.{Option, Some, None, if◌then◌else◌}
 
 abbrev pub is_octal : ℕ → Bool

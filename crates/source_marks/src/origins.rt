@@ -1,6 +1,7 @@
 //! Which line of which file each line of a text comes from.
 
-ghost use Rattle.std.specs.Prelude.{◌≡◌, ◌<◌, ◌≤◌, ◌+◌, ◌^◌, ◌⊎◌, ℕ, Some, None, map, option_map, IfOk, IfSome, IsErrOf};
+ghost use Rattle.std.specs.Prelude.{◌≡◌, ◌<◌, ◌≤◌, ◌+◌, ◌^◌, ◌⊎◌, ℕ, Some, None, map, option_map, IfOk, IfSome};
+ghost use Rattle.std.specs.Prelude.{IsErrOf};
 ghost use Rattle.source_marks.specs.Marks.{named, after, greatest_line, IsBrokenAt, lines_of, origins_of};
 ghost use Rattle.source_marks.specs.reading.Seen.{mark_seen, origin_seen};
 

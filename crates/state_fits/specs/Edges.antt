@@ -10,8 +10,8 @@ use Rattle.temporary_types.specs.Sorts.{Sort, FitsSorts}
 use Rattle.state_fits.specs.Typed.{SpotsAgree, NamesObjects}
 
 -- An edge of a body leads from a place where some temporaries are live to one where others are: its operation fits the
--- sorts of temporaries; what is live where it leads is live before, or is what it gives; and what the task holds is a set
--- of mutexes.
+-- sorts of temporaries; what is live where it leads is live before, or is what it gives; and what the task holds is a
+-- set of mutexes.
 pub record FitsEdge (laid : LaidTree) (task : ℕ) (sorts : List Sort) (around : Around) (op : Operation)
     (live live' : List ℕ) : Type 0 where
   pub operation : FitsSorts laid sorts op

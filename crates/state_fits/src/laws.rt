@@ -39,8 +39,8 @@ pub fn places_are_closed()
         → FitsPlace laid task types live (rounded_state_at (rounded_values marks) cells s) }
 {}
 
-/// A state that fits a place lies below the greatest one there, and is at most as high; and a state that is as high as one
-/// above it is that one.
+/// A state that fits a place lies below the greatest one there, and is at most as high; and a state that is as high as
+/// one above it is that one.
 pub fn places_have_tops()
     ensures below { (laid : LaidTree) (task : ℕ) (types : ℕ → Scalar) (live : List ℕ) (s : State)
         → FitsPlace laid task types live s → IsStateUnder s (top_state laid live) }

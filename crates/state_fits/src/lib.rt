@@ -1,11 +1,12 @@
 //! What fits a program: states at the places of a body, whose temporaries and cells have values of their types, and
 //! stores; operations that fit the types of temporaries; and the greatest state of each place. The laws: what an edge
 //! brings fits the place to which it leads, states that fit are joined and rounded to states that fit, and each lies
-//! below the greatest one of its place. What a body's graph is and how its equations are solved, this crate does not know.
+//! below the greatest one of its place. What a body's graph is and how its equations are solved, this crate does not
+//! know.
 //!
-//! In `int x; __task(1) void t(void) { x = 1; }` the state with the temporary 0 that leads to `x`, the temporary 1 that is
-//! 1, and `x` that is 0 fits the place before the store, where both temporaries are live. Behind the store none is, and
-//! the state in which `x` is 1 fits.
+//! In `int x; __task(1) void t(void) { x = 1; }` the state with the temporary 0 that leads to `x`, the temporary 1 that
+//! is 1, and `x` that is 0 fits the place before the store, where both temporaries are live. Behind the store none is,
+//! and the state in which `x` is 1 fits.
 #![tactic(auto)]
 
 mod laws;

@@ -2,7 +2,8 @@
 use Rattle.std.specs.Prelude.{◌≡◌, ℕ, ◌<◌, Bool, false, not, ◌==◌, ◌∷◌, set, slice_get, Some, None}
 use Rattle.tm_lattice.specs.declared.lattices.Lattice as lattice
 use Rattle.tm_lattice.specs.declared.passers.Passer as passer
-use Rattle.store_core.specs.Histories.{Read, Publish, version_of, lent_to, IsLent, is_settled, IsQuiet, store_of, store_at, MayRead, MayPublish}
+use Rattle.store_core.specs.Histories.{Read, Publish, version_of, lent_to, IsLent, is_settled, IsQuiet, store_of}
+use Rattle.store_core.specs.Histories.{store_at, MayRead, MayPublish}
 use Rattle.store_core.specs.Cores.{Lent, Brought, Core}
 
 module _ {P S M K : Type 0} (store : lattice.Ghosts S M) (passer : passer.Ghosts P S M) where

@@ -1,5 +1,6 @@
 -- Histories of a shared store: which worker read which version for which task, and what it published.
-use Rattle.std.specs.Prelude.{◌≡◌, ◌≢◌, ◌⊎◌, ℕ, ◌+◌, ◌<◌, Bool, true, false, ◌&&◌, ◌||◌, ◌==◌, if◌then◌else◌, List, [], ◌∷◌, ◌++◌, All, Option, Some, None}
+use Rattle.std.specs.Prelude.{◌≡◌, ◌≢◌, ◌⊎◌, ℕ, ◌+◌, ◌<◌, Bool, true, false, ◌&&◌, ◌||◌, ◌==◌, if◌then◌else◌, List, []}
+use Rattle.std.specs.Prelude.{◌∷◌, ◌++◌, All, Option, Some, None}
 use Rattle.tm_lattice.specs.declared.lattices.Lattice as lattice
 use Rattle.tm_lattice.specs.declared.passers.Passer as passer
 

@@ -1,8 +1,10 @@
 //! The store core: what is lent, and what has come in.
-ghost use Rattle.std.specs.Prelude.{◌≡◌, ◌↔◌, ◌+◌, ◌^◌, ◌<◌, ◌≤◌, if◌then◌else◌, IfOk, OnErr, IsTrue, [], replicate, None, Some, slice_get, option_map};
+ghost use Rattle.std.specs.Prelude.{◌≡◌, ◌↔◌, ◌+◌, ◌^◌, ◌<◌, ◌≤◌, if◌then◌else◌, IfOk, OnErr, IsTrue, [], replicate};
+ghost use Rattle.std.specs.Prelude.{None, Some, slice_get, option_map};
 ghost use Rattle.std.specs.Option.{option_copied};
 ghost use Rattle.std.specs.Arc.{arc_value};
-ghost use Rattle.store_core.specs.Histories.{version_of, lent_to, with_added, store_of, store_at, MayRead, IsLegal, IsQuiet};
+ghost use Rattle.store_core.specs.Histories.{version_of, lent_to, with_added, store_of, store_at, MayRead, IsLegal};
+ghost use Rattle.store_core.specs.Histories.{IsQuiet};
 ghost use Rattle.store_core.specs.KeptValues.{IsKept};
 ghost use Rattle.store_core.specs.reading.Slots.{loan_at};
 ghost use Rattle.store_core.specs.Answers.{LendsFreeTask, IsGrown};

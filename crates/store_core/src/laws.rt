@@ -2,7 +2,8 @@
 ghost use Rattle.std.specs.Prelude.{◌≡◌, ◌≢◌, ◌↔◌, ◌+◌, ◌<◌, ◌≤◌, ◌++◌, ℕ, List, ◌∷◌, Option, Result, Err, length};
 ghost use Rattle.tm_lattice.specs.Rounds.{up, IsClosed};
 ghost use Rattle.tm_lattice.specs.declared.memory.NoMemory as memory;
-ghost use Rattle.store_core.specs.Histories.{Publish, Past, version_of, with_added, store_of, store_at, IsLegal, IsQuiet, IsPassOverItsReading};
+ghost use Rattle.store_core.specs.Histories.{Publish, Past, version_of, with_added, store_of, store_at, IsLegal};
+ghost use Rattle.store_core.specs.Histories.{IsQuiet, IsPassOverItsReading};
 ghost use Rattle.store_core.specs.Cores.{Brought, Core};
 ghost use Rattle.store_core.specs.KeptValues.{IsKept, IsKeptNow};
 ghost use Rattle.store_core.specs.Outcomes.{Takes, Publishes};

@@ -1,5 +1,6 @@
 //! What the core keeps for each task.
-ghost use Rattle.std.specs.Prelude.{◌≡◌, ◌↔◌, ◌^◌, ◌<◌, ◌⊎◌, ℕ, Some, None, true, false, length, replicate, get_or, IfSome, IfOk, IfNone, IsTrue, IsFalse};
+ghost use Rattle.std.specs.Prelude.{◌≡◌, ◌↔◌, ◌^◌, ◌<◌, ◌⊎◌, ℕ, Some, None, true, false, length, replicate, get_or};
+ghost use Rattle.std.specs.Prelude.{IfSome, IfOk, IfNone, IsTrue, IsFalse};
 
 use std::alloc::{AllocError, Global};
 

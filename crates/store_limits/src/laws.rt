@@ -1,7 +1,8 @@
 //! The laws. They speak of definitions alone: no call is made.
 ghost use Rattle.std.specs.Prelude.{◌≡◌, ◌<◌, ◌≤◌, ◌-◌, ℕ, List, [], ◌∷◌};
 ghost use Rattle.program_equations.specs.tm_lattice.Rounds.{IsHistory, IsClosed};
-ghost use Rattle.program_equations.specs.interfere_set.Stores.{Interferences, IsStoreBelow, no_interference, store_height};
+ghost use Rattle.program_equations.specs.interfere_set.Stores.{Interferences, IsStoreBelow, no_interference};
+ghost use Rattle.program_equations.specs.interfere_set.Stores.{store_height};
 ghost use Rattle.program_equations.specs.value_heights.Heights.{value_height};
 ghost use Rattle.program_equations.specs.Programs.{ProgramBodies, IsProgram};
 ghost use Rattle.program_equations.specs.Systems.{stores, FitsProgram};

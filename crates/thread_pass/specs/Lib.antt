@@ -1,5 +1,5 @@
--- What an analysis keeps (Analyses), what a pass keeps for the next one (Kept), and which edges use the store (StoreUses).
--- The crates below, passed on to those above.
+-- What an analysis keeps (Analyses), what a pass keeps for the next one (Kept), and which edges use the store
+-- (StoreUses). The crates below, passed on to those above.
 pub use Rattle.program_equality.specs.program_equations
 pub use Rattle.program_systems.specs as program_systems
 pub use Rattle.program_equality.specs.state_fits

@@ -40,7 +40,8 @@ pub fn local(
 }
 
 /// The same, begun from a least table of the task over a store that lies below this one: what rose since is all that
-/// is climbed, from the edges on that look into the store. Condition: there is such a task, the store fits the program, and the table is such a table.
+/// is climbed, from the edges on that look into the store. Condition: there is such a task, the store fits the program,
+/// and the table is such a table.
 pub fn local_from(
     alloc: Global,
     analysis: &Analysis,

@@ -1,5 +1,5 @@
-//! Which edges of a task look into the store, and which add to it. A pass that goes on from an earlier table applies the
-//! former alone, until a node rises; and what the others contribute is nothing.
+//! Which edges of a task look into the store, and which add to it. A pass that goes on from an earlier table applies
+//! the former alone, until a node rises; and what the others contribute is nothing.
 ghost use Rattle.std.specs.Prelude.{◌≡◌, ◌<◌, length, map, IfOk};
 ghost use Rattle.program_equality.specs.program_equations.Programs.{body_at};
 ghost use Rattle.program_systems.specs.ReadPrograms.{program_of};

@@ -11,11 +11,13 @@ use least_tables::Analysed;
 use program_systems::BodyState;
 
 impl Analysed for Analysis {
-    ghost use Rattle.program_equality.specs.program_equations.Solutions.{node_count, links_in, after_in, entry_in, outward_in, heads_in};
+    ghost use Rattle.program_equality.specs.program_equations.Solutions.{node_count, links_in, after_in, entry_in};
+    ghost use Rattle.program_equality.specs.program_equations.Solutions.{outward_in, heads_in};
     ghost use Rattle.program_equality.specs.program_equations.Solutions.{suits_in, limit_in, added_in};
     ghost use Rattle.cell_env.specs.States.{state_height};
     ghost use Rattle.program_equality.specs.value_heights.Heights.{value_height};
-    ghost use Rattle.program_equality.specs.program_equations.Systems.{IsSection, IsSectionBelow, least_section, least_local};
+    ghost use Rattle.program_equality.specs.program_equations.Systems.{IsSection, IsSectionBelow, least_section};
+    ghost use Rattle.program_equality.specs.program_equations.Systems.{least_local};
     ghost use Rattle.thread_pass.specs.laws.WholeLawful.{whole_is_lawful};
     ghost use Rattle.program_systems.specs.ReadPrograms.{program_of};
 

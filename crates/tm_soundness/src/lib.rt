@@ -18,7 +18,8 @@ ghost use Rattle.tm_soundness.specs.Numbered.{KnowsEveryWorld, KnowsEveryWholeWo
 /// section 5): a world of the graphs stands for the world over answers, and the parts of the invariant hold in it, for
 /// some last writers.
 pub fn invariant_holds()
-    ensures law { (p : Program) (a : Answer) (s : Entries p) (n : Interpreter (shape_of p)) → KeepsTheInvariant p a s n }
+    ensures law { (p : Program) (a : Answer) (s : Entries p) (n : Interpreter (shape_of p))
+        → KeepsTheInvariant p a s n }
 {}
 
 /// Each fault's class is listed at its place, and the places of each race both, in the initial section and in the

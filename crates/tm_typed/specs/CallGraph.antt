@@ -1,4 +1,5 @@
--- Calls among functions: which function reaches which by calls, and orders in which each stands behind those that it calls.
+-- Calls among functions: which function reaches which by calls, and orders in which each stands behind those that it
+-- calls.
 use Rattle.std.specs.Prelude.{◌≡◌, ℕ, List, [], ◌∷◌, ◌++◌, get_or, All, Contains}
 
 -- the functions that a function calls, where the calls of all stand in the order of their numbers

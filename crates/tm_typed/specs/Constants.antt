@@ -1,6 +1,13 @@
--- The values of the maximal folded expressions of a typed expression, and the bounds of its `__input`s: numbers near which an analysis may look more closely.
+-- The values of the maximal folded expressions of a typed expression, and the bounds of its `__input`s: numbers near
+-- which an analysis may look more closely.
 use Rattle.std.specs.Prelude.{ℤ, List, [], ◌∷◌, ◌++◌}
-use Rattle.tm_typed.specs.TypedTrees.{RvalueTree, a_constant, a_folded, a_null, a_load, an_address, a_structure, the_same, a_unary, a_binary, a_comparison_of_pointers, a_move, a_not, an_and, an_or, a_choice, an_assignment, a_compound, a_compound_move, a_unit_step, a_pointer_step, a_function_call, an_input_value, a_probe, a_comma, a_conversion, a_discard, LvalueTree, an_object, an_element, a_pointed_element, a_pointed, an_arrow, a_part, RvalueTrees, no_rvalues, and_rvalue, OperandTree, an_lvalue, a_value}
+use Rattle.tm_typed.specs.TypedTrees.{RvalueTree, a_constant, a_folded, a_null, a_load, an_address, a_structure}
+use Rattle.tm_typed.specs.TypedTrees.{the_same, a_unary, a_binary, a_comparison_of_pointers, a_move, a_not, an_and}
+use Rattle.tm_typed.specs.TypedTrees.{an_or, a_choice, an_assignment, a_compound, a_compound_move, a_unit_step}
+use Rattle.tm_typed.specs.TypedTrees.{a_pointer_step, a_function_call, an_input_value, a_probe, a_comma, a_conversion}
+use Rattle.tm_typed.specs.TypedTrees.{a_discard, LvalueTree, an_object, an_element, a_pointed_element, a_pointed}
+use Rattle.tm_typed.specs.TypedTrees.{an_arrow, a_part, RvalueTrees, no_rvalues, and_rvalue, OperandTree, an_lvalue}
+use Rattle.tm_typed.specs.TypedTrees.{a_value}
 
 abbrev mutual
   pub constants_of : RvalueTree → List ℤ

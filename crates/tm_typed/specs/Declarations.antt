@@ -1,5 +1,6 @@
 -- Whole declarations (C99 6.7, 6.9.2): typedefs, and objects at file scope and in blocks.
-use Rattle.std.specs.Prelude.{ℕ, suc, Bool, true, false, cond, ◌&&◌, ◌||◌, not, ◌==◌, is_some, List, [], ◌∷◌, ◌++◌, length, map, slice_set, Option, Some, None, option_map, Result, Ok}
+use Rattle.std.specs.Prelude.{ℕ, suc, Bool, true, false, cond, ◌&&◌, ◌||◌, not, ◌==◌, is_some, List, [], ◌∷◌, ◌++◌}
+use Rattle.std.specs.Prelude.{length, map, slice_set, Option, Some, None, option_map, Result, Ok}
 use Rattle.tm_trees.specs.tm_terms.declared.places.Place.{Place}
 use Rattle.tm_trees.specs.tm_terms.declared.tokens.Name.{Name}
 use Rattle.tm_trees.specs.tm_terms.declared.refusals.Kind.TheVariants as Kinds
@@ -8,7 +9,9 @@ use Rattle.tm_trees.specs.tm_terms.declared.types_named.Storage.{Storage}
 use Rattle.tm_trees.specs.tm_terms.declared.types_named.Storage.TheVariants as Storages
 use Rattle.tm_trees.specs.tm_terms.Names.{is_same_name}
 use Rattle.tm_trees.specs.tm_terms.ExprTrees.{place_of}
-use Rattle.tm_trees.specs.DeclarationTrees.{declared_name, SpecifierTrees, no_specifiers, and_specifier, a_plain, DeclarationTree, ValueTree, an_expression, a_list, ValueTrees, no_values, and_value, InitialiserTree, InitDeclaratorTree}
+use Rattle.tm_trees.specs.DeclarationTrees.{declared_name, SpecifierTrees, no_specifiers, and_specifier, a_plain}
+use Rattle.tm_trees.specs.DeclarationTrees.{DeclarationTree, ValueTree, an_expression, a_list, ValueTrees, no_values}
+use Rattle.tm_trees.specs.DeclarationTrees.{and_value, InitialiserTree, InitDeclaratorTree}
 use Rattle.tm_typed.specs.declared.types.Qualified.{Qualified}
 use Rattle.tm_typed.specs.declared.types.CType.TheVariants as Types
 use Rattle.tm_typed.specs.declared.scopes.Named.{Named}
@@ -68,7 +71,13 @@ counted s d (Some i) = counted_by s d i.value
 -- what a declarator declares
 abbrev pub declared_by : State → Said → InitDeclaratorTree → Result (Declared × State) Refusal
 declared_by s said d = then_with (declared s (base said) d.declarator) (λ m.
-    Ok (counted m.1 (record { name = declared_name d.declarator; place = declared_place d.declarator; shape = m.0; initialiser = d.initialiser }) d.initialiser))
+    Ok (counted m.1 (record {
+      name = declared_name d.declarator;
+      place = declared_place d.declarator;
+      shape =
+          m.0;
+      initialiser = d.initialiser;
+    }) d.initialiser))
 
 abbrev pub bound_here : State → Declared → Named → State
 bound_here s d n = record s { scope = with_name d.name n s.scope }
@@ -125,7 +134,10 @@ linked s n = static_number (option_map (λ b. b.named) (last_declared (λ b. b.n
 
 -- the name is linked with the object k from now on
 abbrev pub with_linkage : State → Declared → ℕ → State
-with_linkage s d k = record s { linkage = s.linkage ++ record { name = d.name; named = Names.Object (Objects.Static k) d.shape.of } ∷ [] }
+with_linkage s d k = record s {
+  linkage = s.linkage
+      ++ record { name = d.name; named = Names.Object (Objects.Static k) d.shape.of } ∷ [];
+}
 
 -- the same type, `const` being ignored, but not `volatile`
 abbrev pub is_same_object : Scope → Qualified → Qualified → Bool
@@ -134,7 +146,9 @@ is_same_object scope q r = is_same_type scope q.number r.number && is_same_bool 
 -- a further declaration of an object: of the same type, and with the only initialiser
 abbrev pub clashes : State → Declared → Option ℕ → Bool
 clashes s d None = false
-clashes s d (Some k) = d.shape.is_open || not (is_same_object s.scope (static_type s k) d.shape.of) || ((static s k).initialised && is_some d.initialiser)
+clashes s d (Some k) =
+    d.shape.is_open || not (is_same_object s.scope (static_type s k) d.shape.of) ||
+    ((static s k).initialised && is_some d.initialiser)
 
 -- what a name of the present block names, other than the object that is linked with it
 abbrev pub is_other : Option Named → Option ℕ → Bool
@@ -148,12 +162,18 @@ bound_unless s d k (Some n) = s
 
 -- a declaration of the object k, which keeps the type of its first one
 abbrev pub redeclared : State → Declared → Bool → ℕ → State
-redeclared s d defined k = with_static s k (record (static s k) { defined = (static s k).defined || defined; initialised = (static s k).initialised || is_some d.initialiser })
+redeclared s d defined k =
+    with_static s k (record (static s k) {
+      defined = (static s k).defined || defined;
+      initialised =
+          (static s k).initialised || is_some d.initialiser;
+    })
 
 -- the linked object of the name, or a new one, named in the present block; with its number
 abbrev pub linked_object : State → Declared → Bool → Option ℕ → ℕ × State
 linked_object s d defined (Some k) = (k, bound_unless (redeclared s d defined k) d k (named_here s.scope d.name))
-linked_object s d defined None = let k = length s.statics in (k, bound_unless (with_linkage (new_static s d defined) d k) d k (named_here s.scope d.name))
+linked_object s d defined None = let k = length s.statics in
+    (k, bound_unless (with_linkage (new_static s d defined) d k) d k (named_here s.scope d.name))
 
 -- ## Objects at file scope (C99 6.9.2)
 
@@ -161,7 +181,8 @@ linked_object s d defined None = let k = length s.statics in (k, bound_unless (w
 abbrev pub file_object : State → Bool → Declared → Result State Refusal
 file_object s bare_extern d =
     row d.shape.left_out Kinds.Unsupported d.place
-    (row (is_other (named_here s.scope d.name) (linked s d.name) || clashes s d (linked s d.name)) Kinds.Redeclared d.place
+    (row (is_other (named_here s.scope d.name) (linked s d.name) || clashes s d (linked s d.name)) Kinds.Redeclared
+    d.place
     (row (is_no_object s.scope d.shape) Kinds.Mismatch d.place
     (let o = linked_object s d (not bare_extern) (linked s d.name) in initialised_static o.1 o.0 d.initialiser)))
 
@@ -178,7 +199,8 @@ is_static (Some Storages.Static) = true
 is_static _ = false
 
 abbrev pub file_rules : State → Option Storage → Declared → Result State Refusal
-file_rules s storage d = cond (is_typedef storage) (typedef_rules s d) (file_object s (is_extern storage && not (is_some d.initialiser)) d)
+file_rules s storage d =
+    cond (is_typedef storage) (typedef_rules s d) (file_object s (is_extern storage && not (is_some d.initialiser)) d)
 
 -- ## Objects in blocks
 
@@ -201,7 +223,8 @@ extern_value s (Some i) = no_value s i.value
 abbrev pub extern_object : State → Declared → Result State Refusal
 extern_object s d =
     row d.shape.left_out Kinds.Unsupported d.place
-    (row (is_other (named_here s.scope d.name) (linked s d.name) || is_function (named s.scope d.name) || clashes s d (linked s d.name)) Kinds.Redeclared d.place
+    (row (is_other (named_here s.scope d.name) (linked s d.name) || is_function (named s.scope d.name) || clashes s d
+    (linked s d.name)) Kinds.Redeclared d.place
     (row (is_no_object s.scope d.shape) Kinds.Mismatch d.place
     (then_with (extern_value s d.initialiser) (λ t. Ok (linked_object t d false (linked t d.name)).1))))
 
@@ -214,18 +237,22 @@ object_rules s d further =
 
 abbrev pub static_object : State → Declared → Result State Refusal
 static_object s d = let k = length s.statics in
-    object_rules s d (initialised_static (bound_here (new_static s d true) d (Names.Object (Objects.Static k) d.shape.of)) k d.initialiser)
+    object_rules s d (initialised_static
+    (bound_here (new_static s d true) d (Names.Object (Objects.Static k) d.shape.of)) k d.initialiser)
 
 abbrev pub LocalInitial : Type 0
 LocalInitial = Option LocalInitialiserTree × State
 
 abbrev pub initialised_local : State → ℕ → Option InitialiserTree → Result LocalInitial Refusal
 initialised_local s n None = Ok (None, s)
-initialised_local s n (Some i) = then_with (initial false s n 0 i.value) (λ g. Ok (Some (record { given = g.0; place = i.place }), g.1))
+initialised_local s n (Some i) =
+    then_with (initial false s n 0 i.value) (λ g. Ok (Some (record { given = g.0; place = i.place }), g.1))
 
 -- a further object of the body
 abbrev pub new_local : State → Declared → State
-new_local s d = bound_here (record s { locals = s.locals ++ record { name = d.name; place = d.place; of = d.shape.of } ∷ [] }) d (Names.Object (Objects.Local (length s.locals)) d.shape.of)
+new_local s d = bound_here
+    (record s { locals = s.locals ++ record { name = d.name; place = d.place; of = d.shape.of } ∷ [] }) d
+    (Names.Object (Objects.Local (length s.locals)) d.shape.of)
 
 -- what is declared in a block: the objects that are cleared and initialised where it is reached
 abbrev pub Locals : Type 0
@@ -248,12 +275,15 @@ local_rules s storage d = local_object s d
 
 abbrev pub file_declared : State → Said → List InitDeclaratorTree → Result State Refusal
 file_declared s said [] = Ok s
-file_declared s said (d ∷ ds) = then_with (declared_by s said d) (λ m. then_with (file_rules m.1 said.storage m.0) (λ t. file_declared t said ds))
+file_declared s said (d ∷ ds) =
+    then_with (declared_by s said d) (λ m. then_with (file_rules m.1 said.storage m.0) (λ t. file_declared t said ds))
 
 -- objects behind others
 abbrev pub local_declared : State → Said → List LocalTree → List InitDeclaratorTree → Result Locals Refusal
 local_declared s said found [] = Ok (found, s)
-local_declared s said found (d ∷ ds) = then_with (declared_by s said d) (λ m. then_with (local_rules m.1 said.storage m.0) (λ l. local_declared l.1 said (found ++ l.0) ds))
+local_declared s said found (d ∷ ds) =
+    then_with (declared_by s said d)
+    (λ m. then_with (local_rules m.1 said.storage m.0) (λ l. local_declared l.1 said (found ++ l.0) ds))
 
 abbrev pub tag_of : SpecWord → Option Tag
 tag_of (Specs.Tagged Tags.Struct tag p) = Some (record { name = tag; place = p })

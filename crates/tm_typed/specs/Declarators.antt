@@ -1,5 +1,6 @@
 -- Declarators (C99 6.7.5): which type a declarator makes of the type that its specifiers name.
-use Rattle.std.specs.Prelude.{ℕ, ℤ, pos, Bool, true, false, cond, ◌&&◌, ◌||◌, not, nat_le, List, [], ◌∷◌, ◌++◌, length, take, drop, Option, Some, None, Result, Ok}
+use Rattle.std.specs.Prelude.{ℕ, ℤ, pos, Bool, true, false, cond, ◌&&◌, ◌||◌, not, nat_le, List, [], ◌∷◌, ◌++◌, length}
+use Rattle.std.specs.Prelude.{take, drop, Option, Some, None, Result, Ok}
 use Rattle.tm_trees.specs.tm_terms.declared.refusals.Kind.TheVariants as Kinds
 use Rattle.tm_trees.specs.tm_terms.declared.refusals.Refusal.{Refusal}
 use Rattle.tm_trees.specs.tm_terms.declared.types_named.PointerWord.{PointerWord}
@@ -24,18 +25,26 @@ is_no_element scope shape = shape.mismatch || shape.is_open || not (is_complete 
 -- an array of what was made so far; its qualifiers are the elements' (C99 6.7.3)
 abbrev pub array_of : Made → Option ℕ → Made
 array_of made None = (record made.0 { is_open = true; mismatch = is_no_element made.1 made.0 }, made.1)
-array_of made (Some n) = let t = Types.Array made.0.of.number n in let scope = with_type made.1 t in
-    (record made.0 { of = record made.0.of { number = number_in scope t }; is_open = false; mismatch = is_no_element made.1 made.0 }, scope)
+array_of made (Some n) = let t = Types.Array made.0.of.number n in let scope = with_type made.1 t in (
+  record made.0 {
+    of = record made.0.of { number = number_in scope t };
+    is_open = false;
+    mismatch =
+        is_no_element made.1 made.0;
+  },
+  scope,
+)
 
 abbrev pub arrays_of : Made → List (Option ℕ) → Made
 arrays_of made [] = made
 arrays_of made (n ∷ lengths) = arrays_of (array_of made n) lengths
 
--- The type of what is declared, from the outside in: stars, then lengths from the last to the first, then what is enclosed
--- (C99 6.7.5). `lengths` are those of the whole declarator, the last of the text first.
+-- The type of what is declared, from the outside in: stars, then lengths from the last to the first, then what is
+-- enclosed (C99 6.7.5). `lengths` are those of the whole declarator, the last of the text first.
 abbrev pub shaped : Made → DeclaratorTree → List (Option ℕ) → Made
 shaped made (a_declared_name pointers n p ls) lengths = arrays_of (pointed made pointers) (take (length ls) lengths)
-shaped made (a_nested pointers d ls) lengths = shaped (arrays_of (pointed made pointers) (take (length ls) lengths)) d (drop (length ls) lengths)
+shaped made (a_nested pointers d ls) lengths =
+    shaped (arrays_of (pointed made pointers) (take (length ls) lengths)) d (drop (length ls) lengths)
 
 -- ## Lengths, in the order of the text
 
@@ -75,4 +84,5 @@ declared s q d = then_with (lengths_of s d) (λ m. shape_in m.1 (whole (shaped (
 
 -- stars alone, of a function's result or a parameter without a name
 abbrev pub declared_pointers : State → Qualified → List PointerWord → Shape × State
-declared_pointers s q words = let made = whole (pointed (bare q, s.scope) words) in (made.0, record s { scope = made.1 })
+declared_pointers s q words = let made = whole (pointed (bare q, s.scope) words) in
+    (made.0, record s { scope = made.1 })

@@ -1,11 +1,14 @@
 -- The typing of files: their items in the order of the text; then uses of what has no definition; then recursion.
-use Rattle.std.specs.Prelude.{◌≡◌, ℕ, zero, ℤ, pos, ◌⊎◌, Bool, true, false, not, ◌||◌, cond, is_some, is_none, nat_le, List, [], ◌∷◌, ◌++◌, length, get_or, slice_set, find, option_map, Option, Some, None, Result, Ok, Err}
+use Rattle.std.specs.Prelude.{◌≡◌, ℕ, zero, ℤ, pos, ◌⊎◌, Bool, true, false, not, ◌||◌, cond, is_some, is_none, nat_le}
+use Rattle.std.specs.Prelude.{List, [], ◌∷◌, ◌++◌, length, get_or, slice_set, find, option_map, Option, Some, None}
+use Rattle.std.specs.Prelude.{Result, Ok, Err}
 use Rattle.tm_trees.specs.tm_terms.declared.places.Place.{Place}
 use Rattle.tm_trees.specs.tm_terms.declared.tokens.Name.{Name}
 use Rattle.tm_trees.specs.tm_terms.declared.refusals.Kind.TheVariants as Kinds
 use Rattle.tm_trees.specs.tm_terms.declared.refusals.Refusal.{Refusal}
 use Rattle.tm_trees.specs.tm_terms.ExprTrees.{Tree}
-use Rattle.tm_trees.specs.FileTrees.{PartTrees, FunctionTree, ItemTree, a_declaration, a_function, an_empty_item, a_mutex, a_task}
+use Rattle.tm_trees.specs.FileTrees.{PartTrees, FunctionTree, ItemTree, a_declaration, a_function, an_empty_item}
+use Rattle.tm_trees.specs.FileTrees.{a_mutex, a_task}
 use Rattle.tm_typed.specs.declared.types.TypeEntry.{TypeEntry}
 use Rattle.tm_typed.specs.declared.scopes.Named.{Named}
 use Rattle.tm_typed.specs.declared.scopes.Named.TheVariants as Names
@@ -27,7 +30,9 @@ use Rattle.tm_typed.specs.Structures.{is_declared_here, specified}
 use Rattle.tm_typed.specs.Declarations.{linked, file_declaration}
 use Rattle.tm_typed.specs.StatementTyping.{enter}
 use Rattle.tm_typed.specs.CallGraph.{calls_in, Reaches, IsFirstRecursive}
-use Rattle.tm_typed.specs.Functions.{parameters_in, left_names, left_tags, to_file, entered_with, names_here, body_begins, types_of, Head, with_function, number_of, function_rules, TypedBodyTree, FoundBody, body_in}
+use Rattle.tm_typed.specs.Functions.{parameters_in, left_names, left_tags, to_file, entered_with, names_here}
+use Rattle.tm_typed.specs.Functions.{body_begins, types_of, Head, with_function, number_of, function_rules}
+use Rattle.tm_typed.specs.Functions.{TypedBodyTree, FoundBody, body_in}
 
 -- ## What the items of a file give
 
@@ -75,7 +80,15 @@ first_state = record {
 }
 
 abbrev pub first_file_state : FileState
-first_file_state = record { state = first_state; functions = []; calls = []; tasks = []; mutexes = []; definitions = [] }
+first_file_state = record {
+  state = first_state;
+  functions = [];
+  calls = [];
+  tasks = [];
+  mutexes = [];
+  definitions =
+      [];
+}
 
 -- ## Functions
 
@@ -97,7 +110,8 @@ abbrev pub declared_function : FileState → State → Head → Option Named →
 declared_function f s h (Some (Names.Function k)) = record f { state = s }
 declared_function f s h _ = record f {
   state = s;
-  functions = f.functions ++ record { name = h.name; place = h.place; result = h.result; parameters = h.parameters; body = None } ∷ [];
+  functions = f.functions
+      ++ record { name = h.name; place = h.place; result = h.result; parameters = h.parameters; body = None } ∷ [];
   calls = f.calls ++ [] ∷ [];
 }
 
@@ -156,12 +170,17 @@ priority_of _ = None
 -- a task is a function without parameters and result, which is not called
 abbrev pub task_scope : Scope → Name → Scope
 task_scope scope n =
-    with_name n Names.Task (record scope { functions = scope.functions ++ record { result = void_number; parameters = []; defined = true } ∷ [] })
+    with_name n Names.Task
+    (record scope {
+      functions = scope.functions
+          ++ record { result = void_number; parameters = []; defined = true } ∷ [];
+    })
 
 abbrev pub with_task : FileState → ℕ → Name → Place → FoundBody → State → FileState
 with_task f priority n q b s = record {
   state = s;
-  functions = f.functions ++ record { name = n; place = q; result = void_number; parameters = []; body = Some b.body } ∷ [];
+  functions = f.functions ++ record { name = n; place = q; result = void_number; parameters = []; body = Some b.body }
+      ∷ [];
   calls = f.calls ++ b.calls ∷ [];
   tasks = f.tasks ++ record { function = length f.functions; priority = priority } ∷ [];
   mutexes = f.mutexes;
@@ -277,7 +296,7 @@ abbrev pub Ends : Option Name → Result FileState Refusal → Result TypedFileT
 Ends main (Err r) answer = answer ≡ Err r
 Ends main (Ok f) answer = Closes f main (undefined_use f) answer
 
--- The answer for a file: its typed form, or the first construct that meets a row, with its kind and place. `main` is the
--- name that is spelled so.
+-- The answer for a file: its typed form, or the first construct that meets a row, with its kind and place. `main` is
+-- the name that is spelled so.
 abbrev pub IsTyped : Option Name → List ItemTree → Result TypedFileTree Refusal → Type 0
 IsTyped main items answer = Ends main (items_in first_file_state items) answer

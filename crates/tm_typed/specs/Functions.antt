@@ -1,5 +1,7 @@
 -- Functions and tasks (C99 6.7.5.3, 6.9.1): their parameters, their declarations, and their bodies.
-use Rattle.std.specs.Prelude.{ℕ, ℤ, pos, ◌+◌, Bool, true, false, not, ◌&&◌, ◌||◌, cond, is_some, nat_le, List, [], ◌∷◌, ◌++◌, length, map, take, drop, get_or, slice_get, slice_set, Option, Some, None, Result, Ok}
+use Rattle.std.specs.Prelude.{ℕ, ℤ, pos, ◌+◌, Bool, true, false, not, ◌&&◌, ◌||◌, cond, is_some, nat_le, List, [], ◌∷◌}
+use Rattle.std.specs.Prelude.{◌++◌, length, map, take, drop, get_or, slice_get, slice_set, Option, Some, None, Result}
+use Rattle.std.specs.Prelude.{Ok}
 use Rattle.std.specs.List.{filter_map}
 use Rattle.tm_trees.specs.tm_cint.declared.int_types.IntType.{IntType}
 use Rattle.tm_trees.specs.tm_terms.declared.places.Place.{Place}
@@ -9,8 +11,10 @@ use Rattle.tm_trees.specs.tm_terms.declared.types_named.Storage.{Storage}
 use Rattle.tm_trees.specs.tm_terms.declared.refusals.Kind.TheVariants as Kinds
 use Rattle.tm_trees.specs.tm_terms.declared.refusals.Refusal.{Refusal}
 use Rattle.tm_trees.specs.tm_terms.ExprTrees.{Tree}
-use Rattle.tm_trees.specs.DeclarationTrees.{DeclaratorTree, declared_name, SpecifierTrees, no_specifiers, and_specifier, counts_as}
-use Rattle.tm_trees.specs.FileTrees.{PartTrees, ParameterTree, a_named_parameter, an_unnamed_parameter, ParametersTree, only_void, some_parameters, FunctionTree}
+use Rattle.tm_trees.specs.DeclarationTrees.{DeclaratorTree, declared_name, SpecifierTrees, no_specifiers, and_specifier}
+use Rattle.tm_trees.specs.DeclarationTrees.{counts_as}
+use Rattle.tm_trees.specs.FileTrees.{PartTrees, ParameterTree, a_named_parameter, an_unnamed_parameter, ParametersTree}
+use Rattle.tm_trees.specs.FileTrees.{only_void, some_parameters, FunctionTree}
 use Rattle.tm_typed.specs.declared.types.Qualified.{Qualified}
 use Rattle.tm_typed.specs.declared.types.CType.{CType}
 use Rattle.tm_typed.specs.declared.types.CType.TheVariants as Types
@@ -52,7 +56,8 @@ adjusted_type scope shape t = (shape.of, scope)
 -- an array as a parameter is a pointer to its first element
 abbrev pub adjusted : Scope → Shape → Qualified × Scope
 adjusted scope shape =
-    cond shape.is_open (type_in scope (Types.Pointer shape.of)) (adjusted_type scope shape (ctype_of scope shape.of.number))
+    cond shape.is_open (type_in scope (Types.Pointer shape.of))
+    (adjusted_type scope shape (ctype_of scope shape.of.number))
 
 abbrev pub is_structure_type : CType → Bool
 is_structure_type (Types.Struct k) = true
@@ -69,7 +74,8 @@ is_of_void scope shape = not shape.is_open && is_void (ctype_of scope shape.of.n
 -- a further object of the body that is typed, which the name of a parameter names
 abbrev pub with_parameter : State → Bool → LocalEntry → State
 with_parameter s is_named entry = record s {
-  scope = cond is_named (with_name entry.name (Names.Object (Objects.Local (length s.locals)) entry.of) s.scope) s.scope;
+  scope = cond is_named (with_name entry.name (Names.Object (Objects.Local (length s.locals)) entry.of) s.scope)
+      s.scope;
   locals = s.locals ++ entry ∷ [];
 }
 
@@ -163,7 +169,8 @@ function scope f = get_or scope.functions f no_function
 -- of the same type, where at most one declaration is a definition
 abbrev pub agrees : Scope → Head → Function → Bool
 agrees scope h f =
-    is_same_type scope h.result f.result && are_same_types scope h.parameters f.parameters && not (h.is_definition && f.defined)
+    is_same_type scope h.result f.result && are_same_types scope h.parameters f.parameters && not
+    (h.is_definition && f.defined)
 
 abbrev pub disagrees : Scope → Head → Option Function → Bool
 disagrees scope h None = true
@@ -184,10 +191,14 @@ number_of scope _ = length scope.functions
 -- the function is declared: the first time it gets the next number, with the types of its result and its parameters
 abbrev pub with_function : Scope → Head → Option Named → Scope
 with_function scope h (Some (Names.Function f)) =
-    cond h.is_definition (record scope { functions = slice_set scope.functions f (record (function scope f) { defined = true }) }) scope
+    cond h.is_definition (record scope {
+      functions =
+          slice_set scope.functions f (record (function scope f) { defined = true });
+    }) scope
 with_function scope h _ =
     with_name h.name (Names.Function (length scope.functions)) (record scope {
-      functions = scope.functions ++ record { result = h.result; parameters = h.parameters; defined = h.is_definition } ∷ [];
+      functions = scope.functions
+          ++ record { result = h.result; parameters = h.parameters; defined = h.is_definition } ∷ [];
     })
 
 abbrev pub is_array_type : CType → Bool

@@ -1,5 +1,6 @@
 -- Initialisers (C99 6.7.8): which cells of an object they give, and what they are.
-use Rattle.std.specs.Prelude.{ℕ, suc, ◌+◌, ◌*◌, Bool, true, false, cond, ◌&&◌, not, is_none, nat_lt, List, [], ◌∷◌, ◌++◌, slice_get, Option, Some, None, Result, Ok}
+use Rattle.std.specs.Prelude.{ℕ, suc, ◌+◌, ◌*◌, Bool, true, false, cond, ◌&&◌, not, is_none, nat_lt, List, [], ◌∷◌}
+use Rattle.std.specs.Prelude.{◌++◌, slice_get, Option, Some, None, Result, Ok}
 use Rattle.tm_trees.specs.tm_terms.declared.places.Place.{Place}
 use Rattle.tm_trees.specs.tm_terms.declared.refusals.Kind.TheVariants as Kinds
 use Rattle.tm_trees.specs.tm_terms.declared.refusals.Refusal.{Refusal}
@@ -55,7 +56,8 @@ is_aggregate_part scope (Some q) = is_aggregate scope q.of.number
 abbrev pub Given : Type 0
 Given = List GivenTree × State
 
--- A structure by value is left out. A scalar takes what it would be assigned; one of static storage takes constants alone.
+-- A structure by value is left out. A scalar takes what it would be assigned; one of static storage takes constants
+-- alone.
 abbrev pub scalar_rules : Bool → State → ℕ → ℕ → Rated → Result Given Refusal
 scalar_rules static s n c v =
     row (is_structure v.sort) Kinds.Unsupported v.place
@@ -64,7 +66,8 @@ scalar_rules static s n c v =
     row (static && is_none (static_value s e)) Kinds.NotConstant v.place
     (Ok (record { cell = c; scalar = t; value = e } ∷ [], s)))))
 
--- an expression that stands alone in the braces of an aggregate of aggregates: a folded 0 gives no cell, and so zeroes all
+-- an expression that stands alone in the braces of an aggregate of aggregates: a folded 0 gives no cell, and so zeroes
+-- all
 abbrev pub lone_rules : Bool → State → ℕ → ℕ → Rated → Result Given Refusal
 lone_rules static s n c v = cond (is_integer v.sort && is_null v.sort) (Ok ([], s)) (scalar_rules static s n c v)
 
@@ -80,16 +83,20 @@ lone (and_value (an_expression t) no_values) = Some t
 lone _ = None
 
 -- the rows of a list: one for a scalar, and `{0}`
-abbrev pub list_rules : Bool → State → ℕ → ℕ → Place → Option Part → Option Tree → Result Given Refusal → Result Given Refusal
+abbrev pub list_rules : Bool → State → ℕ → ℕ → Place → Option Part → Option Tree → Result Given Refusal
+    → Result Given Refusal
 list_rules static s n c p (Some q) (Some t) further =
-    cond (is_aggregate s.scope q.of.number) (then_with (typed_in s t) (λ o. lone_rules static o.1 q.of.number c (valued o.1.scope o.0))) further
+    cond (is_aggregate s.scope q.of.number)
+    (then_with (typed_in s t) (λ o. lone_rules static o.1 q.of.number c (valued o.1.scope o.0))) further
 list_rules static s n c p first t further = row (not (is_aggregate s.scope n)) Kinds.Mismatch p further
 
 abbrev mutual
   -- the cells from the cell c on that a value gives to an object of the type n
   pub initial : Bool → State → ℕ → ℕ → ValueTree → Result Given Refusal
-  initial static s n c (an_expression t) = then_with (typed_in s t) (λ o. scalar_rules static o.1 n c (valued o.1.scope o.0))
-  initial static s n c (a_list values p) = list_rules static s n c p (part s.scope n 0) (lone values) (initials static s n c 0 values p)
+  initial static s n c (an_expression t) =
+      then_with (typed_in s t) (λ o. scalar_rules static o.1 n c (valued o.1.scope o.0))
+  initial static s n c (a_list values p) =
+      list_rules static s n c p (part s.scope n 0) (lone values) (initials static s n c 0 values p)
 
   -- values in braces, for the parts from i on: no more than there are
   pub initials : Bool → State → ℕ → ℕ → ℕ → ValueTrees → Place → Result Given Refusal

@@ -1,6 +1,7 @@
--- What typing is. Expressions: types and their table (Types), what names mean (Scopes), typed trees (TypedTrees), refusals and their order (Refusals), what the rules know of operands
--- (Operands), the rules construct by construct (Rules), the recursion (Typing), and what later layers may rely on (WellTyped).
--- The crates below, passed on to those above.
+-- What typing is. Expressions: types and their table (Types), what names mean (Scopes), typed trees (TypedTrees),
+-- refusals and their order (Refusals), what the rules know of operands (Operands), the rules construct by construct
+-- (Rules), the recursion (Typing), and what later layers may rely on (WellTyped). The crates below, passed on to those
+-- above.
 pub use Rattle.tm_trees.specs.tm_cint
 pub use Rattle.tm_trees.specs.tm_lattice
 pub use Rattle.tm_trees.specs.tm_terms
@@ -18,8 +19,9 @@ pub mod Uses
 pub mod Constants
 pub mod TypedStatements
 pub mod CallGraph
--- Declarations: how the table of types grows (TypeRows), what is found so far (States), specifiers, type names, typed expressions with what they leave behind (Evaluation), declarators, structures and
--- enumerations, constants of static storage (StaticValues), initialisers, and whole declarations.
+-- Declarations: how the table of types grows (TypeRows), what is found so far (States), specifiers, type names, typed
+-- expressions with what they leave behind (Evaluation), declarators, structures and enumerations, constants of static
+-- storage (StaticValues), initialisers, and whole declarations.
 pub mod TypeRows
 pub mod States
 pub mod Specifiers

@@ -1,4 +1,5 @@
--- What the rules know of a typed part: the sort of its value, whether it is folded, and what becomes of it where its value is taken, converted or given to an object.
+-- What the rules know of a typed part: the sort of its value, whether it is folded, and what becomes of it where its
+-- value is taken, converted or given to an object.
 use Rattle.std.specs.Prelude.{ℕ, ℤ, Bool, true, false, cond, not, ◌&&◌, ◌||◌, Option, Some, None, Result, Ok}
 use Rattle.tm_trees.specs.tm_cint.declared.int_types.IntType.{IntType}
 use Rattle.tm_trees.specs.tm_cint.declared.int_types.IntType.TheVariants as Ints
@@ -17,7 +18,8 @@ use Rattle.tm_typed.specs.declared.operands.Sort.{Sort}
 use Rattle.tm_typed.specs.declared.operands.Sort.TheVariants as Sorts
 use Rattle.tm_typed.specs.Types.{is_same_int}
 use Rattle.tm_typed.specs.Scopes.{Scope, entry, ctype_of, is_same_type}
-use Rattle.tm_typed.specs.TypedTrees.{RvalueTree, a_constant, a_folded, a_null, a_load, an_address, a_structure, a_conversion, LvalueTree, lvalue_place, Rated, OperandTree, an_lvalue, a_value}
+use Rattle.tm_typed.specs.TypedTrees.{RvalueTree, a_constant, a_folded, a_null, a_load, an_address, a_structure}
+use Rattle.tm_typed.specs.TypedTrees.{a_conversion, LvalueTree, lvalue_place, Rated, OperandTree, an_lvalue, a_value}
 
 -- ## Sorts
 
@@ -68,7 +70,12 @@ unbuilt s = s
 
 -- with the qualifiers of both
 abbrev pub qualified_as : Qualified → Qualified → Qualified
-qualified_as q r = record { number = q.number; constant = q.constant || r.constant; volatile = q.volatile || r.volatile }
+qualified_as q r = record {
+  number = q.number;
+  constant = q.constant || r.constant;
+  volatile =
+      q.volatile || r.volatile;
+}
 
 -- ## Typed forms
 
@@ -98,10 +105,23 @@ fold_converted t f = f
 
 abbrev pub loaded : Scope → LvalueTree → Qualified → CType → Rated
 -- an lvalue of scalar type is its value, which is no longer qualified (C99 6.3.2.1)
-loaded scope l q (Types.Int t) = record { value = a_load (Scalars.Int t) q.volatile l; sort = Sorts.Integer t Folds.Unbuilt; place = lvalue_place l }
-loaded scope l q (Types.Pointer target) = record { value = a_load (Scalars.Pointer (entry scope q.number).class) false l; sort = Sorts.Pointer target; place = lvalue_place l }
+loaded scope l q (Types.Int t) =
+    record { value = a_load (Scalars.Int t) q.volatile l; sort = Sorts.Integer t Folds.Unbuilt; place = lvalue_place l }
+loaded scope l q (Types.Pointer target) =
+    record {
+      value = a_load (Scalars.Pointer (entry scope q.number).class) false l;
+      sort =
+          Sorts.Pointer target;
+      place = lvalue_place l;
+    }
 -- an array is the pointer to its first element (C99 6.3.2.1), which has the array's qualifiers (C99 6.7.3)
-loaded scope l q (Types.Array element n) = record { value = an_address l (lvalue_place l); sort = Sorts.Pointer (record q { number = element }); place = lvalue_place l }
+loaded scope l q (Types.Array element n) =
+    record {
+      value = an_address l (lvalue_place l);
+      sort = Sorts.Pointer (record q { number = element });
+      place =
+          lvalue_place l;
+    }
 -- the value of a structure is never used: its lvalue stands for it
 loaded scope l q (Types.Struct k) = record { value = a_structure l; sort = Sorts.Structure k; place = lvalue_place l }
 loaded scope l q Types.Void = record { value = a_structure l; sort = Sorts.Nothing; place = lvalue_place l }
@@ -113,7 +133,8 @@ valued scope (an_lvalue l q) = loaded scope l q (ctype_of scope q.number)
 
 -- ## Assignment, arguments, results (C99 6.5.16.1)
 
--- A pointer to `to` takes a pointer to the same type, whose target may gain `volatile` and not lose it, and a null constant.
+-- A pointer to `to` takes a pointer to the same type, whose target may gain `volatile` and not lose it, and a null
+-- constant.
 abbrev pub is_taken : Scope → Qualified → Sort → Bool
 is_taken scope to (Sorts.Pointer q) = is_same_type scope q.number to.number && (to.volatile || not q.volatile)
 is_taken scope to sort = is_null sort

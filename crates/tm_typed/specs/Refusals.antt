@@ -1,4 +1,5 @@
--- Refusals and their order: a construct is refused by the first row of its rules that it meets, and its parts come before it, from left to right.
+-- Refusals and their order: a construct is refused by the first row of its rules that it meets, and its parts come
+-- before it, from left to right.
 use Rattle.std.specs.Prelude.{◌≡◌, Bool, cond, Option, Some, None, Result, Ok, Err}
 use Rattle.tm_trees.specs.tm_terms.declared.places.Place.{Place}
 use Rattle.tm_trees.specs.tm_terms.declared.refusals.Kind.{Kind}
@@ -30,7 +31,8 @@ Gives view (Ok a) want = want ≡ Ok (view a)
 Gives view (Err (Fails.Refused r)) want = want ≡ Err r
 Gives view (Err Fails.NoMemory) want = Unit {0}
 
--- The same of a call that cannot be refused: there is a value, which is the wanted one, or there is none, or want of memory.
+-- The same of a call that cannot be refused: there is a value, which is the wanted one, or there is none, or want of
+-- memory.
 abbrev pub GivesOption : {A B E : Type 0} → (A → B) → Result (Option A) E → Option B → Type 0
 GivesOption view (Ok None) want = want ≡ None
 GivesOption view (Ok (Some a)) want = want ≡ Some (view a)

@@ -1,5 +1,7 @@
--- The rules of expressions, construct by construct: which row a construct meets whose parts are typed, or else its typed form. Rows are looked at in the order in which they stand.
-use Rattle.std.specs.Prelude.{ℕ, ℤ, pos, negsuc, ◌-ℤ◌, Bool, true, false, cond, not, ◌&&◌, ◌||◌, int_le, List, [], ◌∷◌, slice_get, find, Option, Some, None, Result, Ok, Err}
+-- The rules of expressions, construct by construct: which row a construct meets whose parts are typed, or else its
+-- typed form. Rows are looked at in the order in which they stand.
+use Rattle.std.specs.Prelude.{ℕ, ℤ, pos, negsuc, ◌-ℤ◌, Bool, true, false, cond, not, ◌&&◌, ◌||◌, int_le, List, [], ◌∷◌}
+use Rattle.std.specs.Prelude.{slice_get, find, Option, Some, None, Result, Ok, Err}
 use Rattle.tm_trees.specs.tm_cint.declared.int_types.IntType.{IntType}
 use Rattle.tm_trees.specs.tm_cint.declared.int_types.IntType.TheVariants as Ints
 use Rattle.tm_trees.specs.tm_cint.declared.operators.BinOp.{BinOp}
@@ -32,10 +34,18 @@ use Rattle.tm_typed.specs.declared.operands.Fold.TheVariants as Folds
 use Rattle.tm_typed.specs.declared.operands.Sort.{Sort}
 use Rattle.tm_typed.specs.declared.operands.Sort.TheVariants as Sorts
 use Rattle.tm_typed.specs.Types.{bytes_of}
-use Rattle.tm_typed.specs.Scopes.{Scope, Function, entry, ctype_of, is_complete, cells_of, size_of, structure, is_same_type, member_of}
-use Rattle.tm_typed.specs.TypedTrees.{RvalueTree, a_constant, a_null, an_address, the_same, a_unary, a_binary, a_comparison_of_pointers, a_move, a_not, an_and, an_or, a_choice, an_assignment, a_compound, a_compound_move, a_unit_step, a_pointer_step, a_function_call, an_input_value, a_probe, a_comma, a_conversion, a_discard, LvalueTree, an_object, an_element, a_pointed_element, a_pointed, an_arrow, a_part, RvalueTrees, no_rvalues, and_rvalue, lvalue_place, Rated, OperandTree, an_lvalue, a_value}
+use Rattle.tm_typed.specs.Scopes.{Scope, Function, entry, ctype_of, is_complete, cells_of, size_of, structure}
+use Rattle.tm_typed.specs.Scopes.{is_same_type, member_of}
+use Rattle.tm_typed.specs.TypedTrees.{RvalueTree, a_constant, a_null, an_address, the_same, a_unary, a_binary}
+use Rattle.tm_typed.specs.TypedTrees.{a_comparison_of_pointers, a_move, a_not, an_and, an_or, a_choice, an_assignment}
+use Rattle.tm_typed.specs.TypedTrees.{a_compound, a_compound_move, a_unit_step, a_pointer_step, a_function_call}
+use Rattle.tm_typed.specs.TypedTrees.{an_input_value, a_probe, a_comma, a_conversion, a_discard, LvalueTree, an_object}
+use Rattle.tm_typed.specs.TypedTrees.{an_element, a_pointed_element, a_pointed, an_arrow, a_part, RvalueTrees}
+use Rattle.tm_typed.specs.TypedTrees.{no_rvalues, and_rvalue, lvalue_place, Rated, OperandTree, an_lvalue, a_value}
 use Rattle.tm_typed.specs.Refusals.{refused, row, row_unless}
-use Rattle.tm_typed.specs.Operands.{fold_of, is_condition, is_structure, is_integer, is_pointer, is_null, is_void_pointer, unbuilt, qualified_as, made, integer_made, truth_made, converted, fold_converted, loaded, is_taken, pointer_given, given, scalar_of, kept_sort}
+use Rattle.tm_typed.specs.Operands.{fold_of, is_condition, is_structure, is_integer, is_pointer, is_null}
+use Rattle.tm_typed.specs.Operands.{is_void_pointer, unbuilt, qualified_as, made, integer_made, truth_made, converted}
+use Rattle.tm_typed.specs.Operands.{fold_converted, loaded, is_taken, pointer_given, given, scalar_of, kept_sort}
 
 -- ## Names (C99 6.5.1)
 
@@ -55,7 +65,8 @@ name_rules p (Some (Names.Object o q)) = Ok (an_lvalue (an_object o p) q)
 
 -- ## Constants (C99 6.4.4)
 
--- the types that are tried for an integer constant, in order (C99 6.4.4.1): of one in decimal, of one with u, and with how many l
+-- the types that are tried for an integer constant, in order (C99 6.4.4.1): of one in decimal, of one with u, and with
+-- how many l
 abbrev pub candidates : Bool → Bool → Longs → List IntType
 candidates true false Suffix.None = Ints.Int ∷ Ints.Long ∷ Ints.LLong ∷ []
 candidates false false Suffix.None = Ints.Int ∷ Ints.UInt ∷ Ints.Long ∷ Ints.ULong ∷ Ints.LLong ∷ Ints.ULLong ∷ []
@@ -73,11 +84,13 @@ constant_type c = find (λ t. is_in t (pos c.value)) (candidates c.decimal c.uns
 
 -- a constant that no type of its list holds
 abbrev pub constant_rules : IntConstant → Place → Result OperandTree Refusal
-constant_rules c p = row_unless (constant_type c) Kinds.Unsupported p (λ t. integer_made t (Folds.Value (pos c.value)) (a_constant t (pos c.value) p) p)
+constant_rules c p = row_unless (constant_type c) Kinds.Unsupported p
+    (λ t. integer_made t (Folds.Value (pos c.value)) (a_constant t (pos c.value) p) p)
 
 -- a character constant is an `int` with the value of a `char`, which is signed (C99 6.4.4.4)
 abbrev pub character_rules : ℤ → Place → Result OperandTree Refusal
-character_rules z p = let v = converted_value z Ints.Char in made (a_constant Ints.Int v p) (Sorts.Integer Ints.Int (Folds.Value v)) p
+character_rules z p = let v = converted_value z Ints.Char in
+    made (a_constant Ints.Int v p) (Sorts.Integer Ints.Int (Folds.Value v)) p
 
 -- ## `__input`, `__islocked`
 
@@ -91,7 +104,9 @@ bound v = row_unless (folded_in_int (fold_of v.sort)) Kinds.NotConstant v.place 
 
 -- the lower bound is above the upper one
 abbrev pub input_rules : Place → ℤ → ℤ → Result OperandTree Refusal
-input_rules p low high = row (not (int_le low high)) Kinds.NotConstant p (made (an_input_value low high p) (Sorts.Integer Ints.Int Folds.Unbuilt) p)
+input_rules p low high =
+    row (not (int_le low high)) Kinds.NotConstant p
+    (made (an_input_value low high p) (Sorts.Integer Ints.Int Folds.Unbuilt) p)
 
 abbrev pub islocked_rules : Place → Place → Option Named → Result OperandTree Refusal
 -- a name without declaration, at the name
@@ -118,7 +133,8 @@ address_rules p (an_lvalue l q) = made (address_value l p) (Sorts.Pointer q) p
 
 abbrev pub dereference_rules : Scope → Place → Rated → Sort → Result OperandTree Refusal
 -- of a pointer, to a type whose size is known (C99 6.5.3.2)
-dereference_rules scope p v (Sorts.Pointer q) = row (not (is_complete scope q.number)) Kinds.Mismatch p (Ok (an_lvalue (a_pointed v.value q.number p) q))
+dereference_rules scope p v (Sorts.Pointer q) =
+    row (not (is_complete scope q.number)) Kinds.Mismatch p (Ok (an_lvalue (a_pointed v.value q.number p) q))
 dereference_rules scope p v _ = refused Kinds.Mismatch p
 
 abbrev pub not_fold : Fold → Fold
@@ -127,7 +143,8 @@ not_fold f = f
 
 -- `!` of a scalar gives an `int` (C99 6.5.3.3)
 abbrev pub not_rules : Place → Rated → Result OperandTree Refusal
-not_rules p v = row (not (is_condition v.sort)) Kinds.Mismatch p (truth_made (not_fold (fold_of v.sort)) (a_not v.value p) p)
+not_rules p v = row (not (is_condition v.sort)) Kinds.Mismatch p
+    (truth_made (not_fold (fold_of v.sort)) (a_not v.value p) p)
 
 abbrev pub fold_outcome : Result ℤ Class → Fold
 fold_outcome (Ok z) = Folds.Value z
@@ -199,7 +216,8 @@ is_comparison Ops.Eq = true
 is_comparison Ops.Ne = true
 is_comparison _ = false
 
--- the type in which an operator works: the common type of both operands (C99 6.3.1.8), for a shift that of the promoted left one (C99 6.5.7)
+-- the type in which an operator works: the common type of both operands (C99 6.3.1.8), for a shift that of the promoted
+-- left one (C99 6.5.7)
 unfoldable pub working_type : BinOp → IntType → IntType → IntType
 working_type op a b = cond (is_shift op) (promoted_type a) (usual_type a b)
 
@@ -211,7 +229,8 @@ right_type op t b = cond (is_shift op) (promoted_type b) t
 pub record FitsRight (op : BinOp) (t u : IntType) : Type 0 where
   pub fits : (z : ℤ) → IsRightOperand op t (converted_value z u)
 
--- Both parts are evaluated: the fold is unbuilt where one of them is, else faulty where one of them or the operator has an error.
+-- Both parts are evaluated: the fold is unbuilt where one of them is, else faulty where one of them or the operator has
+-- an error.
 abbrev pub both_folds : (ℤ → ℤ → Fold) → Fold → Fold → Fold
 both_folds k Folds.Unbuilt b = Folds.Unbuilt
 both_folds k Folds.Faulty Folds.Unbuilt = Folds.Unbuilt
@@ -231,8 +250,10 @@ abbrev pub binary_made : BinOp → IntType → Fold → RvalueTree → Place →
 binary_made op t f value p = cond (is_comparison op) (truth_made f value p) (integer_made t f value p)
 
 -- the operator between operands that are converted to t and u
-abbrev pub binary_typed : BinOp → IntType → IntType → Place → Rated → IntType → Fold → Rated → IntType → Fold → Result OperandTree Refusal
-binary_typed op t u p l a f r b g = binary_made op t (binary_fold op t u f g) (a_binary op t (converted a t l) (converted b u r) p) p
+abbrev pub binary_typed : BinOp → IntType → IntType → Place → Rated → IntType → Fold → Rated → IntType → Fold
+    → Result OperandTree Refusal
+binary_typed op t u p l a f r b g =
+    binary_made op t (binary_fold op t u f g) (a_binary op t (converted a t l) (converted b u r) p) p
 
 -- integers with integers under every operator
 abbrev pub integers_rules : BinOp → Place → Rated → IntType → Fold → Rated → IntType → Fold → Result OperandTree Refusal
@@ -250,7 +271,8 @@ pair l r s = Some (record { left = l; right = r; common = s })
 
 abbrev pub paired : Scope → Rated → Sort → Rated → Sort → Option Pair
 -- two pointers to the same type; what both are of has the qualifiers of both targets (C99 6.5.15)
-paired scope l (Sorts.Pointer q) r (Sorts.Pointer s) = cond (is_same_type scope q.number s.number) (pair l.value r.value (Sorts.Pointer (qualified_as q s))) None
+paired scope l (Sorts.Pointer q) r (Sorts.Pointer s) =
+    cond (is_same_type scope q.number s.number) (pair l.value r.value (Sorts.Pointer (qualified_as q s))) None
 -- a pointer and a null constant: the null pointer of its type
 paired scope l (Sorts.Pointer q) r s = cond (is_null s) (pair l.value (a_null r.place) (Sorts.Pointer q)) None
 paired scope l Sorts.Null r (Sorts.Pointer q) = pair (a_null l.place) r.value (Sorts.Pointer q)
@@ -313,7 +335,8 @@ decides and zero = cond and zero (not zero)
 
 abbrev pub decided : Bool → ℤ → Fold → Fold
 decided and z Folds.Unbuilt = Folds.Unbuilt
-decided and z (Folds.Value y) = Folds.Value (cond and (truth (not (is_zero z) && not (is_zero y))) (truth (not (is_zero z) || not (is_zero y))))
+decided and z (Folds.Value y) =
+    Folds.Value (cond and (truth (not (is_zero z) && not (is_zero y))) (truth (not (is_zero z) || not (is_zero y))))
 -- a faulty right operand does not matter where it is not evaluated
 decided and z Folds.Faulty = cond (decides and (is_zero z)) (Folds.Value (cond and (pos 0) (pos 1))) Folds.Faulty
 
@@ -327,7 +350,8 @@ logical_fold and (Folds.Value z) b = decided and z b
 abbrev pub logical_rules : Bool → Place → Rated → Rated → Result OperandTree Refusal
 logical_rules and p l r =
     row (not (is_condition l.sort && is_condition r.sort)) Kinds.Mismatch p
-    (truth_made (logical_fold and (fold_of l.sort) (fold_of r.sort)) (cond and (an_and l.value r.value p) (an_or l.value r.value p)) p)
+    (truth_made (logical_fold and (fold_of l.sort) (fold_of r.sort))
+    (cond and (an_and l.value r.value p) (an_or l.value r.value p)) p)
 
 -- of the arms one alone is evaluated, so the other may be faulty
 abbrev pub chosen_fold : IntType → Fold → Fold → Fold → Fold
@@ -350,15 +374,19 @@ conditional_sorts scope p c a (Sorts.Integer t f) b (Sorts.Integer u g) =
 -- void twice
 conditional_sorts scope p c a Sorts.Nothing b Sorts.Nothing = made (a_choice c.value a.value b.value p) Sorts.Nothing p
 -- two pointers of one type, or a pointer and a null constant
-conditional_sorts scope p c a s b t = row_unless (paired scope a s b t) Kinds.Mismatch p (λ both. conditional_pair p c both both.common)
+conditional_sorts scope p c a s b t =
+    row_unless (paired scope a s b t) Kinds.Mismatch p (λ both. conditional_pair p c both both.common)
 
 -- `?:` (C99 6.5.15)
 abbrev pub conditional_rules : Scope → Place → Rated → Rated → Rated → Result OperandTree Refusal
-conditional_rules scope p c a b = row (not (is_condition c.sort)) Kinds.Mismatch p (conditional_sorts scope p c a a.sort b b.sort)
+conditional_rules scope p c a b =
+    row (not (is_condition c.sort)) Kinds.Mismatch p (conditional_sorts scope p c a a.sort b b.sort)
 
--- comma: the right operand's value, which is not folded (C99 6.5.17); a void pointer that is no null constant is left out
+-- comma: the right operand's value, which is not folded (C99 6.5.17); a void pointer that is no null constant is left
+-- out
 abbrev pub comma_rules : Place → Rated → Rated → Result OperandTree Refusal
-comma_rules p l r = row (is_void_pointer r.sort) Kinds.Unsupported p (made (a_comma l.value r.value p) (unbuilt r.sort) p)
+comma_rules p l r = row (is_void_pointer r.sort) Kinds.Unsupported p
+    (made (a_comma l.value r.value p) (unbuilt r.sort) p)
 
 -- ## Assignment (C99 6.5.16.1)
 
@@ -379,7 +407,8 @@ value_takes scope _ sort = true
 abbrev pub assignment_target : Scope → Place → OperandTree → Rated → Result OperandTree Refusal
 assignment_target scope p (an_lvalue l q) v = lvalue_assigned scope p l q v
 -- to a value: Mismatch where the types do not fit either
-assignment_target scope p (a_value to) v = cond (value_takes scope to.sort v.sort) (refused Kinds.NotLvalue p) (refused Kinds.Mismatch p)
+assignment_target scope p (a_value to) v =
+    cond (value_takes scope to.sort v.sort) (refused Kinds.NotLvalue p) (refused Kinds.Mismatch p)
 
 -- a structure by value is left out
 abbrev pub assignment_rules : Scope → Place → OperandTree → Rated → Result OperandTree Refusal
@@ -401,7 +430,8 @@ step_by scope step p l q e _ = refused Kinds.NotLvalue p
 
 -- of a value: Mismatch where the pointer cannot be moved either
 abbrev pub step_value : Scope → Place → Sort → Result OperandTree Refusal
-step_value scope p (Sorts.Pointer q) = row (not (is_complete scope q.number)) Kinds.Mismatch p (refused Kinds.NotLvalue p)
+step_value scope p (Sorts.Pointer q) =
+    row (not (is_complete scope q.number)) Kinds.Mismatch p (refused Kinds.NotLvalue p)
 step_value scope p Sorts.Null = refused Kinds.Mismatch p
 step_value scope p _ = refused Kinds.NotLvalue p
 
@@ -421,21 +451,27 @@ is_difference Ops.Sub = true
 is_difference _ = false
 
 -- an integer with an integer, in the type in which the operator works; not const
-abbrev pub compound_integer : BinOp → Place → LvalueTree → Qualified → IntType → Rated → Sort → Result OperandTree Refusal
+abbrev pub compound_integer : BinOp → Place → LvalueTree → Qualified → IntType → Rated → Sort
+    → Result OperandTree Refusal
 compound_integer op p l q t v (Sorts.Integer u f) =
     row q.constant Kinds.NotLvalue p
-    (made (a_compound op t (working_type op t u) q.volatile l (converted u (right_type op (working_type op t u) u) v) p) (Sorts.Integer t Folds.Unbuilt) p)
+    (made (a_compound op t (working_type op t u) q.volatile l (converted u (right_type op (working_type op t u) u) v)
+    p) (Sorts.Integer t Folds.Unbuilt) p)
 compound_integer op p l q t v _ = refused Kinds.Mismatch p
 
 -- `+=` and `-=` of a pointer and an integer, to a type whose size is known; not const
-abbrev pub compound_pointer : Scope → BinOp → Place → LvalueTree → Qualified → ℕ → Qualified → Rated → Sort → Result OperandTree Refusal
+abbrev pub compound_pointer : Scope → BinOp → Place → LvalueTree → Qualified → ℕ → Qualified → Rated → Sort
+    → Result OperandTree Refusal
 compound_pointer scope op p l q class target v (Sorts.Integer u f) =
     row (not (is_additive op && is_complete scope target.number)) Kinds.Mismatch p
     (row q.constant Kinds.NotLvalue p
-    (made (a_compound_move (is_difference op) (cells_of scope target.number) class l v.value p) (Sorts.Pointer target) p))
-compound_pointer scope op p l q class target v s = row (is_difference op && is_pointer s) Kinds.Unsupported p (refused Kinds.Mismatch p)
+    (made (a_compound_move (is_difference op) (cells_of scope target.number) class l v.value p) (Sorts.Pointer target)
+    p))
+compound_pointer scope op p l q class target v s =
+    row (is_difference op && is_pointer s) Kinds.Unsupported p (refused Kinds.Mismatch p)
 
-abbrev pub compound_by : Scope → BinOp → Place → LvalueTree → Qualified → Rated → TypeEntry → CType → Result OperandTree Refusal
+abbrev pub compound_by : Scope → BinOp → Place → LvalueTree → Qualified → Rated → TypeEntry → CType
+    → Result OperandTree Refusal
 compound_by scope op p l q v e (Types.Int t) = compound_integer op p l q t v v.sort
 compound_by scope op p l q v e (Types.Pointer target) = compound_pointer scope op p l q e.class target v v.sort
 -- no scalar lvalue, also with a structure on the right
@@ -444,13 +480,17 @@ compound_by scope op p l q v e _ = refused Kinds.NotLvalue p
 -- of a value: Mismatch where the types do not fit either
 abbrev pub compound_value : Scope → BinOp → Place → Sort → Sort → Result OperandTree Refusal
 compound_value scope op p (Sorts.Integer t f) s = row (not (is_integer s)) Kinds.Mismatch p (refused Kinds.NotLvalue p)
-compound_value scope op p (Sorts.Pointer q) (Sorts.Integer t f) = row (not (is_additive op && is_complete scope q.number)) Kinds.Mismatch p (refused Kinds.NotLvalue p)
-compound_value scope op p (Sorts.Pointer q) s = row (is_difference op && is_pointer s) Kinds.Unsupported p (refused Kinds.Mismatch p)
-compound_value scope op p Sorts.Null s = row (is_difference op && is_pointer s) Kinds.Unsupported p (refused Kinds.Mismatch p)
+compound_value scope op p (Sorts.Pointer q) (Sorts.Integer t f) =
+    row (not (is_additive op && is_complete scope q.number)) Kinds.Mismatch p (refused Kinds.NotLvalue p)
+compound_value scope op p (Sorts.Pointer q) s =
+    row (is_difference op && is_pointer s) Kinds.Unsupported p (refused Kinds.Mismatch p)
+compound_value scope op p Sorts.Null s =
+    row (is_difference op && is_pointer s) Kinds.Unsupported p (refused Kinds.Mismatch p)
 compound_value scope op p _ s = refused Kinds.NotLvalue p
 
 abbrev pub compound_rules : Scope → BinOp → Place → OperandTree → Rated → Result OperandTree Refusal
-compound_rules scope op p (an_lvalue l q) v = compound_by scope op p l q v (entry scope q.number) (ctype_of scope q.number)
+compound_rules scope op p (an_lvalue l q) v =
+    compound_by scope op p l q v (entry scope q.number) (ctype_of scope q.number)
 compound_rules scope op p (a_value to) v = compound_value scope op p to.sort v.sort
 
 -- ## Casts (C99 6.5.4)
@@ -462,8 +502,12 @@ cast_to_integer p t v s = row (is_pointer s) Kinds.Unsupported p (refused Kinds.
 
 -- to the own pointer type, or from a null constant; from another pointer or an integer it is left out
 abbrev pub cast_to_pointer : Scope → Place → Qualified → Rated → Sort → Result OperandTree Refusal
-cast_to_pointer scope p q v (Sorts.Pointer r) = row_unless (pointer_given scope q v (Sorts.Pointer r)) Kinds.Unsupported p (λ e. made (the_same e p) (Sorts.Pointer q) p)
-cast_to_pointer scope p q v s = cond (is_null s) (made (a_null p) (Sorts.Pointer q) p) (row (is_integer s) Kinds.Unsupported p (refused Kinds.Mismatch p))
+cast_to_pointer scope p q v (Sorts.Pointer r) =
+    row_unless (pointer_given scope q v (Sorts.Pointer r)) Kinds.Unsupported p
+    (λ e. made (the_same e p) (Sorts.Pointer q) p)
+cast_to_pointer scope p q v s =
+    cond (is_null s) (made (a_null p) (Sorts.Pointer q) p)
+    (row (is_integer s) Kinds.Unsupported p (refused Kinds.Mismatch p))
 
 abbrev pub cast_by : Scope → Place → Rated → CType → Result OperandTree Refusal
 -- to void, from anything

@@ -1,5 +1,6 @@
 -- What is visible at a place of the text (C99 6.2.1 to 6.2.3), and the tables of types, structures and functions.
-use Rattle.std.specs.Prelude.{ℕ, Bool, true, false, cond, ◌==◌, drop, List, [], ◌∷◌, Option, Some, None, option_map, get_or}
+use Rattle.std.specs.Prelude.{ℕ, Bool, true, false, cond, ◌==◌, drop, List, [], ◌∷◌, Option, Some, None, option_map}
+use Rattle.std.specs.Prelude.{get_or}
 use Rattle.tm_trees.specs.tm_terms.declared.tokens.Name.{Name}
 use Rattle.tm_trees.specs.tm_terms.Names.{is_same_name}
 use Rattle.tm_typed.specs.declared.types.CType.{CType}
@@ -32,7 +33,8 @@ pub record Function : Type 0 where
   pub parameters : List ℕ
   pub defined : Bool
 
--- Names and tags in the order of their declarations, with how many of each stand outside the present block; and the tables.
+-- Names and tags in the order of their declarations, with how many of each stand outside the present block; and the
+-- tables.
 pub record Scope : Type 0 where
   pub names : List Binding
   pub tags : List TagBinding
@@ -44,7 +46,16 @@ pub record Scope : Type 0 where
 
 -- what the code holds, as plain records
 abbrev pub structure_of : StructEntry → Structure
-structure_of s = record { opened = s.opened; complete = s.complete; members = s.members.items; cells = s.cells; abstract_cells = s.abstract_cells; size = s.size; alignment = s.alignment }
+structure_of s = record {
+  opened = s.opened;
+  complete = s.complete;
+  members = s.members.items;
+  cells =
+      s.cells;
+  abstract_cells = s.abstract_cells;
+  size = s.size;
+  alignment = s.alignment;
+}
 
 abbrev pub function_of : FunctionEntry → Function
 function_of f = record { result = f.result; parameters = f.parameters.items; defined = f.defined }
@@ -92,7 +103,16 @@ is_same_type scope m n = (entry scope m).class == (entry scope n).class
 
 -- what stands in place of a structure that there is not
 abbrev pub no_structure : Structure
-no_structure = record { opened = false; complete = false; members = []; cells = 0; abstract_cells = 0; size = 0; alignment = 0 }
+no_structure = record {
+  opened = false;
+  complete = false;
+  members = [];
+  cells = 0;
+  abstract_cells = 0;
+  size =
+      0;
+  alignment = 0;
+}
 
 abbrev pub structure : Scope → ℕ → Structure
 structure scope k = get_or scope.structs k no_structure

@@ -1,5 +1,6 @@
 -- Specifiers (C99 6.7.1 to 6.7.3): what the words of a list say together, and which type they name.
-use Rattle.std.specs.Prelude.{ℕ, zero, suc, ◌+◌, Bool, true, false, cond, ◌||◌, [], ◌∷◌, ◌++◌, length, Option, Some, None, Result, Ok}
+use Rattle.std.specs.Prelude.{ℕ, zero, suc, ◌+◌, Bool, true, false, cond, ◌||◌, [], ◌∷◌, ◌++◌, length, Option, Some}
+use Rattle.std.specs.Prelude.{None, Result, Ok}
 use Rattle.tm_trees.specs.tm_cint.declared.int_types.IntType.{IntType}
 use Rattle.tm_trees.specs.tm_cint.declared.int_types.IntType.TheVariants as Ints
 use Rattle.tm_trees.specs.tm_terms.declared.places.Place.{Place}
@@ -87,7 +88,8 @@ type_said said None = plain (cond said.void void_number (int_number (integer_sai
 
 -- the type that specifiers name, with their qualifiers and those of the named type
 abbrev pub base : Said → Qualified
-base said = let q = type_said said said.declared in record { number = q.number; constant = q.constant || said.constant; volatile = q.volatile || said.volatile }
+base said = let q = type_said said said.declared in
+    record { number = q.number; constant = q.constant || said.constant; volatile = q.volatile || said.volatile }
 
 -- ## Typedef names and tags
 
@@ -121,7 +123,8 @@ word_rules scope said p (Specs.Tagged Tags.Enum tag q) = enum_rules said q (tagg
 
 -- a structure of which nothing but its tag is known
 abbrev pub new_structure : Scope → Scope
-new_structure scope = with_type (record scope { structs = scope.structs ++ no_structure ∷ [] }) (Types.Struct (length scope.structs))
+new_structure scope =
+    with_type (record scope { structs = scope.structs ++ no_structure ∷ [] }) (Types.Struct (length scope.structs))
 
 -- a new structure with this tag in the present block
 abbrev pub with_struct_tag : Name → Scope → Scope

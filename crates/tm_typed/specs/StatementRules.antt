@@ -1,4 +1,5 @@
--- The rules of statements, over parts that are typed: which row a statement meets, or else its typed form. Rows are looked at in the order in which they stand.
+-- The rules of statements, over parts that are typed: which row a statement meets, or else its typed form. Rows are
+-- looked at in the order in which they stand.
 use Rattle.std.specs.Prelude.{ℕ, ℤ, Bool, true, false, not, ◌||◌, List, [], ◌∷◌, ◌++◌, Option, Some, None, Result, Ok}
 use Rattle.std.specs.List.{list_any}
 use Rattle.std.specs.Ordering.{int_eq}
@@ -49,7 +50,8 @@ pub record Selector : Type 0 where
 
 -- the expression is an integer, and is promoted
 abbrev pub selector_rules : Place → Rated → Sort → Result Selector Refusal
-selector_rules p v (Sorts.Integer t f) = Ok (record { works_in = promoted_type t; value = converted t (promoted_type t) v })
+selector_rules p v (Sorts.Integer t f) =
+    Ok (record { works_in = promoted_type t; value = converted t (promoted_type t) v })
 selector_rules p v _ = refused Kinds.Mismatch p
 
 -- the labels of a `switch` so far: their converted values, and whether a `default` is among them

@@ -4,7 +4,10 @@ use Rattle.tm_trees.specs.tm_cint.declared.int_types.IntType.{IntType}
 use Rattle.tm_trees.specs.tm_terms.declared.places.Place.{Place}
 use Rattle.tm_trees.specs.tm_terms.declared.refusals.Refusal.{Refusal}
 use Rattle.tm_trees.specs.tm_terms.ExprTrees.{Tree, place_of}
-use Rattle.tm_trees.specs.FileTrees.{ForFirstTree, by_expression, by_declaration, StatementTree, a_block, a_value, an_if, an_if_else, a_while, a_do, a_for, a_switch, a_break, a_continue, a_return, a_lock, an_unlock, a_yield, PartTree, a_local, a_step, PartTrees, no_parts, and_part, CaseTree, a_case, a_default, a_case_step, CaseTrees, no_cases, and_case}
+use Rattle.tm_trees.specs.FileTrees.{ForFirstTree, by_expression, by_declaration, StatementTree, a_block, a_value}
+use Rattle.tm_trees.specs.FileTrees.{an_if, an_if_else, a_while, a_do, a_for, a_switch, a_break, a_continue, a_return}
+use Rattle.tm_trees.specs.FileTrees.{a_lock, an_unlock, a_yield, PartTree, a_local, a_step, PartTrees, no_parts}
+use Rattle.tm_trees.specs.FileTrees.{and_part, CaseTree, a_case, a_default, a_case_step, CaseTrees, no_cases, and_case}
 use Rattle.tm_typed.specs.Scopes.{named}
 use Rattle.tm_typed.specs.TypedTrees.{RvalueTree}
 use Rattle.tm_typed.specs.Refusals.{then_with}
@@ -12,8 +15,13 @@ use Rattle.tm_typed.specs.Operands.{valued}
 use Rattle.tm_typed.specs.States.{State, in_scope, entered, left}
 use Rattle.tm_typed.specs.Evaluation.{typed_in, folded_value}
 use Rattle.tm_typed.specs.Declarations.{local_declaration}
-use Rattle.tm_typed.specs.TypedStatements.{TypedTree, evaluates, declares, runs_block, branches, branches_else, loops_while, loops_do, loops_for, selects, locks, unlocks, yields, TypedTrees, no_statements, and_statement, a_label, a_default_label, a_labelled_step, TypedCase, TypedCases, no_typed_cases, and_typed_case}
-use Rattle.tm_typed.specs.StatementRules.{Around, looping, switching, condition_rules, Selector, selector_rules, Labels, no_labels, with_label, label_rules, default_rules, break_rules, continue_rules, return_rules, return_value_rules, mutex_rules}
+use Rattle.tm_typed.specs.TypedStatements.{TypedTree, evaluates, declares, runs_block, branches, branches_else}
+use Rattle.tm_typed.specs.TypedStatements.{loops_while, loops_do, loops_for, selects, locks, unlocks, yields}
+use Rattle.tm_typed.specs.TypedStatements.{TypedTrees, no_statements, and_statement, a_label, a_default_label}
+use Rattle.tm_typed.specs.TypedStatements.{a_labelled_step, TypedCase, TypedCases, no_typed_cases, and_typed_case}
+use Rattle.tm_typed.specs.StatementRules.{Around, looping, switching, condition_rules, Selector, selector_rules, Labels}
+use Rattle.tm_typed.specs.StatementRules.{no_labels, with_label, label_rules, default_rules, break_rules}
+use Rattle.tm_typed.specs.StatementRules.{continue_rules, return_rules, return_value_rules, mutex_rules}
 
 -- ## Expressions as parts of statements
 

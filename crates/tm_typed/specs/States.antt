@@ -22,8 +22,8 @@ pub record Static : Type 0 where
   pub given : List StaticCell
 
 -- What is visible; the objects of static storage, and the names with linkage, which all their declarations share (C99
--- 6.2.2); of the body that is typed the parameters and local objects, and how many calls stand before; the functions and
--- objects that are used; and the lengths of arrays, the values of folded expressions and the labels of the text.
+-- 6.2.2); of the body that is typed the parameters and local objects, and how many calls stand before; the functions
+-- and objects that are used; and the lengths of arrays, the values of folded expressions and the labels of the text.
 pub record State : Type 0 where
   pub scope : Scope
   pub statics : List Static

@@ -1,6 +1,7 @@
 -- Which typed expressions may stand in the initialiser of an object of static storage (C99 6.6, 6.7.8), and what they
 -- are before the program runs: a folded integer, a null pointer, or the address of a cell of such an object.
-use Rattle.std.specs.Prelude.{ℕ, zero, suc, ◌+◌, ◌-◌, ◌*◌, ◌%◌, ℤ, pos, negsuc, ◌+ℤ◌, ◌-ℤ◌, ◌*ℤ◌, int_le, Bool, true, false, cond, ◌&&◌, ◌||◌, ◌==◌, nat_le, nat_lt, List, [], ◌∷◌, length, Option, Some, None}
+use Rattle.std.specs.Prelude.{ℕ, zero, suc, ◌+◌, ◌-◌, ◌*◌, ◌%◌, ℤ, pos, negsuc, ◌+ℤ◌, ◌-ℤ◌, ◌*ℤ◌, int_le, Bool, true}
+use Rattle.std.specs.Prelude.{false, cond, ◌&&◌, ◌||◌, ◌==◌, nat_le, nat_lt, List, [], ◌∷◌, length, Option, Some, None}
 use Rattle.tm_trees.specs.tm_cint.declared.int_types.IntType.{IntType}
 use Rattle.tm_trees.specs.tm_cint.Conversions.{converted_value}
 use Rattle.tm_typed.specs.declared.types.CType.{CType}
@@ -17,7 +18,9 @@ use Rattle.tm_typed.specs.Types.{is_same_int}
 use Rattle.tm_typed.specs.Scopes.{Scope, or_else, entry, ctype_of, cells_of, structure}
 use Rattle.tm_typed.specs.TypeRows.{clipped}
 use Rattle.tm_typed.specs.States.{State, static_type}
-use Rattle.tm_typed.specs.TypedTrees.{RvalueTree, a_constant, a_folded, a_null, an_address, the_same, a_move, a_conversion, LvalueTree, an_object, an_element, a_pointed_element, a_pointed, an_arrow, a_part}
+use Rattle.tm_typed.specs.TypedTrees.{RvalueTree, a_constant, a_folded, a_null, an_address, the_same, a_move}
+use Rattle.tm_typed.specs.TypedTrees.{a_conversion, LvalueTree, an_object, an_element, a_pointed_element, a_pointed}
+use Rattle.tm_typed.specs.TypedTrees.{an_arrow, a_part}
 
 -- ## Which scalars stand in an object
 
@@ -61,7 +64,8 @@ is_same_scalar _ _ = false
 -- the first cells of a type are those of another from a cell on
 unfoldable pub stand_from : Scope → ℕ → ℕ → ℕ → ℕ → Bool
 stand_from scope n c m zero = true
-stand_from scope n c m (suc k) = is_same_scalar (scalar_at scope n (c + k)) (scalar_at scope m k) && stand_from scope n c m k
+stand_from scope n c m (suc k) =
+    is_same_scalar (scalar_at scope n (c + k)) (scalar_at scope m k) && stand_from scope n c m k
 
 -- all cells of the type m stand in the type n from the cell c on
 abbrev pub stands_at : Scope → ℕ → ℕ → ℕ → Bool
@@ -106,7 +110,8 @@ element_of n cells a z = None
 
 -- what a pointer to the type m points to: an object that is there
 abbrev pub pointed_to : State → ℕ → Option StaticValue → Option StaticValue
-pointed_to s m (Some (StaticValues.Address o c)) = cond (stands_at s.scope (static_type s o).number c m) (Some (StaticValues.Address o c)) None
+pointed_to s m (Some (StaticValues.Address o c)) =
+    cond (stands_at s.scope (static_type s o).number c m) (Some (StaticValues.Address o c)) None
 pointed_to s m a = None
 
 abbrev pub object_address : ObjectNumber → Option StaticValue
@@ -135,7 +140,8 @@ abbrev mutual
   pub static_cell : State → LvalueTree → Option StaticValue
   static_cell s (an_object o p) = object_address o
   static_cell s (an_element l i n cells p) = element_of n cells (static_cell s l) (static_value s i)
-  static_cell s (a_pointed_element e i cells m p) = pointed_to s m (moved s false cells (static_value s e) (static_value s i))
+  static_cell s (a_pointed_element e i cells m p) =
+      pointed_to s m (moved s false cells (static_value s e) (static_value s i))
   static_cell s (a_pointed e m p) = pointed_to s m (static_value s e)
   static_cell s (an_arrow e m c p) = behind c (pointed_to s m (static_value s e))
   static_cell s (a_part l c p) = behind c (static_cell s l)

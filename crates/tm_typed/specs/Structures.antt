@@ -1,5 +1,6 @@
 -- Structures and enumerations (C99 6.7.2.1, 6.7.2.2), and so specifiers with everything that stands in their braces.
-use Rattle.std.specs.Prelude.{ℕ, ◌+◌, ◌-◌, ◌%◌, max, ℤ, pos, ◌+ℤ◌, Bool, true, cond, ◌||◌, not, is_some, List, [], ◌∷◌, ◌++◌, length, map, slice_set, Option, Some, None, Result, Ok}
+use Rattle.std.specs.Prelude.{ℕ, ◌+◌, ◌-◌, ◌%◌, max, ℤ, pos, ◌+ℤ◌, Bool, true, cond, ◌||◌, not, is_some, List, [], ◌∷◌}
+use Rattle.std.specs.Prelude.{◌++◌, length, map, slice_set, Option, Some, None, Result, Ok}
 use Rattle.std.specs.List.{list_any}
 use Rattle.tm_trees.specs.tm_cint.declared.int_types.IntType.TheVariants as Ints
 use Rattle.tm_trees.specs.tm_cint.IntTypes.{is_in}
@@ -11,7 +12,9 @@ use Rattle.tm_trees.specs.tm_terms.declared.types_named.Spec.{Spec}
 use Rattle.tm_trees.specs.tm_terms.Names.{is_same_name}
 use Rattle.tm_trees.specs.tm_terms.ExprTrees.{Tree, place_of}
 use Rattle.tm_trees.specs.declared.declarations.Tag.{Tag}
-use Rattle.tm_trees.specs.DeclarationTrees.{DeclaratorTree, a_declared_name, a_nested, declared_name, EnumeratorTree, SpecifierTree, a_plain, a_struct, an_enum, SpecifierTrees, no_specifiers, and_specifier, MemberTrees, no_members, and_members}
+use Rattle.tm_trees.specs.DeclarationTrees.{DeclaratorTree, a_declared_name, a_nested, declared_name, EnumeratorTree}
+use Rattle.tm_trees.specs.DeclarationTrees.{SpecifierTree, a_plain, a_struct, an_enum, SpecifierTrees, no_specifiers}
+use Rattle.tm_trees.specs.DeclarationTrees.{and_specifier, MemberTrees, no_members, and_members}
 use Rattle.tm_typed.specs.declared.types.Qualified.{Qualified}
 use Rattle.tm_typed.specs.declared.types.CType.TheVariants as Types
 use Rattle.tm_typed.specs.declared.scopes.Named.TheVariants as Names
@@ -21,11 +24,13 @@ use Rattle.tm_typed.specs.declared.scopes.Member.{Member}
 use Rattle.tm_typed.specs.declared.specifiers.Said.{Said}
 use Rattle.tm_typed.specs.declared.specifiers.Shape.{Shape}
 use Rattle.tm_typed.specs.Types.{int_number}
-use Rattle.tm_typed.specs.Scopes.{Scope, Structure, structure, named_here, tagged_here, is_complete, cells_of, abstract_cells_of, size_of, alignment_of}
+use Rattle.tm_typed.specs.Scopes.{Scope, Structure, structure, named_here, tagged_here, is_complete, cells_of}
+use Rattle.tm_typed.specs.Scopes.{abstract_cells_of, size_of, alignment_of}
 use Rattle.tm_typed.specs.TypeRows.{number_in, clipped, wrapped}
 use Rattle.tm_typed.specs.States.{State, with_name, with_tag}
 use Rattle.tm_typed.specs.Evaluation.{measured, folded_value}
-use Rattle.tm_typed.specs.Specifiers.{nothing_said, said_type, plain, base, word_rules, mentioned, new_structure, with_struct_tag}
+use Rattle.tm_typed.specs.Specifiers.{nothing_said, said_type, plain, base, word_rules, mentioned, new_structure}
+use Rattle.tm_typed.specs.Specifiers.{with_struct_tag}
 use Rattle.tm_typed.specs.Declarators.{declared}
 use Rattle.tm_typed.specs.Refusals.{refused, then_with, row, row_unless}
 
@@ -112,12 +117,14 @@ abbrev pub completed : ℕ → Layout → State → State
 completed k l s = cond (structure s.scope k).complete s (with_structure k (completed_structure l) s)
 
 abbrev pub opened_tag : State → Tag → Option Tagged → Result (ℕ × State) Refusal
-opened_tag s t None = let k = length s.scope.structs in Ok (k, opened k (record s { scope = with_struct_tag t.name s.scope }))
+opened_tag s t None = let k = length s.scope.structs in
+    Ok (k, opened k (record s { scope = with_struct_tag t.name s.scope }))
 opened_tag s t (Some Tagging.Enumeration) = refused Kinds.Redeclared t.place
-opened_tag s t (Some (Tagging.Structure k)) = row (structure s.scope k).opened Kinds.Redeclared t.place (Ok (k, opened k s))
+opened_tag s t (Some (Tagging.Structure k)) =
+    row (structure s.scope k).opened Kinds.Redeclared t.place (Ok (k, opened k s))
 
--- A structure's list of members begins: it completes the structure that its tag names in the present block, which has no
--- list yet, or is a new one (C99 6.7.2.3).
+-- A structure's list of members begins: it completes the structure that its tag names in the present block, which has
+-- no list yet, or is a new one (C99 6.7.2.3).
 abbrev pub opened_by : State → Option Tag → Result (ℕ × State) Refusal
 opened_by s None = let k = length s.scope.structs in Ok (k, opened k (record s { scope = new_structure s.scope }))
 opened_by s (Some t) = opened_tag s t (tagged_here s.scope t.name)

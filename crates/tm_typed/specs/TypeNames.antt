@@ -67,7 +67,8 @@ Made = Shape × Scope
 
 abbrev pub pointed : Made → List PointerWord → Made
 pointed made [] = made
-pointed made (w ∷ words) = let scope = with_pointer_word made.1 made.0 w in pointed (pointer_word scope made.0 w, scope) words
+pointed made (w ∷ words) = let scope = with_pointer_word made.1 made.0 w in
+    pointed (pointer_word scope made.0 w, scope) words
 
 -- ## Type names
 
@@ -97,11 +98,17 @@ is_void_star scope q words = is_star words && is_void (ctype_of scope q.number) 
 
 abbrev pub cast_type : Scope → Qualified → List PointerWord → CastType
 cast_type scope q words = let shape = pointed_in scope (bare q) words in
-    record { of = shape.of; is_void_pointer = is_void_star scope q words; is_left_out = shape.left_out || is_volatile_pointer scope shape.of }
+    record {
+      of = shape.of;
+      is_void_pointer = is_void_star scope q words;
+      is_left_out =
+          shape.left_out || is_volatile_pointer scope shape.of;
+    }
 
 -- The type that a type name names, in a scope that is prepared for it.
 abbrev pub type_of_name : Scope → TypeTree → Place → Result CastType Refusal
-type_of_name scope n p = then_with (words_said scope nothing_said n.specs) (λ said. Ok (cast_type scope (base said) n.pointers))
+type_of_name scope n p =
+    then_with (words_said scope nothing_said n.specs) (λ said. Ok (cast_type scope (base said) n.pointers))
 
 -- ## What type names add to a scope
 
@@ -111,7 +118,8 @@ with_pointers scope words (Err r) = scope
 
 -- the tags that a type name names first, and the types of its stars
 abbrev pub with_type_name : Scope → TypeTree → Scope
-with_type_name scope n = let tags = all_mentioned scope n.specs in with_pointers tags n.pointers (words_said tags nothing_said n.specs)
+with_type_name scope n = let tags = all_mentioned scope n.specs in
+    with_pointers tags n.pointers (words_said tags nothing_said n.specs)
 
 -- A scope is prepared for an expression: the tags that its type names name first are declared at its beginning, in the
 -- order of the text, and the table has the types that they name.

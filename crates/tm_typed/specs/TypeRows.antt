@@ -1,5 +1,6 @@
 -- How the table of types grows: each type has one row, which speaks of earlier rows only.
-use Rattle.std.specs.Prelude.{ℕ, ◌*◌, ◌%◌, ◌^◌, min, Bool, true, false, cond, ◌&&◌, ◌==◌, nat_le, nat_lt, List, [], ◌∷◌, ◌++◌, length, map, get_or}
+use Rattle.std.specs.Prelude.{ℕ, ◌*◌, ◌%◌, ◌^◌, min, Bool, true, false, cond, ◌&&◌, ◌==◌, nat_le, nat_lt, List, [], ◌∷◌}
+use Rattle.std.specs.Prelude.{◌++◌, length, map, get_or}
 use Rattle.std.specs.List.{position_or_len}
 use Rattle.tm_typed.specs.declared.types.Qualified.{Qualified}
 use Rattle.tm_typed.specs.declared.types.CType.{CType}
@@ -25,7 +26,8 @@ abbrev pub is_same_bool : Bool → Bool → Bool
 is_same_bool a b = cond a b (cond b false true)
 
 abbrev pub is_same_qualified : Qualified → Qualified → Bool
-is_same_qualified q r = (q.number == r.number) && (is_same_bool q.constant r.constant && is_same_bool q.volatile r.volatile)
+is_same_qualified q r =
+    (q.number == r.number) && (is_same_bool q.constant r.constant && is_same_bool q.volatile r.volatile)
 
 abbrev pub is_same_ctype : CType → CType → Bool
 is_same_ctype Types.Void Types.Void = true
@@ -40,7 +42,8 @@ class_at types n = (get_or types n no_type).class
 
 -- A type without `const`, and so what all types that are the same but for `const` share: it is made of such types.
 abbrev pub apart_from_const : List TypeEntry → CType → CType
-apart_from_const types (Types.Pointer q) = Types.Pointer (record { number = class_at types q.number; constant = false; volatile = q.volatile })
+apart_from_const types (Types.Pointer q) =
+    Types.Pointer (record { number = class_at types q.number; constant = false; volatile = q.volatile })
 apart_from_const types (Types.Array e n) = Types.Array (class_at types e) n
 apart_from_const types t = t
 
@@ -61,7 +64,8 @@ cells_in scope _ = 0
 abbrev pub abstract_cells_in : Scope → CType → ℕ
 abstract_cells_in scope (Types.Int t) = 1
 abstract_cells_in scope (Types.Pointer q) = 1
-abstract_cells_in scope (Types.Array e n) = cond (nat_le 65 n) (abstract_cells_of scope e) (clipped (n * abstract_cells_of scope e))
+abstract_cells_in scope (Types.Array e n) =
+    cond (nat_le 65 n) (abstract_cells_of scope e) (clipped (n * abstract_cells_of scope e))
 abstract_cells_in scope _ = 0
 
 abbrev pub size_in : Scope → CType → ℕ
@@ -106,7 +110,8 @@ is_founded scope _ = true
 -- The scope with a row for the type. One that is made of a type that there is not gets none: no type of a file is.
 abbrev pub with_row : Scope → CType → Scope
 with_row scope t =
-    cond (is_founded scope t && (number_in scope t == length scope.types)) (record scope { types = scope.types ++ row_in scope t ∷ [] }) scope
+    cond (is_founded scope t && (number_in scope t == length scope.types))
+    (record scope { types = scope.types ++ row_in scope t ∷ [] }) scope
 
 -- .. behind the row of the type without `const`, which is its class
 abbrev pub with_type : Scope → CType → Scope

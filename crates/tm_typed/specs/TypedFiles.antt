@@ -11,7 +11,12 @@ use Rattle.tm_typed.specs.Functions.{TypedBodyTree}
 use Rattle.tm_typed.specs.Files.{TypedFunctionTree, TypedFileTree}
 
 abbrev pub typed_body_tree : TypedBody → TypedBodyTree
-typed_body_tree b = record { locals = b.locals.items; parameters = b.parameters; statements = as_typed_trees b.statements.items }
+typed_body_tree b = record {
+  locals = b.locals.items;
+  parameters = b.parameters;
+  statements =
+      as_typed_trees b.statements.items;
+}
 
 abbrev pub typed_function_tree : TypedFunction → TypedFunctionTree
 typed_function_tree f = record {

@@ -9,7 +9,10 @@ use Rattle.tm_typed.specs.declared.expressions.Rvalue.{Rvalue}
 use Rattle.tm_typed.specs.declared.statements.GivenCell.{GivenCell}
 use Rattle.tm_typed.specs.declared.statements.LocalInitialiser.{LocalInitialiser}
 use Rattle.tm_typed.specs.declared.statements.LocalObject.{LocalObject}
-use Rattle.tm_typed.specs.declared.statements.TypedStatement.{TypedStatement, Held-TypedStatement-If-2, None', Some', Row_of-TypedStatement, end_of-TypedStatement, more_of-TypedStatement, Row_of-TypedSwitchPart, end_of-TypedSwitchPart, more_of-TypedSwitchPart}
+use Rattle.tm_typed.specs.declared.statements.TypedStatement.{TypedStatement, Held-TypedStatement-If-2, None', Some'}
+use Rattle.tm_typed.specs.declared.statements.TypedStatement.{Row_of-TypedStatement, end_of-TypedStatement}
+use Rattle.tm_typed.specs.declared.statements.TypedStatement.{more_of-TypedStatement, Row_of-TypedSwitchPart}
+use Rattle.tm_typed.specs.declared.statements.TypedStatement.{end_of-TypedSwitchPart, more_of-TypedSwitchPart}
 use Rattle.tm_typed.specs.declared.statements.TypedStatement.TheVariants as Typed
 use Rattle.tm_typed.specs.declared.statements.TypedSwitchPart.{TypedSwitchPart}
 use Rattle.tm_typed.specs.declared.statements.TypedSwitchPart.TheVariants as Parts
@@ -36,7 +39,8 @@ pub record LocalTree : Type 0 where
 -- ## Statements
 
 mutual
-  -- Conditions are integers or pointers. The value of a `switch` and its labels have the type in which it compares. A returned value has the type of the result.
+  -- Conditions are integers or pointers. The value of a `switch` and its labels have the type in which it compares. A
+  -- returned value has the type of the result.
   pub data TypedTree : Type 0 where
     evaluates : Option RvalueTree → TypedTree
     declares : List LocalTree → TypedTree
@@ -93,7 +97,8 @@ abbrev mutual
   typed_tree (Typed.If' c b s r) = with_typed_second (rvalue_tree c.value) (typed_tree s) r
   typed_tree (Typed.While' c b s) = loops_while (rvalue_tree c.value) (typed_tree s)
   typed_tree (Typed.Do' b s c) = loops_do (typed_tree s) (rvalue_tree c.value)
-  typed_tree (Typed.For' b first c step d s) = loops_for (typed_tree first) (optional_rvalue_tree c) (optional_rvalue_tree step) (typed_tree s)
+  typed_tree (Typed.For' b first c step d s) =
+      loops_for (typed_tree first) (optional_rvalue_tree c) (optional_rvalue_tree step) (typed_tree s)
   typed_tree (Typed.Switch' t e shape row) = selects t (rvalue_tree e.value) (typed_cases_of row)
   typed_tree Typed.Break = breaks
   typed_tree Typed.Continue = continues

@@ -19,7 +19,8 @@ use Rattle.tm_typed.specs.declared.operands.Operand.{Operand}
 use Rattle.tm_typed.specs.declared.operands.Operand.TheVariants as Operands
 
 mutual
-  -- An expression for its value. Operands have the type in which the operator works, by conversions that stand in the tree.
+  -- An expression for its value. Operands have the type in which the operator works, by conversions that stand in the
+  -- tree.
   pub data RvalueTree : Type 0 where
     a_constant : IntType → ℤ → Place → RvalueTree
     -- a comparison, `!`, `&&` or `||` that is folded: its value, and its form for branches

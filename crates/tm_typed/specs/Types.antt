@@ -38,7 +38,16 @@ bytes_of Ints.ULLong = 8
 
 -- what stands in place of a type that there is not
 abbrev pub no_type : TypeEntry
-no_type = record { ctype = Types.Void; class = 0; cells = 0; abstract_cells = 0; size = 0; alignment = 0; of_pointers = false }
+no_type = record {
+  ctype = Types.Void;
+  class = 0;
+  cells = 0;
+  abstract_cells = 0;
+  size = 0;
+  alignment =
+      0;
+  of_pointers = false;
+}
 
 -- the number of `void`
 abbrev pub void_number : ℕ
@@ -49,7 +58,16 @@ abbrev pub int_number : IntType → ℕ
 int_number t = int_index t + 1
 
 abbrev pub int_entry : IntType → TypeEntry
-int_entry t = record { ctype = Types.Int t; class = int_number t; cells = 1; abstract_cells = 1; size = bytes_of t; alignment = bytes_of t; of_pointers = false }
+int_entry t = record {
+  ctype = Types.Int t;
+  class = int_number t;
+  cells = 1;
+  abstract_cells = 1;
+  size =
+      bytes_of t;
+  alignment = bytes_of t;
+  of_pointers = false;
+}
 
 -- the types with which the table begins: `void`, and the integer types
 abbrev pub first_types : List TypeEntry

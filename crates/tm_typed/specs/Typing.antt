@@ -1,4 +1,5 @@
--- The typing of expressions: each construct after its parts, the parts from left to right; what it meets of the rows is a matter of Rules.
+-- The typing of expressions: each construct after its parts, the parts from left to right; what it meets of the rows is
+-- a matter of Rules.
 use Rattle.std.specs.Prelude.{ℕ, suc, ◌+◌, ℤ, true, false, List, [], ◌∷◌, Result, Ok}
 use Rattle.tm_trees.specs.tm_cint.declared.operators.BinOp.TheVariants as Ops
 use Rattle.tm_trees.specs.tm_terms.declared.places.Place.{Place}
@@ -23,7 +24,11 @@ use Rattle.tm_typed.specs.Scopes.{Scope, named}
 use Rattle.tm_typed.specs.TypedTrees.{Rated, OperandTree}
 use Rattle.tm_typed.specs.Refusals.{refused, then_with, row}
 use Rattle.tm_typed.specs.Operands.{valued}
-use Rattle.tm_typed.specs.Rules.{name_rules, constant_rules, character_rules, bound, input_rules, islocked_rules, address_rules, dereference_rules, not_rules, minus_rules, complement_rules, plus_rules, sizeof_rules, sizeof_type_rules, binary_rules, logical_rules, conditional_rules, comma_rules, assignment_rules, step_rules, compound_rules, CastType, cast_rules, callee, call_rules, subscript_rules, dot_rules, arrow_rules}
+use Rattle.tm_typed.specs.Rules.{name_rules, constant_rules, character_rules, bound, input_rules, islocked_rules}
+use Rattle.tm_typed.specs.Rules.{address_rules, dereference_rules, not_rules, minus_rules, complement_rules, plus_rules}
+use Rattle.tm_typed.specs.Rules.{sizeof_rules, sizeof_type_rules, binary_rules, logical_rules, conditional_rules}
+use Rattle.tm_typed.specs.Rules.{comma_rules, assignment_rules, step_rules, compound_rules, CastType, cast_rules}
+use Rattle.tm_typed.specs.Rules.{callee, call_rules, subscript_rules, dot_rules, arrow_rules}
 
 -- ## Operators by their signs
 
@@ -125,25 +130,36 @@ abbrev mutual
   typing types scope site (in_parentheses t) = typing types scope site t
   typing types scope site (an_input low high p) =
       then_with (typing types scope site low) (λ a. then_with (bound (valued scope a)) (λ x.
-      then_with (typing types scope (site + calls low) high) (λ b. then_with (bound (valued scope b)) (λ y. input_rules p x y))))
+      then_with (typing types scope (site + calls low) high)
+      (λ b. then_with (bound (valued scope b)) (λ y. input_rules p x y))))
   typing types scope site (an_islocked m q p) = islocked_rules p q (named scope m)
   typing types scope site (a_call f args p) =
-      then_with (callee p (named scope f)) (λ g. then_with (typing_all types scope (suc site) args) (λ vs. call_rules scope p site vs g))
+      then_with (callee p (named scope f))
+      (λ g. then_with (typing_all types scope (suc site) args) (λ vs. call_rules scope p site vs g))
   typing types scope site (a_prefix op t p) = then_with (typing types scope site t) (λ a. prefix_rules scope op p a)
-  typing types scope site (a_sizeof_type n p) = then_with (types scope n p) (λ to. row to.is_left_out Kinds.Unsupported p (sizeof_type_rules scope p to.of.number))
-  typing types scope site (a_cast n t p) = then_with (types scope n p) (λ to. then_with (typing types scope site t) (λ a. cast_rules scope p to (valued scope a)))
+  typing types scope site (a_sizeof_type n p) =
+      then_with (types scope n p)
+      (λ to. row to.is_left_out Kinds.Unsupported p (sizeof_type_rules scope p to.of.number))
+  typing types scope site (a_cast n t p) =
+      then_with (types scope n p)
+      (λ to. then_with (typing types scope site t) (λ a. cast_rules scope p to (valued scope a)))
   typing types scope site (an_infix l op p r) =
-      then_with (typing types scope site l) (λ a. then_with (typing types scope (site + calls l) r) (λ b. infix_rules scope op p a b))
+      then_with (typing types scope site l)
+      (λ a. then_with (typing types scope (site + calls l) r) (λ b. infix_rules scope op p a b))
   typing types scope site (a_conditional c p x y) =
       then_with (typing types scope site c) (λ a. then_with (typing types scope (site + calls c) x) (λ b.
-      then_with (typing types scope (site + calls c + calls x) y) (λ d. conditional_rules scope p (valued scope a) (valued scope b) (valued scope d))))
+      then_with (typing types scope (site + calls c + calls x) y)
+      (λ d. conditional_rules scope p (valued scope a) (valued scope b) (valued scope d))))
   typing types scope site (a_subscript e p i) =
-      then_with (typing types scope site e) (λ a. then_with (typing types scope (site + calls e) i) (λ b. subscript_rules scope p a (valued scope b)))
-  typing types scope site (a_member e access p m q) = then_with (typing types scope site e) (λ a. member_rules scope access p a m q)
+      then_with (typing types scope site e)
+      (λ a. then_with (typing types scope (site + calls e) i) (λ b. subscript_rules scope p a (valued scope b)))
+  typing types scope site (a_member e access p m q) =
+      then_with (typing types scope site e) (λ a. member_rules scope access p a m q)
   typing types scope site (a_postfix e op p) = then_with (typing types scope site e) (λ a. postfix_rules scope op p a)
 
   -- the arguments of a call
   pub typing_all : CastTypes → Scope → ℕ → Arguments → Result (List Rated) Refusal
   typing_all types scope site no_arguments = Ok []
   typing_all types scope site (and_argument t args) =
-      then_with (typing types scope site t) (λ a. then_with (typing_all types scope (site + calls t) args) (λ vs. Ok (valued scope a ∷ vs)))
+      then_with (typing types scope site t)
+      (λ a. then_with (typing_all types scope (site + calls t) args) (λ vs. Ok (valued scope a ∷ vs)))

@@ -1,4 +1,5 @@
--- What the evaluated parts of an expression use: functions by calls, and objects of static storage by their names. The operand of `sizeof` is not evaluated (C99 6.5.3.4).
+-- What the evaluated parts of an expression use: functions by calls, and objects of static storage by their names. The
+-- operand of `sizeof` is not evaluated (C99 6.5.3.4).
 use Rattle.std.specs.Prelude.{List, [], ◌∷◌, ◌++◌, Option, Some, None}
 use Rattle.tm_trees.specs.tm_terms.declared.places.Place.{Place}
 use Rattle.tm_trees.specs.tm_terms.declared.exprs.Prefix.{Prefix}

@@ -64,7 +64,8 @@ pub enum Rvalue {
         value: Box<Rvalue>,
         place: Place,
     },
-    /// An operator on integers that works in the type `of`. The right operand of a shift has a promoted type of its own.
+    /// An operator on integers that works in the type `of`. The right operand of a shift has a promoted type of its
+    /// own.
     Binary {
         operator: BinOp,
         of: IntType,
@@ -79,7 +80,8 @@ pub enum Rvalue {
         right: Box<Rvalue>,
         place: Place,
     },
-    /// A pointer plus or minus an integer, times the cells of the pointer's target; which of both stands first, is evaluated first.
+    /// A pointer plus or minus an integer, times the cells of the pointer's target; which of both stands first, is
+    /// evaluated first.
     Move {
         minus: bool,
         cells: u32,

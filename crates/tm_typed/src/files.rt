@@ -22,7 +22,8 @@ pub struct StaticCell {
 }
 
 /// An object of static storage: its name and place in its first declaration, its type, and the cells that its
-/// initialiser gives in rising order, the others being zero or null. One that only bare `extern`s declare is not defined.
+/// initialiser gives in rising order, the others being zero or null. One that only bare `extern`s declare is not
+/// defined.
 #[derive(Drop)]
 pub struct TypedStatic {
     pub name: Name,

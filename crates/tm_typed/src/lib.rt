@@ -2,8 +2,8 @@
 //! The rules of typing stand in specs/ as definitions; how a tree of the source becomes a typed one, this crate does
 //! not know.
 //!
-//! In `int a[3]; int *p; .. p = a + 1` the assignment is `Assign` of the scalar `int *` to the object `p`, and its value
-//! a `Move` by one cell of `Address` of the object `a`: the array has become a pointer to its first element.
+//! In `int a[3]; int *p; .. p = a + 1` the assignment is `Assign` of the scalar `int *` to the object `p`, and its
+//! value a `Move` by one cell of `Address` of the object `a`: the array has become a pointer to its first element.
 #![tactic(auto)]
 
 mod expressions;

@@ -1,6 +1,7 @@
 //! What the rules of typing know of a part.
 ghost use Rattle.std.specs.Prelude.{◌≡◌};
-ghost use Rattle.tm_typed.specs.Operands.{fold_of, is_condition, is_structure, is_integer, is_pointer, is_folded_zero, is_null, is_void_pointer, unbuilt, kept_sort};
+ghost use Rattle.tm_typed.specs.Operands.{fold_of, is_condition, is_structure, is_integer, is_pointer, is_folded_zero};
+ghost use Rattle.tm_typed.specs.Operands.{is_null, is_void_pointer, unbuilt, kept_sort};
 
 use crate::expressions::{Lvalue, Rvalue};
 use crate::types::{CType, Qualified};

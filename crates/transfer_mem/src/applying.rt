@@ -109,9 +109,9 @@ fn controlled(
 }
 
 /// What an edge does to the state of its task, over what the other tasks wrote: the state where it leads, none where
-/// control does not go on; what it adds to the store; the abstract cells that it reaches, and the classes of errors that
-/// it does not exclude. Condition: the task and the writers of the store have priorities, the layout has the form and
-/// the limits of one, and the temporaries that the operation uses have values that it is made for.
+/// control does not go on; what it adds to the store; the abstract cells that it reaches, and the classes of errors
+/// that it does not exclude. Condition: the task and the writers of the store have priorities, the layout has the form
+/// and the limits of one, and the temporaries that the operation uses have values that it is made for.
 pub fn apply(
     alloc: Global,
     view: &EdgeView,

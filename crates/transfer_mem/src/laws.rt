@@ -17,7 +17,8 @@ use tm_cint::Class;
 pub fn edges_give_states()
     ensures state { (view : EdgeView) (s t : State) (store : Interferences) → IsStateForm s → IsStore store
         → after (around_of view) (action_at view) s store ≡ Some t → IsStateForm t }
-    ensures added { (view : EdgeView) (s : State) → IsStateForm s → IsStore (added (around_of view) (action_at view) s) }
+    ensures added { (view : EdgeView) (s : State) → IsStateForm s
+        → IsStore (added (around_of view) (action_at view) s) }
 {}
 
 /// Where the state and the store are less, so is the state to which an edge leads, what it adds, the cells that it

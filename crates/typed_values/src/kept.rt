@@ -2,7 +2,8 @@
 ghost use Rattle.std.specs.Prelude.{List, ℤ};
 ghost use Rattle.tm_typed.specs.declared.types.Scalar.{Scalar};
 ghost use Rattle.tm_laid.specs.Layouts.{LaidTree};
-ghost use Rattle.operator_values.specs.pointer_dom.Values.{Values, IsValues, IsValuesBelow, no_value, joined_values, rounded_values};
+ghost use Rattle.operator_values.specs.pointer_dom.Values.{Values, IsValues, IsValuesBelow, no_value, joined_values};
+ghost use Rattle.operator_values.specs.pointer_dom.Values.{rounded_values};
 ghost use Rattle.operator_values.specs.MetValues.{met_values};
 ghost use Rattle.typed_values.specs.Types.{AreObjects, IsOfType, HaveSameValues, HaveEnds};
 

@@ -3,8 +3,8 @@
 //! type. Which types temporaries and cells have, and what a state is, this crate does not know.
 //!
 //! In a program whose object 0 has two cells, {1, 2} is of the types `char` and `int`, and the pointer to the object 0
-//! with this size, at the offsets 0 and 1, is of every pointer type. The join of {1, 2} with {300} is of type `int`, and
-//! of type `char` no more than {300} is.
+//! with this size, at the offsets 0 and 1, is of every pointer type. The join of {1, 2} with {300} is of type `int`,
+//! and of type `char` no more than {300} is.
 #![tactic(auto)]
 
 mod kept;

@@ -14,8 +14,8 @@ ghost use Rattle.typed_values.specs.Types.{AreObjects};
 
 use tm_cint::{BinOp, IntType};
 
-/// Whatever the operands are, an operator gives numbers of the type of its result, a conversion numbers of its type, and
-/// a comparison of pointers an `int`.
+/// Whatever the operands are, an operator gives numbers of the type of its result, a conversion numbers of its type,
+/// and a comparison of pointers an `int`.
 pub fn numbers_are_of_types()
     ensures operators { (op : BinOp) (t : IntType) (a b : Progression)
         → AreValues (result_type op t) (operated op t a b) }

@@ -1,7 +1,8 @@
 //! The toy: sets of numbers below four, and a program of two tasks over them.
 ghost use Rattle.std.specs.Prelude.{◌≡◌, ◌↔◌, ◌<◌, IsTrue, IfOk, refl};
 ghost use Rattle.worker_tests.specs.Sets.{IsSubset, union, whole_pairs, empty_set, added_numbers};
-ghost use Rattle.worker_tests.specs.laws.SetLaws.{set_order, set_join, set_closure, set_nothing, added_grows, empty_below};
+ghost use Rattle.worker_tests.specs.laws.SetLaws.{set_order, set_join, set_closure, set_nothing, added_grows};
+ghost use Rattle.worker_tests.specs.laws.SetLaws.{empty_below};
 
 use std::alloc::Global;
 use std::marker::Model;

@@ -10,4 +10,5 @@ is_same_key a b = (a.structure == b.structure) && is_same_name a.name b.name
 
 -- what is found by a key once these members of a structure are
 abbrev pub with_members : ℕ → List Member → MemberKey → Option Member → Option Member
-with_members structure members k before = cond (k.structure == structure) (or_else (last_declared (λ m. m.name) k.name members) before) before
+with_members structure members k before =
+    cond (k.structure == structure) (or_else (last_declared (λ m. m.name) k.name members) before) before

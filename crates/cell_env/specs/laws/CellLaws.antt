@@ -61,7 +61,8 @@ module _ {V N : Type 0} where
 
   module _ {M : Type 0} (is_value : V → Type 0) (is_marks : M → Type 0) (leq : V → V → Type 0) (rounded : M → V
       → V) (order : IsOrder is_value leq) (closure : IsClosure is_value is_marks leq rounded) where
-    pub cell_closure : IsClosure (IsCell {N = N} is_value) is_marks (IsCellBelow leq) (λ marks. rounded_cell (rounded marks))
+    pub cell_closure : IsClosure (IsCell {N = N} is_value) is_marks (IsCellBelow leq)
+        (λ marks. rounded_cell (rounded marks))
     cell_closure = record {
       value = λ marks c m c-is. closure.value marks c.value m c-is;
       extensive = λ marks c m c-is. record {

@@ -9,7 +9,8 @@ use Rattle.transfer_rows.specs.Accesses.{has_number}
 -- the abstract cell at an offset of an object, where the cell there has the type
 abbrev pub cell_of_type : LaidTree → Scalar → ℕ → ℕ → List ℕ
 cell_of_type laid scalar object offset =
-    cond (is_same_scalar (cell_at laid (cell_of laid object offset)).scalar scalar) (abstract_of laid object offset ∷ [])
+    cond (is_same_scalar (cell_at laid (cell_of laid object offset)).scalar scalar) (abstract_of laid object offset ∷
+    [])
     []
 
 -- those at the offsets of the set below a number

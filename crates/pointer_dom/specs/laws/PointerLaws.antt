@@ -13,21 +13,25 @@ abbrev AnyMarks : List ℤ → Type 0
 AnyMarks marks = Unit {0}
 
 objects_order : IsOrder (IsTable IsOffsetSet HasNoOffset) (IsTableBelow IsOffsetsBelow)
-objects_order = table_order (λ o. IsOffsetSet o) AnyMarks (λ o p. IsOffsetsBelow o p) joined_offsets rounded_offsets HasNoOffset
+objects_order = table_order (λ o. IsOffsetSet o) AnyMarks (λ o p. IsOffsetsBelow o p) joined_offsets rounded_offsets
+    HasNoOffset
     offsets_order offsets_join offsets_closure offsets_nothing
 
 objects_join : IsJoin (IsTable IsOffsetSet HasNoOffset) (IsTableBelow IsOffsetsBelow) (joined_table joined_offsets)
-objects_join = table_join (λ o. IsOffsetSet o) AnyMarks (λ o p. IsOffsetsBelow o p) joined_offsets rounded_offsets HasNoOffset
+objects_join = table_join (λ o. IsOffsetSet o) AnyMarks (λ o p. IsOffsetsBelow o p) joined_offsets rounded_offsets
+    HasNoOffset
     offsets_order offsets_join offsets_closure offsets_nothing
 
 objects_closure : IsClosure (IsTable IsOffsetSet HasNoOffset) AnyMarks (IsTableBelow IsOffsetsBelow)
     (λ marks. rounded_table (rounded_offsets marks))
-objects_closure = table_closure (λ o. IsOffsetSet o) AnyMarks (λ o p. IsOffsetsBelow o p) joined_offsets rounded_offsets HasNoOffset
+objects_closure = table_closure (λ o. IsOffsetSet o) AnyMarks (λ o p. IsOffsetsBelow o p) joined_offsets
+    rounded_offsets HasNoOffset
     offsets_order offsets_join offsets_closure offsets_nothing
 
 objects_nothing : IsLeastNothing (IsTable IsOffsetSet HasNoOffset) AnyMarks (IsTableBelow IsOffsetsBelow)
     (λ marks. rounded_table (rounded_offsets marks)) (λ t. t ≡ map.empty)
-objects_nothing = table_nothing (λ o. IsOffsetSet o) AnyMarks (λ o p. IsOffsetsBelow o p) joined_offsets rounded_offsets HasNoOffset
+objects_nothing = table_nothing (λ o. IsOffsetSet o) AnyMarks (λ o p. IsOffsetsBelow o p) joined_offsets
+    rounded_offsets HasNoOffset
     offsets_order offsets_join offsets_closure offsets_nothing
 
 or_left : (a b : Bool) → IsTrue a → IsTrue (a || b)

@@ -145,7 +145,8 @@ module _ (p : ProgramBodies) (is : IsProgram p) where
     unfolding pass_of
     pass_is = record {
       fits =
-          totals.total_fits stores (FitsProgram p) no_interference (links t) (added t) table store_order store_join value
+          totals.total_fits stores (FitsProgram p) no_interference (links t) (added t) table store_order store_join
+          value
           (nothing_fits p.laid p.tasks) below_all join_fits adds all (omega arith);
       holds = λ e s within stands.
           totals.total_holds stores (FitsProgram p) no_interference (links t) (added t) table store_order store_join

@@ -1,5 +1,5 @@
--- Tables that are least solutions, of the initial section and of each task after it, are the least solution of the whole
--- program where its least tables are.
+-- Tables that are least solutions, of the initial section and of each task after it, are the least solution of the
+-- whole program where its least tables are.
 use Rattle.std.specs.Prelude.{◌≡◌, ℕ, ◌<◌, List, length, Option}
 use Rattle.std.proofs.Common.{sym, subst, ◌∙◌}
 use Rattle.region_cells.specs.tm_lattice.Tables.{IsBelow}

@@ -1,5 +1,6 @@
 -- An action that fits leads from a state that fits to states that fit.
-use Rattle.std.specs.Prelude.{◌≡◌, ℕ, Bool, true, false, cond, ◌-◌, ◌^◌, bit_and, List, [], ◌∷◌, Option, Some, None, pos, refl}
+use Rattle.std.specs.Prelude.{◌≡◌, ℕ, Bool, true, false, cond, ◌-◌, ◌^◌, bit_and, List, [], ◌∷◌, Option, Some, None}
+use Rattle.std.specs.Prelude.{pos, refl}
 use Rattle.std.proofs.Common.{sym, subst, ◌∙◌, inl, inr, arith}
 use Rattle.std.specs.FinMap.{get}
 use Rattle.std.proofs.lemmas.Bool.{true≢false}
@@ -83,7 +84,8 @@ module _ (laid : LaidTree) (types : ℕ → Scalar) where
   ActionFits s (clears cleared) = (x : ℕ) (v : Values) → cleared x ≡ Some v
       → (let a = abstract_at laid x in IsOfType laid a.scalar v)
   ActionFits s (probes m target answer) =
-      IsOfType laid (types target) (only_numbers (single (pos 1))) × IsOfType laid (types target) (only_numbers (single (pos 0)))
+      IsOfType laid (types target) (only_numbers (single (pos 1)))
+      × IsOfType laid (types target) (only_numbers (single (pos 0)))
   ActionFits s action = Unit {0}
 
 module _ (laid : LaidTree) (task : ℕ) (types : ℕ → Scalar) (around : Around) where
@@ -95,7 +97,8 @@ module _ (laid : LaidTree) (task : ℕ) (types : ℕ → Scalar) (around : Aroun
 
   -- ## Filters
 
-  side_is : (side : Side) (s : State) → Next None s → SideFits laid types side → IsValues (side_value side s) × AreObjects laid (side_value side s).pointers
+  side_is : (side : Side) (s : State) → Next None s → SideFits laid types side → IsValues (side_value side s)
+      × AreObjects laid (side_value side s).pointers
   side_is (temporary t) s h fits =
       let typed = E.value_typed laid task types around.is_live None s h t in
       (typed_values laid (types t) (value_of s t) typed, typed_objects laid (types t) (value_of s t) typed)
@@ -106,50 +109,77 @@ module _ (laid : LaidTree) (task : ℕ) (types : ℕ → Scalar) (around : Aroun
   SideTyped (temporary t) v = IsOfType laid (types t) v
   SideTyped (fixed value) v = Unit {0}
 
-  side_less : (side : Side) (s : State) (v : Values) → Next None s → IsValues v → AreObjects laid v.pointers → IsValuesBelow v (side_value side s) → SideTyped side v
-  side_less (temporary t) s v h v-is v-are le = less_of_type laid (types t) v (value_of s t) (E.value_typed laid task types around.is_live None s h t) v-is v-are le
+  side_less : (side : Side) (s : State) (v : Values) → Next None s → IsValues v → AreObjects laid v.pointers
+      → IsValuesBelow v (side_value side s) → SideTyped side v
+  side_less (temporary t) s v h v-is v-are le =
+      less_of_type laid (types t) v (value_of s t) (E.value_typed laid task types around.is_live None s h t) v-is
+      v-are le
   side_less (fixed value) s v h v-is v-are le = tt
 
-  side_next : (side : Side) (v : Values) (s : State) → Next None s → SideTyped side v → May (side_refined around side v s)
+  side_next : (side : Side) (v : Values) (s : State) → Next None s → SideTyped side v
+      → May (side_refined around side v s)
   side_next (temporary t) v s h typed = E.refine_next laid task types around.is_live around s t v h typed
-  side_next (fixed value) v s h typed = E.cond_next laid task types around.is_live (Rattle.edge_actions.specs.transfer_rows.StateForms.is_no_value v) s h
+  side_next (fixed value) v s h typed =
+      E.cond_next laid task types around.is_live (Rattle.edge_actions.specs.transfer_rows.StateForms.is_no_value v) s h
 
-  then_next : (side : Side) (v : Values) (a : Option State) → May a → SideTyped side v → May (then_refined around side v a)
+  then_next : (side : Side) (v : Values) (a : Option State) → May a → SideTyped side v
+      → May (then_refined around side v a)
   then_next side v None h typed = E.none_next laid task types around.is_live
   then_next side v (Some s) h typed = side_next side v s (h s refl) typed
 
   -- some of the numbers of a value, and no pointer
   numbers_less : (n : Progression) (v : Values) → IsValues v → IsSubset n v.numbers → IsValuesBelow (only_numbers n) v
-  numbers_less n v v-is le = record { numbers = le; pointers = pointers_nothing.below no_pointer v.pointers none_is v-is refl }
+  numbers_less n v v-is le =
+      record { numbers = le; pointers = pointers_nothing.below no_pointer v.pointers none_is v-is refl }
 
   pointers_less : (p : Pointers) (v : Values) → IsPointersBelow p v.pointers → IsValuesBelow (only_pointers p) v
-  pointers_less p v le = record { numbers = record { within = λ n h. absurd (Rattle.value_heights.proofs.low.strided_dom.Members.not_in_empty n h) }; pointers = le }
+  pointers_less p v le =
+      record {
+        numbers = record {
+          within =
+              λ n h. absurd (Rattle.value_heights.proofs.low.strided_dom.Members.not_in_empty n h);
+        };
+        pointers = le;
+      }
 
-  filter_next : (s : State) → Next None s → (filter : Filter) → FilterFits laid types filter → May (after_filter around s filter)
+  filter_next : (s : State) → Next None s → (filter : Filter) → FilterFits laid types filter
+      → May (after_filter around s filter)
   filter_next s h (usable source) fits =
       let typed = E.value_typed laid task types around.is_live None s h source in
       let v = value_of s source in
       E.refine_next laid task types around.is_live around s source (usable_values v) h
-      (less_of_type laid (types source) (usable_values v) v typed (typed_values laid (types source) v typed) (typed_objects laid (types source) v typed)
+      (less_of_type laid (types source) (usable_values v) v typed (typed_values laid (types source) v typed)
+      (typed_objects laid (types source) v typed)
       record {
         numbers = record { within = λ n k. k };
-        pointers = record { null = λ k. k; invalid = λ k. absurd (let e : false ≡ true = k in cc); objects = (pointers_order.reflexive v.pointers (typed_values laid (types source) v typed)).objects };
+        pointers = record {
+          null = λ k. k;
+          invalid = λ k. absurd (let e : false ≡ true = k in cc);
+          objects =
+              (pointers_order.reflexive v.pointers (typed_values laid (types source) v typed)).objects;
+        };
       })
   filter_next s h (numbers_compare op left right) fits = sides left right
     where
-      sides : (left right : Side) → May (then_refined around right (right_numbers op (side_value left s) (side_value right s)) (side_refined around left (left_numbers op (side_value left s) (side_value right s)) s))
+      sides : (left right : Side)
+          → May (then_refined around right (right_numbers op (side_value left s) (side_value right s))
+          (side_refined around left (left_numbers op (side_value left s) (side_value right s)) s))
       sides left right =
           let v = side_value left s in
           let w = side_value right s in
           let a = assumed_is op v.numbers w.numbers in
           then_next right (right_numbers op v w) (side_refined around left (left_numbers op v w) s)
-          (side_next left (left_numbers op v w) s h (numbers_typed left (I.left_assumed op v.numbers w.numbers) (a.of_left.least v.numbers (λ k x. x.member))))
+          (side_next left (left_numbers op v w) s h
+          (numbers_typed left (I.left_assumed op v.numbers w.numbers)
+          (a.of_left.least v.numbers (λ k x. x.member))))
           (numbers_typed right (I.right_assumed op v.numbers w.numbers) (a.of_right.least w.numbers (λ k x. x.member)))
         where
-          numbers_typed : (side : Side) (n : Progression) → (let v = side_value side s in IsSubset n v.numbers) → SideTyped side (only_numbers n)
+          numbers_typed : (side : Side) (n : Progression) → (let v = side_value side s in IsSubset n v.numbers)
+              → SideTyped side (only_numbers n)
           numbers_typed (temporary t) n le =
               let typed = E.value_typed laid task types around.is_live None s h t in
-              less_of_type laid (types t) (only_numbers n) (value_of s t) typed none_is (none_objects laid) (numbers_less n (value_of s t) (typed_values laid (types t) (value_of s t) typed) le)
+              less_of_type laid (types t) (only_numbers n) (value_of s t) typed none_is (none_objects laid)
+              (numbers_less n (value_of s t) (typed_values laid (types t) (value_of s t) typed) le)
           numbers_typed (fixed value) n le = tt
   filter_next s h (pointers_compare equal left right) fits =
       let v = side_value left s in
@@ -158,10 +188,17 @@ module _ (laid : LaidTree) (task : ℕ) (types : ℕ → Scalar) (around : Aroun
       let r = side_is right s h fits.1 in
       let l-is = left_pointers_fit equal v.pointers w.pointers l.0 r.0 in
       let r-is = right_pointers_fit equal v.pointers w.pointers l.0 r.0 in
-      let less = none_added equal v.pointers w.pointers (left_pointers equal v.pointers w.pointers) (right_pointers equal v.pointers w.pointers) l.0 r.0 l-is r-is (pointers_are_assumed equal v.pointers w.pointers) in
+      let less = none_added equal v.pointers w.pointers (left_pointers equal v.pointers w.pointers)
+      (right_pointers equal v.pointers w.pointers) l.0 r.0 l-is r-is
+      (pointers_are_assumed equal v.pointers w.pointers) in
       then_next right (right_addresses equal v w) (side_refined around left (left_addresses equal v w) s)
-      (side_next left (left_addresses equal v w) s h (side_less left s (left_addresses equal v w) h l-is (left_objects laid equal v.pointers w.pointers l.0 r.0 l.1 r.1) (pointers_less (left_pointers equal v.pointers w.pointers) v less.0)))
-      (side_less right s (right_addresses equal v w) h r-is (right_objects laid equal v.pointers w.pointers l.0 r.0 l.1 r.1) (pointers_less (right_pointers equal v.pointers w.pointers) w less.1))
+      (side_next left (left_addresses equal v w) s h
+      (side_less left s (left_addresses equal v w) h l-is
+      (left_objects laid equal v.pointers w.pointers l.0 r.0 l.1 r.1)
+      (pointers_less (left_pointers equal v.pointers w.pointers) v less.0)))
+      (side_less right s (right_addresses equal v w) h r-is
+      (right_objects laid equal v.pointers w.pointers l.0 r.0 l.1 r.1)
+      (pointers_less (right_pointers equal v.pointers w.pointers) w less.1))
 
   -- ## Effects
 
@@ -171,81 +208,111 @@ module _ (laid : LaidTree) (task : ℕ) (types : ℕ → Scalar) (around : Aroun
     pending = within_trans (without c.pending m) c.pending 65535 (and_within c.pending (65535 - 2 ^ m)) h.pending;
   }
 
-  module _ (store : Interferences) (weak : (x : ℕ) → (let a = abstract_at laid x in AreTyped laid a.scalar x store.weak))
-      (sync : (x : ℕ) → (let a = abstract_at laid x in AreTyped laid a.scalar x store.sync)) (held_in : IsWithin around.reader.held 65535) where
-    any_next : (s : State) (target : ℕ) (xs : List ℕ) (range : Values) → Next (Some target) s → IsOfType laid (types target) range → May (after_load_any around s target xs range)
+  module _ (store : Interferences) (weak : (x : ℕ)
+      → (let a = abstract_at laid x in AreTyped laid a.scalar x store.weak))
+      (sync : (x : ℕ) → (let a = abstract_at laid x in AreTyped laid a.scalar x store.sync))
+      (held_in : IsWithin around.reader.held 65535) where
+    any_next : (s : State) (target : ℕ) (xs : List ℕ) (range : Values) → Next (Some target) s
+        → IsOfType laid (types target) range → May (after_load_any around s target xs range)
     any_next s target [] range h typed = E.none_next laid task types around.is_live
     any_next s target (x ∷ xs) range h typed = E.given_next laid task types around.is_live s target range None h typed
 
     load_next : (s : State) (target : ℕ) (xs : List ℕ) → Next (Some target) s
-        → ((x : ℕ) (v : Values) → is_among xs x ≡ true → (let a = abstract_at laid x in IsOfType laid a.scalar v) → IsOfType laid (types target) v)
+        → ((x : ℕ) (v : Values) → is_among xs x ≡ true → (let a = abstract_at laid x in IsOfType laid a.scalar v)
+        → IsOfType laid (types target) v)
         → May (Rattle.edge_actions.specs.transfer_rows.Rows.after_load around s store target xs)
     load_next s target xs h same =
-        E.given_next laid task types around.is_live s target (loaded around s store xs) (new_copy around s (single_of around.is_smashed xs)) h
+        E.given_next laid task types around.is_live s target (loaded around s store xs)
+        (new_copy around s (single_of around.is_smashed xs)) h
         (all_typed laid (types target) (λ x. found_in around store x (get s.cells x)) xs (λ x k.
         same x (found_in around store x (get s.cells x)) (among_of xs x k)
         (E.found_typed laid task types around.is_live around store weak sync held_in x (get s.cells x) (h.cells x))))
 
     store_next : (s : State) (v : Values) (xs : List ℕ) → Next None s
-        → ((x : ℕ) → is_among xs x ≡ true → (let a = abstract_at laid x in IsOfType laid a.scalar v)) → May (after_store around s v xs)
+        → ((x : ℕ) → is_among xs x ≡ true → (let a = abstract_at laid x in IsOfType laid a.scalar v))
+        → May (after_store around s v xs)
     store_next s v [] h typed = E.none_next laid task types around.is_live
     store_next s v (x ∷ xs) h typed =
         E.some_next laid task types around.is_live
         record {
           temps = Rattle.edge_actions.specs.transfer_rows.Rows.dropped (is_among (x ∷ xs)) s.temps;
-          cells = Rattle.value_heights.specs.tm_lattice.Tables.changed_table (stored_cell around v (x ∷ xs) (single_of around.is_smashed (x ∷ xs))) s.cells;
+          cells = Rattle.value_heights.specs.tm_lattice.Tables.changed_table
+              (stored_cell around v (x ∷ xs) (single_of around.is_smashed (x ∷ xs))) s.cells;
         }
-        (E.ended_next laid task types around.is_live s (is_among (x ∷ xs)) (stored_cell around v (x ∷ xs) (single_of around.is_smashed (x ∷ xs))) h (λ y c k.
-        E.stored_fits laid task types around.is_live around store weak sync held_in v (x ∷ xs) (single_of around.is_smashed (x ∷ xs)) y c
+        (E.ended_next laid task types around.is_live s (is_among (x ∷ xs))
+        (stored_cell around v (x ∷ xs) (single_of around.is_smashed (x ∷ xs))) h (λ y c k.
+        E.stored_fits laid task types around.is_live around store weak sync held_in v (x ∷
+        xs) (single_of around.is_smashed (x ∷ xs)) y c
         (λ b e z at. (single_is around (x ∷ xs) z (e ∙ at)).2) (typed y) k))
 
-    pub effect_next : (s : State) (action : Action) → ActionFits laid types s action → Next (target_of action) s → May (effect around action s store)
+    pub effect_next : (s : State) (action : Action) → ActionFits laid types s action → Next (target_of action) s
+        → May (effect around action s store)
     unfolding effect ActionFits target_of
     effect_next s skips fits h = E.some_next laid task types around.is_live s h
-    effect_next s (gives target calculation) fits h = E.given_next laid task types around.is_live s target (calculated calculation s) None h fits
+    effect_next s (gives target calculation) fits h =
+        E.given_next laid task types around.is_live s target (calculated calculation s) None h fits
     effect_next s (refines filter) fits h = filter_next s h filter fits
-    effect_next s (loads spots target address) fits h = load_next s target (targets_at spots (value_of s address).pointers) h fits
-    effect_next s (loads_any spots target address range) fits h = any_next s target (targets_at spots (value_of s address).pointers) range h fits
+    effect_next s (loads spots target address) fits h =
+        load_next s target (targets_at spots (value_of s address).pointers) h fits
+    effect_next s (loads_any spots target address range) fits h =
+        any_next s target (targets_at spots (value_of s address).pointers) range h fits
     effect_next s (stores spots address source) fits h =
-        store_next s (value_of s source) (targets_at spots (value_of s address).pointers) h (λ x k. fits x (value_of s source) k (E.value_typed laid task types around.is_live None s h source))
+        store_next s (value_of s source) (targets_at spots (value_of s address).pointers) h
+        (λ x k. fits x (value_of s source) k (E.value_typed laid task types around.is_live None s h source))
     effect_next s (clears cleared) fits h =
         E.some_next laid task types around.is_live
-        record { temps = Rattle.edge_actions.specs.transfer_rows.Rows.dropped (λ x. is_cleared (cleared x)) s.temps; cells = Rattle.value_heights.specs.tm_lattice.Tables.changed_table (λ x. cleared_to (cleared x)) s.cells }
-        (E.ended_next laid task types around.is_live s (λ x. is_cleared (cleared x)) (λ x. cleared_to (cleared x)) h (λ x c k. E.cleared_cell laid task types around.is_live (cleared x) x c (fits x) k))
+        record {
+          temps = Rattle.edge_actions.specs.transfer_rows.Rows.dropped (λ x. is_cleared (cleared x))
+              s.temps;
+          cells = Rattle.value_heights.specs.tm_lattice.Tables.changed_table (λ x. cleared_to (cleared x))
+              s.cells;
+        }
+        (E.ended_next laid task types around.is_live s (λ x. is_cleared (cleared x)) (λ x. cleared_to (cleared x)) h
+        (λ x c k. E.cleared_cell laid task types around.is_live (cleared x) x c (fits x) k))
     effect_next s (locks m) fits h =
         E.cond_next laid task types around.is_live (holds around m) (after_lock around s store m)
         (E.ended_next laid task types around.is_live s (λ x. true) (λ x c. aged (taken around store m x c)) h (λ x c k.
-        E.aged_cell laid task types around.is_live around store weak sync held_in x (taken around store m x c) (E.taken_cell laid task types around.is_live around store weak sync held_in m x c k)))
+        E.aged_cell laid task types around.is_live around store weak sync held_in x (taken around store m x c)
+        (E.taken_cell laid task types around.is_live around store weak sync held_in m x c k)))
     effect_next s (unlocks m) fits h =
-        E.where_next laid task types around.is_live (holds around m) (after_unlock s m) (E.cells_next laid task types around.is_live s (λ x c. released m c) h (released_cell m))
+        E.where_next laid task types around.is_live (holds around m) (after_unlock s m)
+        (E.cells_next laid task types around.is_live s (λ x c. released m c) h (released_cell m))
     effect_next s yields fits h =
         E.some_next laid task types around.is_live (Rattle.edge_actions.specs.transfer_rows.Rows.after_yield s)
-        (E.cells_next laid task types around.is_live s (λ x c. aged c) h (E.aged_cell laid task types around.is_live around store weak sync held_in))
-    effect_next s (probes m target true) fits h = E.given_next laid task types around.is_live s target (only_numbers (single (pos 1))) None h fits.0
+        (E.cells_next laid task types around.is_live s (λ x c. aged c) h
+        (E.aged_cell laid task types around.is_live around store weak sync held_in))
+    effect_next s (probes m target true) fits h =
+        E.given_next laid task types around.is_live s target (only_numbers (single (pos 1))) None h fits.0
     effect_next s (probes m target false) fits h =
         E.cond_next laid task types around.is_live (holds around m) (after_free around s store m target)
-        (E.ended_with laid task types around.is_live s target record { value = only_numbers (single (pos 0)); copy = None } (λ x. true) (taken around store m) h fits.1
+        (E.ended_with laid task types around.is_live s target
+        record { value = only_numbers (single (pos 0)); copy = None } (λ x. true) (taken around store m) h fits.1
         (E.taken_cell laid task types around.is_live around store weak sync held_in m))
 
   -- ## Arrival
 
   module _ (live : List ℕ) (lives : (t : ℕ) → around.is_live t ≡ is_among live t) where
-    entry_fits : (t : ℕ) (a : Option Temp) → is_among live t ≡ true → NextTemp laid task types around.is_live t a → FitsTemp laid types live t a
+    entry_fits : (t : ℕ) (a : Option Temp) → is_among live t ≡ true → NextTemp laid task types around.is_live t a
+        → FitsTemp laid types live t a
     entry_fits t None is h = absurd (true≢false (sym is ∙ (sym (lives t) ∙ h)))
     entry_fits t (Some e) is h = (is, h)
 
-    temp_fits : (t : ℕ) (a : Option Temp) → NextTemp laid task types around.is_live t a → FitsTemp laid types live t (cond (around.is_live t) a None)
+    temp_fits : (t : ℕ) (a : Option Temp) → NextTemp laid task types around.is_live t a
+        → FitsTemp laid types live t (cond (around.is_live t) a None)
     temp_fits t a h = by_live (is_among live t) refl
       where
         by_live : (b : Bool) → is_among live t ≡ b → FitsTemp laid types live t (cond (around.is_live t) a None)
-        by_live true is = subst (λ b. FitsTemp laid types live t (cond b a None)) (sym (lives t ∙ is)) (entry_fits t a is h)
+        by_live true is = subst (λ b. FitsTemp laid types live t (cond b a None)) (sym (lives t ∙ is))
+            (entry_fits t a is h)
         by_live false is = subst (λ b. FitsTemp laid types live t (cond b a None)) (sym (lives t ∙ is)) is
 
     -- the state that arrives fits the place at which these temporaries are live
-    pub arrived_fits : (s : State) → Next None s → IsStateForm (arrived around s) → FitsPlace laid task types live (arrived around s)
+    pub arrived_fits : (s : State) → Next None s → IsStateForm (arrived around s)
+        → FitsPlace laid task types live (arrived around s)
     arrived_fits s h form = record {
       form = form;
       temps = λ t. subst (FitsTemp laid types live t) (sym (get-kept s.temps around.is_live t))
-          (temp_fits t (get s.temps t) (h.temps t (λ e. absurd (let k : (let a : Option ℕ = None in a ≡ Some t) = e in cc))));
+          (temp_fits t (get s.temps t)
+          (h.temps t (λ e. absurd (let k : (let a : Option ℕ = None in a ≡ Some t) = e in cc))));
       cells = h.cells;
     }

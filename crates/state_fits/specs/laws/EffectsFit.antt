@@ -46,7 +46,8 @@ module _ (laid : LaidTree) (task : ℕ) (types : ℕ → Scalar) (next : ℕ →
   none_next s e = absurd (let h : (let k : Option State = None in k ≡ Some s) = e in cc)
 
   pub some_next : (x : State) → IsNext None x → MayBeNext (Some x)
-  some_next x h s e = subst (IsNext None) (let same : (let k : Option State = Some x in k ≡ Some s) = e in let is : x ≡ s = cc in is) h
+  some_next x h s e = subst (IsNext None) (let same : (let k : Option State = Some x in k ≡ Some s) = e in
+      let is : x ≡ s = cc in is) h
 
   pub cond_next : (b : Bool) (x : State) → IsNext None x → MayBeNext (cond b None (Some x))
   cond_next true x h = none_next
@@ -57,7 +58,8 @@ module _ (laid : LaidTree) (task : ℕ) (types : ℕ → Scalar) (next : ℕ →
   where_next false x h = none_next
 
   -- the value of a temporary is of its type
-  temp_typed : (t : ℕ) (a : Option Temp) → ((e : Temp) → a ≡ Some e → IsOfType laid (types t) e.value) → IsOfType laid (types t) (temp_value a)
+  temp_typed : (t : ℕ) (a : Option Temp) → ((e : Temp) → a ≡ Some e → IsOfType laid (types t) e.value)
+      → IsOfType laid (types t) (temp_value a)
   temp_typed t None h = none_of_type laid (types t)
   temp_typed t (Some e) h = h e refl
 
@@ -66,11 +68,15 @@ module _ (laid : LaidTree) (task : ℕ) (types : ℕ → Scalar) (next : ℕ →
 
   -- ## Changes of temporaries and cells
 
-  typed_next : (target : Option ℕ) (t : ℕ) (a : Option Temp) → NextTemp t a → (e : Temp) → a ≡ Some e → IsOfType laid (types t) e.value
+  typed_next : (target : Option ℕ) (t : ℕ) (a : Option Temp) → NextTemp t a → (e : Temp) → a ≡ Some e
+      → IsOfType laid (types t) e.value
   typed_next target t None h e at = absurd (let k : (let n : Option Temp = None in n ≡ Some e) = at in cc)
-  typed_next target t (Some d) h e at = subst (λ (x : Temp). IsOfType laid (types t) x.value) (let k : (let n : Option Temp = Some d in n ≡ Some e) = at in let same : d ≡ e = cc in same) h
+  typed_next target t (Some d) h e at =
+      subst (λ (x : Temp). IsOfType laid (types t) x.value) (let k : (let n : Option Temp = Some d in n ≡ Some e) =
+      at in let same : d ≡ e = cc in same) h
 
-  all_next : (s : State) → ((t : ℕ) → NextTemp t (get s.temps t)) → ((x : ℕ) → FitsCell laid task x (get s.cells x)) → IsNext None s
+  all_next : (s : State) → ((t : ℕ) → NextTemp t (get s.temps t)) → ((x : ℕ) → FitsCell laid task x (get s.cells x))
+      → IsNext None s
   all_next s temps cells = record {
     typed = λ t e at. typed_next None t (get s.temps t) (temps t) e at;
     temps = λ t other. temps t;
@@ -80,93 +86,135 @@ module _ (laid : LaidTree) (task : ℕ) (types : ℕ → Scalar) (next : ℕ →
   not_other : (k t : ℕ) → (t ≡ k → ⊥) → (let a : Option ℕ = Some k in a ≡ Some t) → ⊥
   not_other k t differ e = differ (let same : t ≡ k = cc in same)
 
-  inserted_next : (temps : Table Temp) (k : ℕ) (e : Temp) → ((t : ℕ) → ((let a : Option ℕ = Some k in a ≡ Some t) → ⊥) → NextTemp t (get temps t)) → IsOfType laid (types k) e.value
+  inserted_next : (temps : Table Temp) (k : ℕ) (e : Temp)
+      → ((t : ℕ) → ((let a : Option ℕ = Some k in a ≡ Some t) → ⊥) → NextTemp t (get temps t))
+      → IsOfType laid (types k) e.value
       → (t : ℕ) → NextTemp t (get (insert temps k e) t)
   inserted_next temps k e others typed t = elim (cases_eq t k) [
-    | inl here ↦ subst (NextTemp t) (sym (get-insert_here temps k e t here)) (subst (λ u. IsOfType laid (types u) e.value) (sym here) typed)
+    | inl here ↦ subst (NextTemp t) (sym (get-insert_here temps k e t here))
+        (subst (λ u. IsOfType laid (types u) e.value) (sym here) typed)
     | inr there ↦ subst (NextTemp t) (sym (get-insert_there temps k e t there)) (others t (not_other k t there))
   ]
 
   -- the target gets a value of its type
-  pub given_next : (s : State) (t : ℕ) (v : Values) (copy : Option ℕ) → IsNext (Some t) s → IsOfType laid (types t) v → MayBeNext (given s t v copy)
+  pub given_next : (s : State) (t : ℕ) (v : Values) (copy : Option ℕ) → IsNext (Some t) s → IsOfType laid (types t) v
+      → MayBeNext (given s t v copy)
   given_next s t v copy h typed =
       cond_next (is_no_value v) record s { temps = insert s.temps t record { value = v; copy = copy } }
       (all_next record s { temps = insert s.temps t record { value = v; copy = copy } }
       (inserted_next s.temps t record { value = v; copy = copy } h.temps typed) h.cells)
 
-  kept_temp : (test : ℕ → Bool) (t : ℕ) (a : Option Temp) → NextTemp t a → NextTemp t (changed_at (λ u (e : Temp). record e { copy = kept_copy test e.copy }) t a)
+  kept_temp : (test : ℕ → Bool) (t : ℕ) (a : Option Temp) → NextTemp t a
+      → NextTemp t (changed_at (λ u (e : Temp). record e { copy = kept_copy test e.copy }) t a)
   kept_temp test t None h = h
   kept_temp test t (Some e) h = h
 
-  dropped_next : (test : ℕ → Bool) (temps : Table Temp) (t : ℕ) → NextTemp t (get temps t) → NextTemp t (get (dropped test temps) t)
+  dropped_next : (test : ℕ → Bool) (temps : Table Temp) (t : ℕ) → NextTemp t (get temps t)
+      → NextTemp t (get (dropped test temps) t)
   dropped_next test temps t h =
-      subst (NextTemp t) (sym (get-changed_table (λ u (e : Temp). record e { copy = kept_copy test e.copy }) temps t)) (kept_temp test t (get temps t) h)
+      subst (NextTemp t) (sym (get-changed_table (λ u (e : Temp). record e { copy = kept_copy test e.copy }) temps t))
+      (kept_temp test t (get temps t) h)
 
-  changed_cell : (change : ℕ → Cell → Cell) (x : ℕ) (a : Option Cell) → ((c : Cell) → IsCellOf laid x c → IsCellOf laid x (change x c)) → FitsCell laid task x a → FitsCell laid task x (changed_at change x a)
+  changed_cell : (change : ℕ → Cell → Cell) (x : ℕ) (a : Option Cell)
+      → ((c : Cell) → IsCellOf laid x c → IsCellOf laid x (change x c)) → FitsCell laid task x a
+      → FitsCell laid task x (changed_at change x a)
   changed_cell change x None keeps h = h
   changed_cell change x (Some c) keeps h = (h.0, keeps c h.1)
 
-  pub changed_cells : (change : ℕ → Cell → Cell) (cells : Table Cell) → ((x : ℕ) (c : Cell) → IsCellOf laid x c → IsCellOf laid x (change x c))
-      → ((x : ℕ) → FitsCell laid task x (get cells x)) → (x : ℕ) → FitsCell laid task x (get (changed_table change cells) x)
+  pub changed_cells : (change : ℕ → Cell → Cell) (cells : Table Cell)
+      → ((x : ℕ) (c : Cell) → IsCellOf laid x c → IsCellOf laid x (change x c))
+      → ((x : ℕ) → FitsCell laid task x (get cells x)) → (x : ℕ)
+      → FitsCell laid task x (get (changed_table change cells) x)
   changed_cells change cells keeps h x =
-      subst (FitsCell laid task x) (sym (get-changed_table change cells x)) (changed_cell change x (get cells x) (keeps x) (h x))
+      subst (FitsCell laid task x) (sym (get-changed_table change cells x))
+      (changed_cell change x (get cells x) (keeps x) (h x))
 
   -- other cells, with the temporaries as they are, and with copies that end
-  pub cells_next : (s : State) (change : ℕ → Cell → Cell) → IsNext None s → ((x : ℕ) (c : Cell) → IsCellOf laid x c → IsCellOf laid x (change x c))
+  pub cells_next : (s : State) (change : ℕ → Cell → Cell) → IsNext None s
+      → ((x : ℕ) (c : Cell) → IsCellOf laid x c → IsCellOf laid x (change x c))
       → IsNext None record s { cells = changed_table change s.cells }
-  cells_next s change h keeps = all_next record s { cells = changed_table change s.cells } (λ t. h.temps t (λ e. absurd (let k : (let a : Option ℕ = None in a ≡ Some t) = e in cc))) (changed_cells change s.cells keeps h.cells)
+  cells_next s change h keeps =
+      all_next record s { cells = changed_table change s.cells }
+      (λ t. h.temps t (λ e. absurd (let k : (let a : Option ℕ = None in a ≡ Some t) = e in cc)))
+      (changed_cells change s.cells keeps h.cells)
 
-  pub ended_next : (s : State) (test : ℕ → Bool) (change : ℕ → Cell → Cell) → IsNext None s → ((x : ℕ) (c : Cell) → IsCellOf laid x c → IsCellOf laid x (change x c))
+  pub ended_next : (s : State) (test : ℕ → Bool) (change : ℕ → Cell → Cell) → IsNext None s
+      → ((x : ℕ) (c : Cell) → IsCellOf laid x c → IsCellOf laid x (change x c))
       → IsNext None record { temps = dropped test s.temps; cells = changed_table change s.cells }
   ended_next s test change h keeps =
       all_next record { temps = dropped test s.temps; cells = changed_table change s.cells }
-      (λ t. dropped_next test s.temps t (h.temps t (λ e. absurd (let k : (let a : Option ℕ = None in a ≡ Some t) = e in cc)))) (changed_cells change s.cells keeps h.cells)
+      (λ t. dropped_next test s.temps t
+      (h.temps t (λ e. absurd (let k : (let a : Option ℕ = None in a ≡ Some t) = e in cc))))
+      (changed_cells change s.cells keeps h.cells)
 
-  pub ended_with : (s : State) (k : ℕ) (e : Temp) (test : ℕ → Bool) (change : ℕ → Cell → Cell) → IsNext (Some k) s → IsOfType laid (types k) e.value
+  pub ended_with : (s : State) (k : ℕ) (e : Temp) (test : ℕ → Bool) (change : ℕ → Cell → Cell) → IsNext (Some k) s
+      → IsOfType laid (types k) e.value
       → ((x : ℕ) (c : Cell) → IsCellOf laid x c → IsCellOf laid x (change x c))
       → IsNext None record { temps = insert (dropped test s.temps) k e; cells = changed_table change s.cells }
   ended_with s k e test change h typed keeps =
       all_next record { temps = insert (dropped test s.temps) k e; cells = changed_table change s.cells }
-      (inserted_next (dropped test s.temps) k e (λ t other. dropped_next test s.temps t (h.temps t other)) typed) (changed_cells change s.cells keeps h.cells)
+      (inserted_next (dropped test s.temps) k e (λ t other. dropped_next test s.temps t (h.temps t other)) typed)
+      (changed_cells change s.cells keeps h.cells)
 
   -- ## Refinements
 
-  met_cell : (a : Option ℕ) (v : Values) (x : ℕ) (c : Cell) → IsValues v → AreObjects laid v.pointers → IsCellOf laid x c → IsCellOf laid x (met_where a v x c)
+  met_cell : (a : Option ℕ) (v : Values) (x : ℕ) (c : Cell) → IsValues v → AreObjects laid v.pointers
+      → IsCellOf laid x c → IsCellOf laid x (met_where a v x c)
   met_cell None v x c v-is v-are h = h
   met_cell (Some y) v x c v-is v-are h = by_case (eqb x y)
     where
       by_case : (b : Bool) → IsCellOf laid x (cond b (record c { value = met_values c.value v }) c)
-      by_case true = record { value = (let a = abstract_at laid x in met_of_type laid a.scalar c.value v h.value v-is v-are); pending = h.pending }
+      by_case true = record {
+        value =
+            (let a = abstract_at laid x in met_of_type laid a.scalar c.value v h.value v-is v-are);
+        pending = h.pending;
+      }
       by_case false = h
 
-  refined_is : (s : State) (t : ℕ) (v : Values) (copy : Option ℕ) → IsNext None s → IsOfType laid (types t) v → IsNext None (refined s t v copy)
+  refined_is : (s : State) (t : ℕ) (v : Values) (copy : Option ℕ) → IsNext None s → IsOfType laid (types t) v
+      → IsNext None (refined s t v copy)
   refined_is s t v copy h typed =
       all_next (refined s t v copy)
-      (inserted_next s.temps t record { value = v; copy = copy } (λ u other. h.temps u (λ e. absurd (let k : (let a : Option ℕ = None in a ≡ Some u) = e in cc))) typed)
-      (changed_cells (met_where copy v) s.cells (λ x c k. met_cell copy v x c (typed_values laid (types t) v typed) (typed_objects laid (types t) v typed) k) h.cells)
+      (inserted_next s.temps t record { value = v; copy = copy }
+      (λ u other. h.temps u (λ e. absurd (let k : (let a : Option ℕ = None in a ≡ Some u) = e in cc))) typed)
+      (changed_cells (met_where copy v) s.cells
+      (λ x c k. met_cell copy v x c (typed_values laid (types t) v typed) (typed_objects laid (types t) v typed)
+      k) h.cells)
 
-  from_next : (around : Around) (s : State) (t : ℕ) (v : Values) (a : Option Temp) → IsNext None s → IsOfType laid (types t) v → MayBeNext (refined_from around s t v a)
+  from_next : (around : Around) (s : State) (t : ℕ) (v : Values) (a : Option Temp) → IsNext None s
+      → IsOfType laid (types t) v → MayBeNext (refined_from around s t v a)
   from_next around s t v None h typed = none_next
-  from_next around s t v (Some e) h typed = cond_next (is_no_value v || is_contradicted around (refined s t v e.copy) e.copy) (refined s t v e.copy) (refined_is s t v e.copy h typed)
+  from_next around s t v (Some e) h typed =
+      cond_next (is_no_value v || is_contradicted around (refined s t v e.copy) e.copy) (refined s t v e.copy)
+      (refined_is s t v e.copy h typed)
 
-  pub refine_next : (around : Around) (s : State) (t : ℕ) (v : Values) → IsNext None s → IsOfType laid (types t) v → MayBeNext (after_refined around s t v)
+  pub refine_next : (around : Around) (s : State) (t : ℕ) (v : Values) → IsNext None s → IsOfType laid (types t) v
+      → MayBeNext (after_refined around s t v)
   refine_next around s t v h typed = from_next around s t v (get s.temps t) h typed
 
   -- ## Cells that are read and written
 
-  module _ (around : Around) (store : Interferences) (weak : (x : ℕ) → (let a = abstract_at laid x in AreTyped laid a.scalar x store.weak))
-      (sync : (x : ℕ) → (let a = abstract_at laid x in AreTyped laid a.scalar x store.sync)) (held_in : IsWithin around.reader.held 65535) where
-    pub found_typed : (x : ℕ) (a : Option Cell) → FitsCell laid task x a → (let c = abstract_at laid x in IsOfType laid c.scalar (found_in around store x a))
+  module _ (around : Around) (store : Interferences) (weak : (x : ℕ)
+      → (let a = abstract_at laid x in AreTyped laid a.scalar x store.weak))
+      (sync : (x : ℕ) → (let a = abstract_at laid x in AreTyped laid a.scalar x store.sync))
+      (held_in : IsWithin around.reader.held 65535) where
+    pub found_typed : (x : ℕ) (a : Option Cell) → FitsCell laid task x a
+        → (let c = abstract_at laid x in IsOfType laid c.scalar (found_in around store x a))
     found_typed x None h = (let c = abstract_at laid x in none_of_type laid c.scalar)
     found_typed x (Some c) h =
         let a = abstract_at laid x in
-        joined_of_type laid a.scalar c.value (cond (around.is_shared x) (visible around.reader c.fresh x store) no_value) h.1.value
-        (cond_typed laid a.scalar (around.is_shared x) (visible around.reader c.fresh x store) no_value (visible_typed laid a.scalar around.reader c.fresh x store (weak x)) (none_of_type laid a.scalar))
+        joined_of_type laid a.scalar c.value
+        (cond (around.is_shared x) (visible around.reader c.fresh x store) no_value) h.1.value
+        (cond_typed laid a.scalar (around.is_shared x) (visible around.reader c.fresh x store) no_value
+        (visible_typed laid a.scalar around.reader c.fresh x store (weak x)) (none_of_type laid a.scalar))
 
     pub taken_cell : (m x : ℕ) (c : Cell) → IsCellOf laid x c → IsCellOf laid x (taken around store m x c)
     taken_cell m x c h = record {
-      value = (let a = abstract_at laid x in joined_of_type laid a.scalar c.value (cond (around.is_shared x) (handed around.reader.task m x store) no_value) h.value
-          (cond_typed laid a.scalar (around.is_shared x) (handed around.reader.task m x store) no_value (handed_typed laid a.scalar around.reader.task m x store (sync x)) (none_of_type laid a.scalar)));
+      value = (let a = abstract_at laid x in
+          joined_of_type laid a.scalar c.value
+          (cond (around.is_shared x) (handed around.reader.task m x store) no_value) h.value
+          (cond_typed laid a.scalar (around.is_shared x) (handed around.reader.task m x store) no_value
+          (handed_typed laid a.scalar around.reader.task m x store (sync x)) (none_of_type laid a.scalar)));
       pending = h.pending;
     }
 
@@ -177,19 +225,24 @@ module _ (laid : LaidTree) (task : ℕ) (types : ℕ → Scalar) (next : ℕ →
     cond_within true p q h k = h
     cond_within false p q h k = k
 
-    pub stored_fits : (v : Values) (xs : List ℕ) (a : Option ℕ) (y : ℕ) (c : Cell) → ((b : Option ℕ) → a ≡ b → (x : ℕ) → b ≡ Some x → is_among xs x ≡ true)
-        → (is_among xs y ≡ true → (let k = abstract_at laid y in IsOfType laid k.scalar v)) → IsCellOf laid y c → IsCellOf laid y (stored_cell around v xs a y c)
+    pub stored_fits : (v : Values) (xs : List ℕ) (a : Option ℕ) (y : ℕ) (c : Cell)
+        → ((b : Option ℕ) → a ≡ b → (x : ℕ) → b ≡ Some x → is_among xs x ≡ true)
+        → (is_among xs y ≡ true → (let k = abstract_at laid y in IsOfType laid k.scalar v)) → IsCellOf laid y c
+        → IsCellOf laid y (stored_cell around v xs a y c)
     stored_fits v xs None y c among typed h = by_test (is_among xs y) refl
       where
-        by_test : (b : Bool) → is_among xs y ≡ b → IsCellOf laid y (cond b (joining (around.is_shared y) around.reader.held v c) c)
+        by_test : (b : Bool) → is_among xs y ≡ b
+            → IsCellOf laid y (cond b (joining (around.is_shared y) around.reader.held v c) c)
         by_test true is = record {
           value = (let k = abstract_at laid y in joined_of_type laid k.scalar c.value v h.value (typed is));
-          pending = cond_within (around.is_shared y) (bit_or c.pending around.reader.held) c.pending (within_least c.pending around.reader.held 65535 h.pending held_in) h.pending;
+          pending = cond_within (around.is_shared y) (bit_or c.pending around.reader.held) c.pending
+              (within_least c.pending around.reader.held 65535 h.pending held_in) h.pending;
         }
         by_test false is = h
     stored_fits v xs (Some x) y c among typed h = by_test (eqb y x) refl
       where
-        by_test : (b : Bool) → eqb y x ≡ b → IsCellOf laid y (cond b (overwriting (around.is_shared y) around.reader.held v c) c)
+        by_test : (b : Bool) → eqb y x ≡ b
+            → IsCellOf laid y (cond b (overwriting (around.is_shared y) around.reader.held v c) c)
         by_test true is =
             let same : y ≡ x = Rattle.std.proofs.lemmas.Bool.eqb-true y x is in
             record {
@@ -198,6 +251,8 @@ module _ (laid : LaidTree) (task : ℕ) (types : ℕ → Scalar) (next : ℕ →
             }
         by_test false is = h
 
-  pub cleared_cell : (a : Option Values) (x : ℕ) (c : Cell) → ((v : Values) → a ≡ Some v → (let k = abstract_at laid x in IsOfType laid k.scalar v)) → IsCellOf laid x c → IsCellOf laid x (cleared_to a c)
+  pub cleared_cell : (a : Option Values) (x : ℕ) (c : Cell)
+      → ((v : Values) → a ≡ Some v → (let k = abstract_at laid x in IsOfType laid k.scalar v)) → IsCellOf laid x c
+      → IsCellOf laid x (cleared_to a c)
   cleared_cell None x c typed h = h
   cleared_cell (Some v) x c typed h = record { value = typed v refl; pending = h.pending }

@@ -1,5 +1,6 @@
 -- An operation that fits the types of its temporaries is an action that fits.
-use Rattle.std.specs.Prelude.{◌≡◌, ℕ, ◌<◌, [], ◌∷◌, ◌&&◌, nat_le, nat_lt, ◌+◌, Bool, true, false, cond, ℤ, pos, List, length, Option, Some, None, refl}
+use Rattle.std.specs.Prelude.{◌≡◌, ℕ, ◌<◌, [], ◌∷◌, ◌&&◌, nat_le, nat_lt, ◌+◌, Bool, true, false, cond, ℤ, pos, List}
+use Rattle.std.specs.Prelude.{length, Option, Some, None, refl}
 use Rattle.std.proofs.Common.{sym, ap, subst, ◌∙◌, inl, inr, arith}
 use Rattle.std.proofs.lemmas.Int.{ints}
 use Rattle.std.proofs.lemmas.Bool.{cases_eq}
@@ -44,7 +45,8 @@ use Rattle.edge_actions.specs.transfer_rows.Accesses.{leads, is_among, targets_a
 use Rattle.edge_actions.specs.transfer_rows.Calculations.{calculated}
 use Rattle.edge_actions.proofs.low.transfer_rows.Steps.{among_cons}
 use Rattle.edge_actions.specs.Layouts.{numbers_between, only_invalid, open_value, spots_of}
-use Rattle.edge_actions.specs.Edges.{only_null, pointer_within, pointer_value, constant_value, filter_of, cleared_value, action_of}
+use Rattle.edge_actions.specs.Edges.{only_null, pointer_within, pointer_value, constant_value, filter_of, cleared_value}
+use Rattle.edge_actions.specs.Edges.{action_of}
 use Rattle.edge_actions.proofs.ActionForms.{edge_is}
 use Rattle.edge_actions.proofs.Ranges.{one_range}
 use Rattle.typed_values.specs.Types.{AreObjects, IsOfType, HoldsNumber, HoldsPointers, HaveSameValues}
@@ -89,34 +91,47 @@ module _ (laid : LaidTree) where
   number_typed (Scalars.Int t) n h = (single_values t n h, refl)
   number_typed (Scalars.Pointer c) n h = absurd h
 
-  numbers_typed : (scalar : Scalar) (t : IntType) (n : Progression) → scalar ≡ Scalars.Int t → AreValues t n → IsOfType laid scalar (only_numbers n)
+  numbers_typed : (scalar : Scalar) (t : IntType) (n : Progression) → scalar ≡ Scalars.Int t → AreValues t n
+      → IsOfType laid scalar (only_numbers n)
   numbers_typed scalar t n same h = subst (λ u. IsOfType laid u (only_numbers n)) (sym same) (h, refl)
 
-  pointer_typed : (scalar : Scalar) (p : PointerSet) → HoldsPointers scalar → IsPointers p → AreObjects laid p → IsOfType laid scalar (only_pointers p)
+  pointer_typed : (scalar : Scalar) (p : PointerSet) → HoldsPointers scalar → IsPointers p → AreObjects laid p
+      → IsOfType laid scalar (only_pointers p)
   pointer_typed (Scalars.Int t) p h p-is p-are = absurd h
   pointer_typed (Scalars.Pointer c) p h p-is p-are = (refl, p-is, p-are)
 
-  any_typed : (scalar : Scalar) (low high : ℤ) → HoldsNumber scalar low → HoldsNumber scalar high → IsOfType laid scalar (only_numbers (numbers_between low high))
+  any_typed : (scalar : Scalar) (low high : ℤ) → HoldsNumber scalar low → HoldsNumber scalar high
+      → IsOfType laid scalar (only_numbers (numbers_between low high))
   any_typed (Scalars.Int t) low high h k = (between_values t low high h k, refl)
   any_typed (Scalars.Pointer c) low high h k = absurd h
 
   nowhere : (p : PointerSet) → p.objects ≡ map.empty → AreObjects laid p
-  nowhere p none object o at = absurd (let e : (let n : Option OffsetSet = None in n ≡ Some o) = sym (get-empty nat_cmp object) ∙ (ap (λ t. get t object) (sym none) ∙ at) in cc)
+  nowhere p none object o at =
+      absurd (let e : (let n : Option OffsetSet = None in n ≡ Some o) =
+      sym (get-empty nat_cmp object) ∙ (ap (λ t. get t object) (sym none) ∙ at) in cc)
 
-  to_object : (object offset : ℕ) → object < length laid.objects → AreObjects laid (pointer_to object (object_at laid object).cells offset)
+  to_object : (object offset : ℕ) → object < length laid.objects
+      → AreObjects laid (pointer_to object (object_at laid object).cells offset)
   to_object object offset exists k o at = elim (cases_eq k object) [
     | inl here ↦
         let found : Some record { size = (object_at laid object).cells; offsets = single (pos offset) } ≡ Some o =
-        sym (get-insert_here map.empty object record { size = (object_at laid object).cells; offsets = single (pos offset) } k here) ∙ at in
-        let same : record { size = (object_at laid object).cells; offsets = single (pos offset) } ≡ o = cc in
-        (subst (λ z. z < length laid.objects) (sym here) exists, sym (ap (λ (x : OffsetSet). x.size) same) ∙ ap (λ z. (object_at laid z).cells) (sym here))
-    | inr there ↦ nowhere no_pointer refl k o (sym (get-insert_there map.empty object record { size = (object_at laid object).cells; offsets = single (pos offset) } k there) ∙ at)
+        sym (get-insert_here map.empty object
+        record { size = (object_at laid object).cells; offsets = single (pos offset) } k here) ∙ at in
+        let same : record { size = (object_at laid object).cells; offsets = single (pos offset) } ≡ o = cc in (
+          subst (λ z. z < length laid.objects) (sym here) exists,
+          sym (ap (λ (x : OffsetSet). x.size) same) ∙ ap (λ z. (object_at laid z).cells) (sym here),
+        )
+    | inr there ↦ nowhere no_pointer refl k o
+        (sym (get-insert_there map.empty object
+        record { size = (object_at laid object).cells; offsets = single (pos offset) } k there) ∙ at)
   ]
 
-  within_object : (object offset : ℕ) → object < length laid.objects → AreObjects laid (pointer_within object (object_at laid object).cells offset)
+  within_object : (object offset : ℕ) → object < length laid.objects
+      → AreObjects laid (pointer_within object (object_at laid object).cells offset)
   within_object object offset exists = by_test (nat_le offset (object_at laid object).cells)
     where
-      by_test : (b : Bool) → AreObjects laid (cond b (pointer_to object (object_at laid object).cells offset) no_pointer)
+      by_test : (b : Bool) → AreObjects laid
+          (cond b (pointer_to object (object_at laid object).cells offset) no_pointer)
       by_test true = to_object object offset exists
       by_test false = nowhere no_pointer refl
 
@@ -125,14 +140,17 @@ module _ (laid : LaidTree) where
   address_objects Pointers.Invalid h = nowhere only_invalid refl
   address_objects (Pointers.To object offset) h = within_object object offset h
 
-  constant_typed : (scalar : Scalar) (v : Value) → IsValues (constant_value laid v) → IsConstantOf laid scalar v → IsOfType laid scalar (constant_value laid v)
+  constant_typed : (scalar : Scalar) (v : Value) → IsValues (constant_value laid v) → IsConstantOf laid scalar v
+      → IsOfType laid scalar (constant_value laid v)
   constant_typed scalar (Constant.Number n) is h = number_typed scalar n h
-  constant_typed scalar (Constant.Pointer p) is h = pointer_typed scalar (pointer_value laid p) h.0 is (address_objects p h.1)
+  constant_typed scalar (Constant.Pointer p) is h =
+      pointer_typed scalar (pointer_value laid p) h.0 is (address_objects p h.1)
 
   open_typed : (scalar : Scalar) → IsValues (open_value scalar) → IsOfType laid scalar (open_value scalar)
   open_typed (Scalars.Int t) is =
       let zero = zero_in t in (
-        between_values t (lo_of t) (hi_of t) (record { at_least = omega (arith, ints); at_most = omega (arith, ints, zero.at_least, zero.at_most) })
+        between_values t (lo_of t) (hi_of t)
+            (record { at_least = omega (arith, ints); at_most = omega (arith, ints, zero.at_least, zero.at_most) })
             (record { at_least = omega (arith, ints, zero.at_least, zero.at_most); at_most = omega (arith, ints) }),
         refl,
       )
@@ -141,12 +159,14 @@ module _ (laid : LaidTree) where
   -- ## Accesses
 
   -- what is among the targets is the cell of a spot
-  spot_of : (spots : List Spot) (p : PointerSet) (x : ℕ) → is_among (targets_at spots p) x ≡ true → (spot : Spot) × ((IsSpotOf spots spot) × (x ≡ spot.cell))
+  spot_of : (spots : List Spot) (p : PointerSet) (x : ℕ) → is_among (targets_at spots p) x ≡ true → (spot : Spot)
+      × ((IsSpotOf spots spot) × (x ≡ spot.cell))
   spot_of [] p x h = absurd (Rattle.std.proofs.lemmas.Bool.false≢true h)
   spot_of (spot ∷ spots) p x h = by_lead (λ k. spot_of spots p x k) (leads p spot.object spot.offset) h
     where
       by_lead : (is_among (targets_at spots p) x ≡ true → (s : Spot) × ((IsSpotOf spots s) × (x ≡ s.cell))) → (b : Bool)
-          → is_among (cond b (spot.cell ∷ targets_at spots p) (targets_at spots p)) x ≡ true → (s : Spot) × ((IsSpotOf (spot ∷ spots) s) × (x ≡ s.cell))
+          → is_among (cond b (spot.cell ∷ targets_at spots p) (targets_at spots p)) x ≡ true → (s : Spot)
+          × ((IsSpotOf (spot ∷ spots) s) × (x ≡ s.cell))
       by_lead later true k = elim (among_cons spot.cell x (targets_at spots p) k) [
         | inl here ↦ (spot, (inl refl, here))
         | inr there ↦ let r = later there in (r.0, (inr r.1.0, r.1.1))
@@ -154,18 +174,25 @@ module _ (laid : LaidTree) where
       by_lead later false k = let r = later k in (r.0, (inr r.1.0, r.1.1))
 
   module _ (task : ℕ) (agree : SpotsAgree laid task) where
-    target_type : (scalar : Scalar) (p : PointerSet) (x : ℕ) → is_among (targets_at (spots_of laid task scalar) p) x ≡ true → (let a = abstract_at laid x in HaveSameValues a.scalar scalar)
+    target_type : (scalar : Scalar) (p : PointerSet) (x : ℕ)
+        → is_among (targets_at (spots_of laid task scalar) p) x ≡ true
+        → (let a = abstract_at laid x in HaveSameValues a.scalar scalar)
     target_type scalar p x h =
         let r = spot_of (spots_of laid task scalar) p x h in
         subst (λ z. (let a = abstract_at laid z in HaveSameValues a.scalar scalar)) (sym r.1.1) (agree scalar r.0 r.1.0)
 
-    cleared_typed : (object x : ℕ) (v : Values) → IsValues v → cleared_value laid object x ≡ Some v → (let a = abstract_at laid x in IsOfType laid a.scalar v)
-    cleared_typed object x v is at = by_test (nat_le (object_at laid object).first_abstract x && nat_lt x ((object_at laid object).first_abstract + (object_at laid object).abstract_cells)) at
+    cleared_typed : (object x : ℕ) (v : Values) → IsValues v → cleared_value laid object x ≡ Some v
+        → (let a = abstract_at laid x in IsOfType laid a.scalar v)
+    cleared_typed object x v is at =
+        by_test (nat_le (object_at laid object).first_abstract x && nat_lt x
+        ((object_at laid object).first_abstract + (object_at laid object).abstract_cells)) at
       where
-        by_test : (b : Bool) → cond b (Some (open_value (abstract_at laid x).scalar)) None ≡ Some v → (let a = abstract_at laid x in IsOfType laid a.scalar v)
+        by_test : (b : Bool) → cond b (Some (open_value (abstract_at laid x).scalar)) None ≡ Some v
+            → (let a = abstract_at laid x in IsOfType laid a.scalar v)
         by_test true e =
             let same : open_value (abstract_at laid x).scalar ≡ v = cc in
-            subst (λ w. (let a = abstract_at laid x in IsOfType laid a.scalar w)) same (open_typed (abstract_at laid x).scalar (subst IsValues (sym same) is))
+            subst (λ w. (let a = abstract_at laid x in IsOfType laid a.scalar w)) same
+            (open_typed (abstract_at laid x).scalar (subst IsValues (sym same) is))
         by_test false e = absurd (let k : (let n : Option Values = None in n ≡ Some v) = e in cc)
 
     -- ## Filters
@@ -175,7 +202,8 @@ module _ (laid : LaidTree) where
       side_null = (null_is, nowhere only_null refl)
         where
           null_is : IsPointers only_null
-          null_is = of_constant 0 (constant_value laid (Constant.Pointer Pointers.Null)) (edge_is laid task false false (Op.Const 0 (Constant.Pointer Pointers.Null)))
+          null_is = of_constant 0 (constant_value laid (Constant.Pointer Pointers.Null))
+              (edge_is laid task false false (Op.Const 0 (Constant.Pointer Pointers.Null)))
 
       filter_fits : (pointers : Bool) (test : Test) → FilterFits laid types (filter_of pointers test)
       filter_fits true (Tests.Numbers operator of left right) = tt
@@ -200,46 +228,73 @@ module _ (laid : LaidTree) where
         are_objects t = typed_objects laid (types t) (value_of s t) (typed t)
 
         cleared_is : (object x : ℕ) (v : Values) → cleared_value laid object x ≡ Some v → IsValues v
-        cleared_is object x v at = of_clear (cleared_value laid object) (edge_is laid task pointers answer (Op.Clear object)) x v at
+        cleared_is object x v at =
+            of_clear (cleared_value laid object) (edge_is laid task pointers answer (Op.Clear object)) x v at
           where
-            of_clear : (cleared : ℕ → Option Values) → IsAction (Rattle.edge_actions.specs.transfer_rows.Actions.clears cleared) → (x : ℕ) (v : Values) → cleared x ≡ Some v → IsValues v
+            of_clear : (cleared : ℕ → Option Values)
+                → IsAction (Rattle.edge_actions.specs.transfer_rows.Actions.clears cleared) → (x : ℕ) (v : Values)
+                → cleared x ≡ Some v → IsValues v
             of_clear cleared (Rattle.edge_actions.specs.transfer_rows.Actions.clears_is h) = h
 
         pub operation_fits : (op : Operation) → FitsTypes laid types op → Fits op
         unfolding FitsTypes ActionFits calculated
         operation_fits Op.Skip h = tt
-        operation_fits (Op.Const to value) h = constant_typed (types to) value (of_constant to (constant_value laid value) (edge_is laid task pointers answer (Op.Const to value))) h
+        operation_fits (Op.Const to value) h =
+            constant_typed (types to) value
+            (of_constant to (constant_value laid value) (edge_is laid task pointers answer (Op.Const to value))) h
         operation_fits (Op.Copy to from) h = same_type laid (types from) (types to) (value_of s from) h (typed from)
-        operation_fits (Op.Un to Unaries.Negate of from place) h = numbers_typed (types to) of _ h.0 (operated_values Sub of (single (pos 0)) (value_of s from).numbers)
-        operation_fits (Op.Un to Unaries.Complement of from place) h = numbers_typed (types to) of _ h.0 (operated_values Sub of (single (ones_of of)) (value_of s from).numbers)
+        operation_fits (Op.Un to Unaries.Negate of from place) h = numbers_typed (types to) of
+            _ h.0 (operated_values Sub of (single (pos 0)) (value_of s from).numbers)
+        operation_fits (Op.Un to Unaries.Complement of from place) h = numbers_typed (types to) of
+            _ h.0 (operated_values Sub of (single (ones_of of)) (value_of s from).numbers)
         operation_fits (Op.Bin to operator of left right place) h =
-            numbers_typed (types to) (result_type operator of) _ h.0 (operated_values operator of (value_of s left).numbers (value_of s right).numbers)
-        operation_fits (Op.BinPointers to equal left right) h = numbers_typed (types to) Ints.Int _ h (equality_values equal (value_of s left).pointers (value_of s right).pointers)
-        operation_fits (Op.Convert to was of from) h = numbers_typed (types to) of _ h.0 (converted_values of (value_of s from).numbers)
+            numbers_typed (types to) (result_type operator of) _ h.0 (operated_values operator of
+            (value_of s left).numbers (value_of s right).numbers)
+        operation_fits (Op.BinPointers to equal left right) h =
+            numbers_typed (types to) Ints.Int _ h
+            (equality_values equal (value_of s left).pointers (value_of s right).pointers)
+        operation_fits (Op.Convert to was of from) h = numbers_typed (types to) of
+            _ h.0 (converted_values of (value_of s from).numbers)
         operation_fits (Op.Base to object) h =
             pointer_typed (types to) (pointer_to object (object_at laid object).cells 0) h.0
-            (of_constant to (only_pointers (pointer_to object (object_at laid object).cells 0)) (edge_is laid task pointers answer (Op.Base to object))) (to_object object 0 h.1)
+            (of_constant to (only_pointers (pointer_to object (object_at laid object).cells 0))
+            (edge_is laid task pointers answer (Op.Base to object))) (to_object object 0 h.1)
         operation_fits (Op.Offset to from cells) h =
-            pointer_typed (types to) (P.offset_by cells (value_of s from).pointers) h.0 (offset_by_fits cells (value_of s from).pointers) (part_objects laid cells (value_of s from).pointers (are_objects from))
+            pointer_typed (types to) (P.offset_by cells (value_of s from).pointers) h.0
+            (offset_by_fits cells (value_of s from).pointers)
+            (part_objects laid cells (value_of s from).pointers (are_objects from))
         operation_fits (Op.Index to from count cells by place) h =
-            pointer_typed (types to) (P.indexed count cells (value_of s by).numbers (value_of s from).pointers) h.0 (indexed_fits count cells (value_of s by).numbers (value_of s from).pointers)
+            pointer_typed (types to) (P.indexed count cells (value_of s by).numbers (value_of s from).pointers) h.0
+            (indexed_fits count cells (value_of s by).numbers (value_of s from).pointers)
             (element_objects laid count cells (value_of s by).numbers (value_of s from).pointers (are_objects from))
         operation_fits (Op.Move to from cells minus by place) h =
-            pointer_typed (types to) (P.moved (Rattle.std.specs.Prelude.not minus) cells (value_of s by).numbers (value_of s from).pointers) h.0
+            pointer_typed (types to)
+            (P.moved (Rattle.std.specs.Prelude.not minus) cells (value_of s by).numbers
+            (value_of s from).pointers) h.0
             (moved_fits (Rattle.std.specs.Prelude.not minus) cells (value_of s by).numbers (value_of s from).pointers)
-            (moved_objects laid (Rattle.std.specs.Prelude.not minus) cells (value_of s by).numbers (value_of s from).pointers (are_objects from))
+            (moved_objects laid (Rattle.std.specs.Prelude.not minus) cells (value_of s by).numbers
+            (value_of s from).pointers (are_objects from))
         operation_fits (Op.Deref to from target path place) h =
-            pointer_typed (types to) (P.dereferenced (is_alive laid path) (λ object offset. stands_at laid object offset target) (value_of s from).pointers) h.0
-            (dereferenced_fits (is_alive laid path) (λ object offset. stands_at laid object offset target) (value_of s from).pointers (is_pointers from))
-            (reached_objects laid (is_alive laid path) (λ object offset. stands_at laid object offset target) (value_of s from).pointers (is_pointers from) (are_objects from))
+            pointer_typed (types to)
+            (P.dereferenced (is_alive laid path) (λ object offset. stands_at laid object offset target)
+            (value_of s from).pointers) h.0
+            (dereferenced_fits (is_alive laid path) (λ object offset. stands_at laid object offset target)
+            (value_of s from).pointers (is_pointers from))
+            (reached_objects laid (is_alive laid path) (λ object offset. stands_at laid object offset target)
+            (value_of s from).pointers (is_pointers from) (are_objects from))
         operation_fits (Op.Load to address scalar place) h = λ x v among v-typed.
             let a = abstract_at laid x in
-            same_type laid scalar (types to) v h (same_type laid a.scalar scalar v (target_type scalar (value_of s address).pointers x among) v-typed)
+            same_type laid scalar (types to) v h
+            (same_type laid a.scalar scalar v (target_type scalar (value_of s address).pointers x among) v-typed)
         operation_fits (Op.LoadAny to address scalar place) h =
-            same_type laid scalar (types to) (open_value scalar) h (open_typed scalar (of_range (spots_of laid task scalar) to address (open_value scalar) (edge_is laid task pointers answer (Op.LoadAny to address scalar place))))
+            same_type laid scalar (types to) (open_value scalar) h
+            (open_typed scalar (of_range (spots_of laid task scalar) to address (open_value scalar)
+            (edge_is laid task pointers answer (Op.LoadAny to address scalar place))))
         operation_fits (Op.Store address value scalar into place) h = λ x v among v-typed.
             let a = abstract_at laid x in
-            same_type laid scalar a.scalar v (same_flipped a.scalar scalar (target_type scalar (value_of s address).pointers x among)) (same_type laid (types value) scalar v h v-typed)
+            same_type laid scalar a.scalar v
+            (same_flipped a.scalar scalar (target_type scalar (value_of s address).pointers x among))
+            (same_type laid (types value) scalar v h v-typed)
         operation_fits (Op.Any to low high) h = any_typed (types to) low high h.0 h.1
         operation_fits (Op.Clear object) h = λ x v at. cleared_typed object x v (cleared_is object x v at) at
         operation_fits (Op.Usable pointer place) h = tt
@@ -247,11 +302,14 @@ module _ (laid : LaidTree) where
         operation_fits (Op.Lock mutex place) h = tt
         operation_fits (Op.Unlock mutex place) h = tt
         operation_fits Op.Yield h = tt
-        operation_fits (Op.Probe to mutex place) h =
-            (numbers_typed (types to) Ints.Int (single (pos 1)) h (single_values Ints.Int (pos 1) (truth-in true)), numbers_typed (types to) Ints.Int (single (pos 0)) h (single_values Ints.Int (pos 0) (truth-in false)))
+        operation_fits (Op.Probe to mutex place) h = (
+          numbers_typed (types to) Ints.Int (single (pos 1)) h (single_values Ints.Int (pos 1) (truth-in true)),
+          numbers_typed (types to) Ints.Int (single (pos 0)) h (single_values Ints.Int (pos 0) (truth-in false)),
+        )
 
   -- an action gives the temporary that its operation gives
-  pub targets_are_given : (task : ℕ) (pointers answer : Bool) (op : Operation) → target_of (action_of laid task pointers answer op) ≡ given op
+  pub targets_are_given : (task : ℕ) (pointers answer : Bool) (op : Operation)
+      → target_of (action_of laid task pointers answer op) ≡ given op
   unfolding target_of
   targets_are_given task pointers answer Op.Skip = refl
   targets_are_given task pointers answer (Op.Const to value) = refl

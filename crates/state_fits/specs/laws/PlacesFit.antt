@@ -31,21 +31,27 @@ abbrev AnyMarks : List ℤ → Type 0
 AnyMarks marks = Unit {0}
 
 pub states_order : IsOrder IsStateForm IsStateUnder
-states_order = state_order Values_are AnyMarks Values_under joined_values rounded_values values_order values_join values_closure
+states_order = state_order Values_are AnyMarks Values_under joined_values rounded_values values_order values_join
+    values_closure
 
 pub states_join : IsJoin IsStateForm IsStateUnder (joined_state joined_values)
-states_join = state_join Values_are AnyMarks Values_under joined_values rounded_values values_order values_join values_closure
+states_join = state_join Values_are AnyMarks Values_under joined_values rounded_values values_order values_join
+    values_closure
 
-pub states_round : (cells : List ℕ) → IsClosure IsStateForm AnyMarks IsStateUnder (λ marks. rounded_state_at (rounded_values marks) cells)
-states_round cells = state_closure_at Values_are AnyMarks Values_under joined_values rounded_values values_order values_join values_closure cells
+pub states_round : (cells : List ℕ)
+    → IsClosure IsStateForm AnyMarks IsStateUnder (λ marks. rounded_state_at (rounded_values marks) cells)
+states_round cells = state_closure_at Values_are AnyMarks Values_under joined_values rounded_values values_order
+    values_join values_closure cells
 
 module _ (laid : LaidTree) (task : ℕ) (types : ℕ → Scalar) (live : List ℕ) where
-  join_temp : (t : ℕ) (a b : Option Temp) → FitsTemp laid types live t a → FitsTemp laid types live t b → FitsTemp laid types live t (joined_at (joined_temp joined_values) a b)
+  join_temp : (t : ℕ) (a b : Option Temp) → FitsTemp laid types live t a → FitsTemp laid types live t b
+      → FitsTemp laid types live t (joined_at (joined_temp joined_values) a b)
   join_temp t None b h k = k
   join_temp t (Some e) None h k = h
   join_temp t (Some e) (Some f) h k = (h.0, joined_of_type laid (types t) e.value f.value h.1 k.1)
 
-  join_cell : (x : ℕ) (a b : Option Cell) → FitsCell laid task x a → FitsCell laid task x b → FitsCell laid task x (joined_at (joined_cell joined_values) a b)
+  join_cell : (x : ℕ) (a b : Option Cell) → FitsCell laid task x a → FitsCell laid task x b
+      → FitsCell laid task x (joined_at (joined_cell joined_values) a b)
   join_cell x None b h k = k
   join_cell x (Some c) None h k = h
   join_cell x (Some c) (Some d) h k = (
@@ -56,23 +62,35 @@ module _ (laid : LaidTree) (task : ℕ) (types : ℕ → Scalar) (live : List �
     },
   )
 
-  pub joined_fits : (s t : State) → FitsPlace laid task types live s → FitsPlace laid task types live t → FitsPlace laid task types live (joined_state joined_values s t)
+  pub joined_fits : (s t : State) → FitsPlace laid task types live s → FitsPlace laid task types live t
+      → FitsPlace laid task types live (joined_state joined_values s t)
   joined_fits s t h k = record {
     form = states_join.value s t h.form k.form;
-    temps = λ u. subst (FitsTemp laid types live u) (sym (get-joined_table (joined_temp joined_values) s.temps t.temps u)) (join_temp u (get s.temps u) (get t.temps u) (h.temps u) (k.temps u));
-    cells = λ x. subst (FitsCell laid task x) (sym (get-joined_table (joined_cell joined_values) s.cells t.cells x)) (join_cell x (get s.cells x) (get t.cells x) (h.cells x) (k.cells x));
+    temps = λ u. subst (FitsTemp laid types live u)
+        (sym (get-joined_table (joined_temp joined_values) s.temps t.temps u))
+        (join_temp u (get s.temps u) (get t.temps u) (h.temps u) (k.temps u));
+    cells = λ x. subst (FitsCell laid task x) (sym (get-joined_table (joined_cell joined_values) s.cells t.cells x))
+        (join_cell x (get s.cells x) (get t.cells x) (h.cells x) (k.cells x));
   }
 
-  round_cell : (marks : List ℤ) (cells : List ℕ) → HaveEnds marks → (x : ℕ) (c : Cell) → IsCellOf laid x c → IsCellOf laid x (rounded_among (rounded_cell (rounded_values marks)) cells x c)
+  round_cell : (marks : List ℤ) (cells : List ℕ) → HaveEnds marks → (x : ℕ) (c : Cell) → IsCellOf laid x c
+      → IsCellOf laid x (rounded_among (rounded_cell (rounded_values marks)) cells x c)
   round_cell marks cells ends x c h = by_test (list_any (λ k. k == x) cells)
     where
       by_test : (b : Bool) → IsCellOf laid x (cond b (rounded_cell (rounded_values marks) c) c)
-      by_test true = record { value = (let a = abstract_at laid x in rounded_of_type laid marks a.scalar c.value ends h.value); pending = h.pending }
+      by_test true = record {
+        value =
+            (let a = abstract_at laid x in rounded_of_type laid marks a.scalar c.value ends h.value);
+        pending =
+            h.pending;
+      }
       by_test false = h
 
-  pub rounded_fits : (marks : List ℤ) (cells : List ℕ) (s : State) → HaveEnds marks → FitsPlace laid task types live s → FitsPlace laid task types live (rounded_state_at (rounded_values marks) cells s)
+  pub rounded_fits : (marks : List ℤ) (cells : List ℕ) (s : State) → HaveEnds marks → FitsPlace laid task types live s
+      → FitsPlace laid task types live (rounded_state_at (rounded_values marks) cells s)
   rounded_fits marks cells s ends h = record {
     form = (states_round cells).value marks s tt h.form;
     temps = h.temps;
-    cells = changed_cells laid task types (λ t. false) (rounded_among (rounded_cell (rounded_values marks)) cells) s.cells (round_cell marks cells ends) h.cells;
+    cells = changed_cells laid task types (λ t. false) (rounded_among (rounded_cell (rounded_values marks)) cells)
+        s.cells (round_cell marks cells ends) h.cells;
   }

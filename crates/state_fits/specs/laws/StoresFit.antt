@@ -21,12 +21,15 @@ module _ (laid : LaidTree) (scalar : Scalar) where
   cond_typed true v w p q = p
   cond_typed false v w p q = q
 
-  onto_typed : {A : Type 0} (part : A → Values) (v : Values) (xs : List A) → Is v → ((x : A) → IsOf xs x → Is (part x)) → Is (joined_onto part v xs)
+  onto_typed : {A : Type 0} (part : A → Values) (v : Values) (xs : List A) → Is v
+      → ((x : A) → IsOf xs x → Is (part x)) → Is (joined_onto part v xs)
   onto_typed part v [] p each = p
   onto_typed part v (x ∷ xs) p each =
-      onto_typed part (joined_values v (part x)) xs (joined_of_type laid scalar v (part x) p (each x (inl refl))) (λ y h. each y (inr h))
+      onto_typed part (joined_values v (part x)) xs (joined_of_type laid scalar v (part x) p (each x (inl refl)))
+      (λ y h. each y (inr h))
 
-  pub all_typed : {A : Type 0} (part : A → Values) (xs : List A) → ((x : A) → IsOf xs x → Is (part x)) → Is (joined_all part xs)
+  pub all_typed : {A : Type 0} (part : A → Values) (xs : List A) → ((x : A) → IsOf xs x → Is (part x))
+      → Is (joined_all part xs)
   all_typed part xs each = onto_typed part no_value xs (none_of_type laid scalar) each
 
   or_none_typed : (a : Option Values) → ((v : Values) → a ≡ Some v → Is v) → Is (value_or_none a)
@@ -38,19 +41,23 @@ module _ (laid : LaidTree) (scalar : Scalar) where
   AreTyped x n = (j l : ℕ) (written : Table (Table Values)) (cells : Table Values) (v : Values)
       → get n j ≡ Some written → get written l ≡ Some cells → get cells x ≡ Some v → Is v
 
-  pub visible_typed : (reader : Reader) (fresh : Bool) (x : ℕ) (store : Interferences) → AreTyped x store.weak → Is (visible reader fresh x store)
+  pub visible_typed : (reader : Reader) (fresh : Bool) (x : ℕ) (store : Interferences) → AreTyped x store.weak
+      → Is (visible reader fresh x store)
   visible_typed reader fresh x store typed =
       all_typed (λ (e : ℕ × Table (Table Values)). seen_of_task reader fresh x e.0 e.1) (entries store.weak) (λ e h.
       all_typed (shown_at reader fresh x e.0) (entries e.1) (λ f k.
       cond_typed (is_visible reader fresh e.0 f.0) (value_or_none (get f.1 x)) no_value
-      (or_none_typed (get f.1 x) (λ v at. typed e.0 f.0 e.1 f.1 v (of_entry store.weak e h) (of_entry e.1 f k) at)) (none_of_type laid scalar)))
+      (or_none_typed (get f.1 x) (λ v at. typed e.0 f.0 e.1 f.1 v (of_entry store.weak e h) (of_entry e.1 f k) at))
+      (none_of_type laid scalar)))
 
-  left_typed : (x : ℕ) (a : Option (Table Values)) → ((cells : Table Values) (v : Values) → a ≡ Some cells → get cells x ≡ Some v → Is v) → Is (left_in x a)
+  left_typed : (x : ℕ) (a : Option (Table Values))
+      → ((cells : Table Values) (v : Values) → a ≡ Some cells → get cells x ≡ Some v → Is v) → Is (left_in x a)
   left_typed x None h = none_of_type laid scalar
   left_typed x (Some cells) h = or_none_typed (get cells x) (λ v at. h cells v refl at)
 
   pub handed_typed : (task m x : ℕ) (store : Interferences) → AreTyped x store.sync → Is (handed task m x store)
   handed_typed task m x store typed =
-      all_typed (λ (e : ℕ × Table (Table Values)). cond (eqb e.0 task) no_value (left_at m x e.1)) (entries store.sync) (λ e h.
+      all_typed (λ (e : ℕ × Table (Table Values)). cond (eqb e.0 task) no_value (left_at m x e.1))
+      (entries store.sync) (λ e h.
       cond_typed (eqb e.0 task) no_value (left_at m x e.1) (none_of_type laid scalar)
       (left_typed x (get e.1 m) (λ cells v at_m at_x. typed e.0 m e.1 cells v (of_entry store.sync e h) at_m at_x)))

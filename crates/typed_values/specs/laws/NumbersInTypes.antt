@@ -1,5 +1,6 @@
 -- What operators give on numbers lies in the type of their result.
-use Rattle.std.proofs.Common.{◌≡◌, ℤ, pos, negsuc, ◌≤ℤ◌, List, Result, Ok, true, false, refl, sym, subst, inl, inr, ⊎_elim, arith}
+use Rattle.std.proofs.Common.{◌≡◌, ℤ, pos, negsuc, ◌≤ℤ◌, List, Result, Ok, true, false, refl, sym, subst, inl, inr}
+use Rattle.std.proofs.Common.{⊎_elim, arith}
 use Rattle.std.specs.Prelude as P
 use Rattle.std.specs.Prelude.{Contains, zero, suc}
 use Rattle.std.proofs.lemmas.Int.{ints}
@@ -37,8 +38,11 @@ values_less t s u le h = record { all = λ x p. h.all x (le.within x p) }
 -- all values of a type
 range_of : (t : IntType) → (r : Progression) × IsExactly (λ v. IsIn t v) r
 range_of t =
-    let all = spaced_exists (lo_of t) (hi_of t) 1 in
-    (all.0, unspaced (λ v. IsIn t v) (lo_of t) (hi_of t) all.0 (λ v from to. record { at_least = from; at_most = to }) (λ v h. (h.at_least, h.at_most)) all.1)
+    let all = spaced_exists (lo_of t) (hi_of t) 1 in (
+      all.0,
+      unspaced (λ v. IsIn t v) (lo_of t) (hi_of t) all.0 (λ v from to. record { at_least = from; at_most = to })
+          (λ v h. (h.at_least, h.at_most)) all.1,
+    )
 
 in_range : (t : IntType) (s : Progression) → AreValues t s → IsSubset s (range_of t).0
 in_range t s h = record { within = λ v p. (range_of t).1.complete v (h.all v p) }
@@ -59,7 +63,8 @@ high_within : (greatest last high : ℤ) (marks : List ℤ) → Contains marks g
 high_within greatest last high marks is le (inl least) = least.bound greatest (is, le)
 high_within greatest last high marks is le (inr same) = subst (λ z. z ≤ℤ greatest) (sym same.0) le
 
-pub rounding_values : (t : IntType) (marks : List ℤ) (s : Progression) → Contains marks (lo_of t) → Contains marks (hi_of t) → AreValues t s
+pub rounding_values : (t : IntType) (marks : List ℤ) (s : Progression) → Contains marks (lo_of t)
+    → Contains marks (hi_of t) → AreValues t s
     → AreValues t (rounding marks s)
 rounding_values t marks s has_lo has_hi h = record {
   all = λ v p.

@@ -26,7 +26,8 @@ use Rattle.operator_values.specs.MetValues.{met_values, met_values_is, met_value
 use Rattle.operator_values.proofs.low.pointer_dom.Meaning.{meet_below}
 use Rattle.typed_values.specs.Types.{AreObjects, IsOfType, HaveSameValues, HaveEnds}
 use Rattle.typed_values.specs.laws.NumbersInTypes.{values_less, hull_values, rounding_values}
-use Rattle.typed_values.specs.laws.ObjectsKept.{joined_objects, rounded_objects, none_objects, common_objects, no_objects}
+use Rattle.typed_values.specs.laws.ObjectsKept.{joined_objects, rounded_objects, none_objects, common_objects}
+use Rattle.typed_values.specs.laws.ObjectsKept.{no_objects}
 
 none_is : IsPointers no_pointer
 none_is key = subst (IsEntry IsOffsetSet HasNoOffset) (sym (get-empty nat_cmp key)) tt
@@ -37,7 +38,9 @@ no_numbers t = record { all = λ v p. absurd (not_in_empty v p) }
 -- two sets without a number, and without a pointer
 no_hull : (s u : Progression) → s ≡ empty → u ≡ empty → hull s u ≡ empty
 no_hull s u a b =
-    below_empty (hull s u) empty (hull_least s u empty (subst (λ x. IsSubset x empty) (sym a) same) (subst (λ x. IsSubset x empty) (sym b) same)) refl
+    below_empty (hull s u) empty
+    (hull_least s u empty (subst (λ x. IsSubset x empty) (sym a) same)
+    (subst (λ x. IsSubset x empty) (sym b) same)) refl
   where
     same : IsSubset empty empty
     same = record { within = λ v p. p }
@@ -45,13 +48,17 @@ no_hull s u a b =
 no_join : (p q : Pointers) → p ≡ no_pointer → q ≡ no_pointer → joined_pointers p q ≡ no_pointer
 no_join p q a b =
     let both : joined_pointers no_pointer no_pointer ≡ no_pointer =
-    pointers_order.antisymmetric (joined_pointers no_pointer no_pointer) no_pointer (pointers_join.value no_pointer no_pointer none_is none_is) none_is
-    (pointers_join.least no_pointer no_pointer no_pointer none_is none_is none_is (pointers_order.reflexive no_pointer none_is) (pointers_order.reflexive no_pointer none_is))
+    pointers_order.antisymmetric (joined_pointers no_pointer no_pointer) no_pointer
+    (pointers_join.value no_pointer no_pointer none_is none_is) none_is
+    (pointers_join.least no_pointer no_pointer no_pointer none_is none_is none_is
+    (pointers_order.reflexive no_pointer none_is) (pointers_order.reflexive no_pointer none_is))
     (pointers_join.left no_pointer no_pointer none_is none_is) in
     ap (λ x. joined_pointers x q) a ∙ (ap (joined_pointers no_pointer) b ∙ both)
 
 no_rounding : (marks : List ℤ) (s : Progression) → s ≡ empty → rounding marks s ≡ empty
-no_rounding marks s none = no_member (rounding marks s) (λ v p. not_in_empty (first_of s) (subst (λ x. Has x (first_of s)) none ((rounding_is marks s).sound v p).some))
+no_rounding marks s none =
+    no_member (rounding marks s)
+    (λ v p. not_in_empty (first_of s) (subst (λ x. Has x (first_of s)) none ((rounding_is marks s).sound v p).some))
 
 module _ (laid : LaidTree) where
   -- nothing is of every type
@@ -75,7 +82,8 @@ module _ (laid : LaidTree) where
   same_type (Pointer c) (Int u) v same h = absurd same
   same_type (Pointer c) (Pointer d) v same h = h
 
-  pub joined_of_type : (scalar : Scalar) (v w : Values) → IsOfType laid scalar v → IsOfType laid scalar w → IsOfType laid scalar (joined_values v w)
+  pub joined_of_type : (scalar : Scalar) (v w : Values) → IsOfType laid scalar v → IsOfType laid scalar w
+      → IsOfType laid scalar (joined_values v w)
   joined_of_type (Int t) v w h k = (hull_values t v.numbers w.numbers h.0 k.0, no_join v.pointers w.pointers h.1 k.1)
   joined_of_type (Pointer c) v w h k = (
     no_hull v.numbers w.numbers h.0 k.0,
@@ -83,8 +91,12 @@ module _ (laid : LaidTree) where
     joined_objects laid v.pointers w.pointers h.2 k.2,
   )
 
-  pub rounded_of_type : (marks : List ℤ) (scalar : Scalar) (v : Values) → HaveEnds marks → IsOfType laid scalar v → IsOfType laid scalar (rounded_values marks v)
-  rounded_of_type marks (Int t) v ends h = (rounding_values t marks v.numbers (ends.least t) (ends.greatest t) h.0, pointers_nothing.rounding marks v.pointers tt (subst IsPointers (sym h.1) none_is) h.1)
+  pub rounded_of_type : (marks : List ℤ) (scalar : Scalar) (v : Values) → HaveEnds marks → IsOfType laid scalar v
+      → IsOfType laid scalar (rounded_values marks v)
+  rounded_of_type marks (Int t) v ends h = (
+    rounding_values t marks v.numbers (ends.least t) (ends.greatest t) h.0,
+    pointers_nothing.rounding marks v.pointers tt (subst IsPointers (sym h.1) none_is) h.1,
+  )
   rounded_of_type marks (Pointer c) v ends h = (
     no_rounding marks v.numbers h.0,
     pointers_closure.value marks v.pointers tt h.1,
@@ -92,21 +104,25 @@ module _ (laid : LaidTree) where
   )
 
   -- what lies below a value of a type, with objects of the program
-  pub less_of_type : (scalar : Scalar) (v w : Values) → IsOfType laid scalar w → IsValues v → AreObjects laid v.pointers → IsValuesBelow v w → IsOfType laid scalar v
+  pub less_of_type : (scalar : Scalar) (v w : Values) → IsOfType laid scalar w → IsValues v
+      → AreObjects laid v.pointers → IsValuesBelow v w → IsOfType laid scalar v
   less_of_type (Int t) v w h v-is v-are le =
       let none : IsPointersBelow v.pointers no_pointer = subst (IsPointersBelow v.pointers) h.1 le.pointers in (
         values_less t v.numbers w.numbers le.numbers h.0,
-        pointers_order.antisymmetric v.pointers no_pointer v-is none_is none (pointers_nothing.below no_pointer v.pointers none_is v-is refl),
+        pointers_order.antisymmetric v.pointers no_pointer v-is none_is none
+            (pointers_nothing.below no_pointer v.pointers none_is v-is refl),
       )
   less_of_type (Pointer c) v w h v-is v-are le = (below_empty v.numbers w.numbers le.numbers h.0, v-is, v-are)
 
   -- what two values have in common
-  pub met_of_type : (scalar : Scalar) (v w : Values) → IsOfType laid scalar v → IsValues w → AreObjects laid w.pointers → IsOfType laid scalar (met_values v w)
+  pub met_of_type : (scalar : Scalar) (v w : Values) → IsOfType laid scalar v → IsValues w
+      → AreObjects laid w.pointers → IsOfType laid scalar (met_values v w)
   met_of_type scalar v w h w-is w-are =
       let v-is = typed_values scalar v h in
       let m = met_values_is v w in
       let m-is = met_values_fit v w v-is w-is in
-      less_of_type scalar (met_values v w) v h m-is (common_objects laid v.pointers w.pointers v-is w-is (typed_objects scalar v h) w-are)
+      less_of_type scalar (met_values v w) v h m-is
+      (common_objects laid v.pointers w.pointers v-is w-is (typed_objects scalar v h) w-are)
       record {
         numbers = record { within = λ k p. (m.numbers.sound k p).0 };
         pointers = (meet_below v.pointers w.pointers (met_values v w).pointers m-is m.pointers).0;

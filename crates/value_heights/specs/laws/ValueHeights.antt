@@ -57,7 +57,8 @@ row_within f g m f' g' m' le =
 -- it has at most as many numbers
 fewer : (g m g' m' : ℕ) → g' ≤ g → (m + 1) * (g + 1) ≤ (m' + 1) * (g' + 1) → m ≤ m'
 fewer g m g' m' gaps span =
-    let wide : (g' + 1) * (m + 1) ≤ (g + 1) * (m + 1) = mul-le-mul_right {m = g' + 1} {n = g + 1} (m + 1) (omega arith) in
+    let wide : (g' + 1) * (m + 1) ≤ (g + 1) * (m + 1) =
+    mul-le-mul_right {m = g' + 1} {n = g + 1} (m + 1) (omega arith) in
     let a : (m + 1) * (g' + 1) ≡ (g' + 1) * (m + 1) = mul_comm (m + 1) (g' + 1) in
     let b : (m + 1) * (g + 1) ≡ (g + 1) * (m + 1) = mul_comm (m + 1) (g + 1) in
     let all : (m + 1) * (g' + 1) ≤ (m' + 1) * (g' + 1) = omega arith in
@@ -152,7 +153,8 @@ flags_strict true false h flat = absurd (let e : false ≡ true = h refl in cc)
 flags_strict false true h flat = absurd (omega arith)
 flags_strict false false h flat = refl
 
-abbrev objects_heights : IsHeight (IsTable IsOffsetSet HasNoOffset) (IsTableBelow IsOffsetsBelow) (table_height offsets_height)
+abbrev objects_heights : IsHeight (IsTable IsOffsetSet HasNoOffset) (IsTableBelow IsOffsetsBelow)
+    (table_height offsets_height)
 objects_heights = table_heights IsOffsetSet IsOffsetsBelow HasNoOffset offsets_height offsets_heights
 
 pub pointers_heights : IsHeight IsPointers IsPointersBelow pointers_height
