@@ -12,6 +12,7 @@
 # workers on eight tasks (seconds by the clock). Frama-C and GNU time have to be installed.
 set -eu
 [ $# -ge 1 ] || { sed -n 's/^#     /usage: /p' "$0"; exit 2; }
+command -v frama-c > /dev/null || { echo 'frama-c is not on the PATH' >&2; exit 2; }
 
 program=$(readlink -f "$1")
 shift
