@@ -11,7 +11,7 @@ ghost use Rattle.c_decl_parser.specs.reading.DeclarationDescent.{local_declarati
 ghost use Rattle.c_decl_parser.specs.reading.DeclarationDescent.{rest_of_declaration, file_declarators};
 
 use crate::declarators::declarator_after;
-use crate::lists::{ListPart, further_parts, parts};
+use crate::lists::{PartReader, further_parts, parts};
 use crate::reads::{Read, push};
 use crate::specifiers::{names_type, specifiers};
 use crate::values::initialiser;
@@ -86,7 +86,12 @@ fn init_declarator_after<'a>(
     }
 }
 
-impl ListPart for InitDeclarator {
+// Reads declarators with their values.
+struct ValuedDeclarators;
+
+impl PartReader for ValuedDeclarators {
+    type Part = InitDeclarator;
+
     ghost Tree = { InitDeclaratorTree };
 
     ghost tree = { init_declarator_tree };
@@ -118,7 +123,7 @@ fn init_declarators<'a>(
 {
     match after(Mark::Semicolon, tokens) {
         Some(rest) => Ok(Read::Found(Vec::new(alloc), rest)),
-        None => match parts::<InitDeclarator>(alloc, types, allowed, tokens)? {
+        None => match parts::<ValuedDeclarators>(alloc, types, allowed, tokens)? {
             Read::Stuck(at) => Ok(Read::Stuck(at)),
             Read::Found(found, next) => match after(Mark::Semicolon, next) {
                 None => Ok(Read::Stuck(next)),
@@ -310,7 +315,9 @@ fn objects<'a>(
 {
     match init_declarator_after(alloc, types, allowed, pointers, tokens)? {
         Read::Stuck(at) => Ok(Read::Stuck(at)),
-        Read::Found(first, next) => match further_parts(alloc, types, allowed, first, next)? {
+        Read::Found(first, next) => match further_parts::<ValuedDeclarators>(
+            alloc, types, allowed, first, next,
+        )? {
             Read::Stuck(at) => Ok(Read::Stuck(at)),
             Read::Found(found, rest) => Ok(Read::Found(found, rest)),
         },

@@ -7,7 +7,7 @@ ghost use Rattle.c_decl_parser.specs.reading.Parts.{seen};
 ghost use Rattle.c_decl_parser.specs.reading.DeclarationDescent.{lengths, declarator_after, declarator};
 
 use crate::expressions::until;
-use crate::lists::ListPart;
+use crate::lists::PartReader;
 use crate::reads::{Read, push};
 use crate::tokens::{declared_at, place_after};
 use c_expr_parser::marks::{Mark, after};
@@ -162,8 +162,12 @@ pub fn declarator<'a>(
     declarator_after(alloc, types, member, allowed, pointers, rest)
 }
 
-// Declarators in lists are those of members; any other one stands there with its value.
-impl ListPart for Declarator {
+/// Reads declarators of members.
+pub struct MemberDeclarators;
+
+impl PartReader for MemberDeclarators {
+    type Part = Declarator;
+
     ghost Tree = { DeclaratorTree };
 
     ghost tree = { declarator_tree };

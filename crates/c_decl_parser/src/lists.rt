@@ -11,13 +11,16 @@ use std::alloc::Global;
 use tm_lattice::NoMemory;
 use tm_terms::{Names, Token};
 
-/// What stands in a list with a `,` between each two.
-pub trait ListPart: Sized + Drop {
-    /// What a contract sees of it.
+/// What reads the parts of a list with a `,` between each two. No value of it is made: a list is read by its type.
+pub trait PartReader {
+    /// A part.
+    type Part: Drop;
+
+    /// What a contract sees of a part.
     ghost Tree: { Type 0 };
 
-    /// Its tree.
-    ghost tree: { Self → Tree };
+    /// The tree of a part.
+    ghost tree: { Self.Part → Tree };
 
     /// The part of at most a height that comes first, as the descent reads it.
     ghost reads: { List Name → ℕ → List Token → Option (Tree × List Token) };
@@ -28,19 +31,19 @@ pub trait ListPart: Sized + Drop {
         types: &Names,
         allowed: u32,
         tokens: &'a [Token],
-    ) -> Result<Read<'a, Self>, NoMemory>
+    ) -> Result<Read<'a, Self::Part>, NoMemory>
         requires { allowed ≤ 500 }
         ensures { IfOk result (λ found. seen tree found ≡ reads types.now allowed tokens.now) };
 }
 
 /// Behind the first part the further ones, each after a `,`.
-pub fn further_parts<'a, P: ListPart>(
+pub fn further_parts<'a, P: PartReader>(
     alloc: Global,
     types: &Names,
     allowed: u32,
-    first: P,
+    first: P::Part,
     tokens: &'a [Token],
-) -> Result<Read<'a, Vec<P>>, NoMemory>
+) -> Result<Read<'a, Vec<P::Part>>, NoMemory>
     requires { allowed ≤ 500 }
     ensures { IfOk result (λ read. seen (λ v. map P.tree v.items) read
         ≡ separated (P.reads types.now allowed) (length tokens.now) (P.tree first ∷ []) tokens.now) }
@@ -65,18 +68,18 @@ pub fn further_parts<'a, P: ListPart>(
 }
 
 /// At least one part.
-pub fn parts<'a, P: ListPart>(
+pub fn parts<'a, P: PartReader>(
     alloc: Global,
     types: &Names,
     allowed: u32,
     tokens: &'a [Token],
-) -> Result<Read<'a, Vec<P>>, NoMemory>
+) -> Result<Read<'a, Vec<P::Part>>, NoMemory>
     requires { allowed ≤ 500 }
     ensures { IfOk result (λ read. seen (λ v. map P.tree v.items) read
         ≡ one_or_more (P.reads types.now allowed) tokens.now) }
 {
     match P::read(alloc, types, allowed, tokens)? {
         Read::Stuck(at) => Ok(Read::Stuck(at)),
-        Read::Found(first, rest) => further_parts(alloc, types, allowed, first, rest),
+        Read::Found(first, rest) => further_parts::<P>(alloc, types, allowed, first, rest),
     }
 }

@@ -11,6 +11,7 @@ ghost use Rattle.c_decl_parser.specs.reading.DeclarationDescent.{declarator, pla
 ghost use Rattle.c_decl_parser.specs.reading.DeclarationDescent.{specifiers, body_by, body, member_after, members_by};
 ghost use Rattle.c_decl_parser.specs.reading.DeclarationDescent.{member};
 
+use crate::declarators::MemberDeclarators;
 use crate::enumerations::enumerators;
 use crate::lists::parts;
 use crate::openings::{Opening, opened};
@@ -21,7 +22,7 @@ use c_expr_parser::type_names::spec_at;
 use std::alloc::Global;
 use tm_lattice::NoMemory;
 use tm_terms::{Name, Names, Place, Spec, SpecWord, TagKind, Token};
-use tm_trees::{Declarator, Member, Specifier, Tag};
+use tm_trees::{Member, Specifier, Tag};
 
 /// A specifier that comes first and what follows it, or that none begins, or that what begins is none.
 #[derive(Drop)]
@@ -360,7 +361,7 @@ fn declared_members<'a>(
         and_after (after Mark.Semicolon a)
         (λ rest. Some ((as_specifiers (map specifier_tree specifiers.items), declarators), rest)))) }
 {
-    match parts::<Declarator>(alloc, types, allowed, tokens)? {
+    match parts::<MemberDeclarators>(alloc, types, allowed, tokens)? {
         Read::Stuck(at) => Ok(Read::Stuck(at)),
         Read::Found(declarators, next) => match after(Mark::Semicolon, next) {
             None => Ok(Read::Stuck(next)),

@@ -9,7 +9,7 @@ ghost use Rattle.c_parser.specs.reading.FileDescent.{only_void_at, declares, dec
 ghost use Rattle.c_parser.specs.reading.FileDescent.{parameter_after, parameter, list_by, parameters};
 
 use c_decl_parser::declarators::declarator_after;
-use c_decl_parser::lists::{ListPart, parts};
+use c_decl_parser::lists::{PartReader, parts};
 use c_decl_parser::reads::Read;
 use c_decl_parser::specifiers::{names_type, specifiers};
 use c_decl_parser::tokens::{Keyword, after_word};
@@ -107,7 +107,12 @@ fn parameter_after<'a>(
     }
 }
 
-impl ListPart for Parameter {
+// Reads parameters.
+struct ParameterReader;
+
+impl PartReader for ParameterReader {
+    type Part = Parameter;
+
     ghost Tree = { ParameterTree };
 
     ghost tree = { parameter_tree };
@@ -157,7 +162,7 @@ fn parameter_list<'a>(
     requires { allowed ≤ 500 }
     ensures { IfOk result (λ read. seen parameters_tree read ≡ list_by types.now allowed None tokens.now) }
 {
-    match parts::<Parameter>(alloc, types, allowed, tokens)? {
+    match parts::<ParameterReader>(alloc, types, allowed, tokens)? {
         Read::Stuck(at) => Ok(Read::Stuck(at)),
         Read::Found(found, end) => match after(Mark::CloseParenthesis, end) {
             None => Ok(Read::Stuck(end)),
