@@ -3,7 +3,7 @@ use Rattle.tm_terms.specs.declared.tokens.Token.{Token}
 use Rattle.tm_trees.specs.FileTrees.{ParameterTree, parameter_tree}
 use Rattle.c_decl_parser.specs.reading.Parts.{seen}
 use Rattle.c_parser.proofs.FileSteps.{parameter_none, parameter_some}
-use Rattle.c_parser.proofs.parameters.parameter.Goals as goal
+use Rattle.c_parser.proofs.parameters.ParameterReaderPartReader.read.Goals as goal
 
 pub returns-then-allowed-eq0 : goal.returns-then-allowed-eq0
 returns-then-allowed-eq0 c = sym (parameter_none c.args.types.now c.args.allowed c.args.tokens.now (omega arith))
