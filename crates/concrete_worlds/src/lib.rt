@@ -1,6 +1,6 @@
-//! Worlds of a laid out program, and their steps: the plain model of what a program does. A world is asked for each
-//! step what a task does next after all its answers, so that a long run takes the square of its length; it is made to
-//! be compared with, and no command of the program runs it. How a program is analysed, this crate does not know.
+//! Worlds of a laid out program, and their steps: what a program does. Each task goes along its graph by its answers, so
+//! that a step costs what is done in it, however long the run was before, and nothing recurs through calls. How a
+//! program is analysed, and how its graphs are made, this crate does not know.
 //!
 //! In `int x; __task(1) void t(void) { x = 1 / x; }` the choices wake 0 and run 0 0 are done, the second with the load
 //! of `x`; then run 0 0 stops with DIV at the sign `/`, and after that no choice is allowed.
@@ -9,8 +9,8 @@
 mod accesses;
 mod clearing;
 mod held;
-pub mod laws;
 mod races;
+mod running;
 mod standings;
 mod starts;
 mod steps;

@@ -1,0 +1,2 @@
+-- Which programs have worlds.
+pub mod Laws

@@ -1,4 +1,0 @@
-pub mod Direct
-pub mod Sizes
-pub mod Lists
-pub mod Seats
