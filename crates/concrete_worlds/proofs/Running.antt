@@ -1,16 +1,17 @@
 -- Tasks stay where their answers have led them.
-use Rattle.std.proofs.Common.{◌≡◌, ◌≢◌, refl, sym, ap, subst, ◌∙◌, ℕ, zero, suc, ◌+◌, ◌<◌, ◌≤◌, List, [], ◌∷◌, ◌++◌, length, map, get_or, slice_set, set, arith, ◌⊎◌, inl, inr}
-use Rattle.std.proofs.lemmas.Bool.{cases_eq}
-use Rattle.std.proofs.lemmas.List.{length-map, length-set, get_or-set_same, get_or-set_other, set-get_or}
+use Rattle.std.proofs.Common.{◌≡◌, refl, sym, ap, subst, ◌∙◌, ℕ, zero, suc, ◌+◌, ◌<◌, List, [], ◌∷◌, ◌++◌, length, map, get_or, slice_set, set, Option, Some, None, arith, inl, inr}
+use Rattle.std.proofs.lemmas.Bool.{cases_eq, cases_lt}
+use Rattle.std.proofs.lemmas.List.{length-map, length-append, length-set, get_or-set_same, get_or-set_other, set-get_or, get_or_default, get_or_append_left, get_or-append-add}
+use Rattle.tm_typed.specs.declared.files.TypedTask.{TypedTask}
 use Rattle.tm_laid.specs.declared.layouts.Laid.{Laid}
 use Rattle.tm_laid.specs.Layouts.{LaidTree, laid_tree}
 use Rattle.concrete_values.specs.declared.values.Answer.{Answer}
-use Rattle.concrete_values.specs.declared.actions.Next.{Next}
 use Rattle.concrete_steps.specs.NextAction.{next}
+use Rattle.concrete_steps.specs.Worlds.{start_tasks, start_section, start_standings}
 use Rattle.flow_graph.specs.declared.graphs.Graph.{Graph}
 use Rattle.graph_positions.specs.declared.runs.Run.{Run}
 use Rattle.graph_positions.specs.RunsAfter.{IsRunAfter}
-use Rattle.concrete_worlds.specs.Lawful.{task_count, HasWorlds}
+use Rattle.concrete_worlds.specs.Lawful.{section_count, task_count, HasWorlds}
 use Rattle.concrete_worlds.specs.Running.{AreRunning}
 use Rattle.concrete_worlds.specs.reading.Starts.{AreStarted, BeginSo}
 use Rattle.concrete_worlds.proofs.Lists.{found_within, none_of}
@@ -19,6 +20,12 @@ use Rattle.concrete_worlds.proofs.Lists.{found_within, none_of}
 abbrev pub IsAfter : Laid → List Graph → ℕ → Graph → List Answer → Run → Type 0
 IsAfter laid graphs task graph answers run =
     IsRunAfter (laid_tree laid) (get_or graphs task graph).edges.items (get_or graphs task graph).nodes answers run
+
+-- whatever is taken where there is no graph
+pub any_graph : (laid : Laid) (graphs : List Graph) (task : ℕ) (given : Graph) (answers : List Answer) (run : Run) → task < length graphs
+    → IsAfter laid graphs task given answers run → (graph : Graph) → IsAfter laid graphs task graph answers run
+any_graph laid graphs task given answers run lt after graph =
+    subst (λ (g : Graph). IsRunAfter (laid_tree laid) g.edges.items g.nodes answers run) (get_or_default graphs task given graph lt) after
 
 -- what follows a run is what the task does next
 next_after : (laid : Laid) (graphs : List Graph) → HasWorlds laid graphs → (task : ℕ) → task < length graphs → (answers : List Answer) (run : Run)
@@ -40,12 +47,12 @@ module _ (laid : Laid) (graphs : List Graph) (standings : ℕ) (answers : List (
   module _ (task : ℕ) (lt : task < length runs) (answers' : List Answer) (run : Run) (after : (graph : Graph) → IsAfter laid graphs task graph answers' run) where
     here : (other : Run) (graph : Graph) → IsAfter laid graphs task graph (get_or (set answers task answers') task []) (get_or (set runs task run) task other)
     here other graph =
-        let within : task < length answers = (let e = are.answers in omega (arith, e, lt)) in
+        let within : task < length answers = (let e = are.answered in omega (arith, e, lt)) in
         let A : List Answer → Type 0 = λ xs. IsAfter laid graphs task graph xs (get_or (set runs task run) task other) in
         let R : Run → Type 0 = λ r. IsAfter laid graphs task graph answers' r in
         subst A (sym (get_or-set_same answers task answers' [] within)) (subst R (sym (get_or-set_same runs task run other lt)) (after graph))
 
-    elsewhere : (k : ℕ) (other : Run) (graph : Graph) → k < length runs → (task ≡ k → ⊥)
+    elsewhere : (k : ℕ) (other : Run) (graph : Graph) → k < length runs → (k ≡ task → ⊥)
         → IsAfter laid graphs k graph (get_or (set answers task answers') k []) (get_or (set runs task run) k other)
     elsewhere k other graph within ne =
         let A : List Answer → Type 0 = λ xs. IsAfter laid graphs k graph xs (get_or (set runs task run) k other) in
@@ -57,13 +64,13 @@ module _ (laid : Laid) (graphs : List Graph) (standings : ℕ) (answers : List (
     told_more = record {
       worlds = are.worlds;
       count = length-set runs task run ∙ are.count;
-      standings = are.standings ∙ sym (length-set runs task run);
-      answers = length-set answers task answers' ∙ are.answers ∙ sym (length-set runs task run);
+      standing = are.standing ∙ sym (length-set runs task run);
+      answered = length-set answers task answers' ∙ are.answered ∙ sym (length-set runs task run);
       each = λ k other graph h.
           let within : k < length runs = (let e = length-set runs task run in omega (arith, e, h)) in
-          elim (cases_eq task k) [
+          elim (cases_eq k task) [
             | inl same ↦
-                subst (λ (n : ℕ). IsAfter laid graphs n graph (get_or (set answers task answers') n []) (get_or (set runs task run) n other)) same (here other graph)
+                subst (λ (n : ℕ). IsAfter laid graphs n graph (get_or (set answers task answers') n []) (get_or (set runs task run) n other)) (sym same) (here other graph)
             | inr differ ↦ elsewhere k other graph within differ
           ];
     }
@@ -77,16 +84,52 @@ module _ (laid : Laid) (graphs : List Graph) (standings : ℕ) (answers : List (
 
 -- ## The start
 
+length_tasks : (laid : LaidTree) (i : ℕ) (ts : List TypedTask) → length (start_tasks laid i ts) ≡ length ts
+length_tasks laid i [] = refl
+length_tasks laid i (t ∷ ts) = ap suc (length_tasks laid (suc i) ts)
+
+length_section : (laid : LaidTree) (main : Option ℕ) → length (start_section laid main) ≡ section_count main
+length_section laid None = refl
+length_section laid (Some f) = refl
+
+pub length_standings : (laid : Laid) → length (start_standings (laid_tree laid)) ≡ task_count laid
+length_standings laid =
+    let tree = laid_tree laid in
+    length-append (start_tasks tree 0 laid.file.tasks.items) (start_section tree laid.file.main)
+    ∙ ap (λ n. n + length (start_section tree laid.file.main)) (length_tasks tree 0 laid.file.tasks.items)
+    ∙ ap (λ n. length laid.file.tasks.items + n) (length_section tree laid.file.main)
+
 none_at : {A : Type 0} (xs : List A) (k : ℕ) → get_or (map none_of xs) k [] ≡ []
 none_at [] zero = refl
 none_at [] (suc k) = refl
 none_at (x ∷ xs) zero = refl
 none_at (x ∷ xs) (suc k) = none_at xs k
 
+pub started_more : (laid : LaidTree) (graphs : List Graph) (n : ℕ) (runs runs' : List Run) (run : Run) (given : Graph) → n < length graphs → runs' ≡ runs ++ run ∷ []
+    → IsRunAfter laid (get_or graphs n given).edges.items (get_or graphs n given).nodes [] run → AreStarted laid graphs n runs → AreStarted laid graphs (n + 1) runs'
+started_more laid graphs n runs runs' run given within is after are =
+    subst (λ (xs : List Run). AreStarted laid graphs (n + 1) xs) (sym is) (record {
+      number = length-append runs (run ∷ []) ∙ ap (λ k. k + 1) are.number;
+      each = λ k other graph lt. elim (cases_lt k (length runs)) [
+        | inl before ↦
+            (let R : Run → Type 0 = λ r. IsRunAfter laid (get_or graphs k graph).edges.items (get_or graphs k graph).nodes [] r in
+            subst R (sym (get_or_append_left runs (run ∷ []) other k before)) (are.each k other graph before))
+        | inr behind ↦
+            (let e = length-append runs (run ∷ []) in
+            let last : length runs + 0 ≡ k = omega (arith, e, lt, behind) in
+            let same : n ≡ k = (let a = are.number in omega (arith, a, last)) in
+            let R : Run → Type 0 = λ r. IsRunAfter laid (get_or graphs k graph).edges.items (get_or graphs k graph).nodes [] r in
+            let G : Graph → Type 0 = λ g. IsRunAfter laid g.edges.items g.nodes [] run in
+            let at : get_or graphs n given ≡ get_or graphs k graph = get_or_default graphs n given graph within ∙ ap (λ i. get_or graphs i graph) same in
+            let there : run ≡ get_or (runs ++ run ∷ []) k other = sym (get_or-append-add runs (run ∷ []) 0 other) ∙ ap (λ i. get_or (runs ++ run ∷ []) i other) last in
+            subst R there (subst G at after))
+      ];
+    })
+
 module _ (laid : Laid) (graphs : List Graph) (runs : List Run) (worlds : HasWorlds laid graphs) (are : AreStarted (laid_tree laid) graphs (task_count laid) runs) where
   pub begin : BeginSo (laid_tree laid) (task_count laid) runs
   begin task run lt =
-      let within : task < length runs = (let e = are.count in omega (arith, e, lt)) in
+      let within : task < length runs = (let e = are.number in omega (arith, e, lt)) in
       let has : task < length graphs = (let c = worlds.count in omega (arith, c, lt)) in
       next_after laid graphs worlds task has [] (get_or runs task run) (λ graph. are.each task run graph within)
 
@@ -94,9 +137,9 @@ module _ (laid : Laid) (graphs : List Graph) (runs : List Run) (worlds : HasWorl
       → AreRunning laid graphs standings answers runs
   running_at_start standings xs answers e f is = record {
     worlds = worlds;
-    count = are.count;
-    standings = e ∙ sym are.count;
-    answers = ap length is ∙ length-map xs none_of ∙ f ∙ sym are.count;
+    count = are.number;
+    standing = e ∙ sym are.number;
+    answered = ap length is ∙ length-map xs none_of ∙ f ∙ sym are.number;
     each = λ task run graph lt.
         subst (λ (as' : List Answer). IsAfter laid graphs task graph as' (get_or runs task run)) (sym (ap (λ (z : List (List Answer)). get_or z task []) is ∙ none_at xs task))
         (are.each task run graph lt);

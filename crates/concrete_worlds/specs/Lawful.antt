@@ -12,7 +12,7 @@ use Rattle.graph_positions.specs.Positions.{IsGraph}
 
 -- the graph of a task, or of the initial section: what follows its run after any answers is what the task does next
 pub record IsGraphOfTask (laid : LaidTree) (task : ℕ) (graph : Graph) : Type 0 where
-  pub graph : IsGraph graph.edges.items graph.nodes
+  pub is_graph : IsGraph graph.edges.items graph.nodes
   pub follows : (answers : List Answer) (n : Next) → GraphNext laid graph.edges.items answers n
       → n ≡ next laid task answers
 

@@ -16,8 +16,8 @@ pub record AreRunning (laid : Laid) (graphs : List Graph) (standings : ℕ) (ans
     (runs : List Run) : Type 0 where
   pub worlds : HasWorlds laid graphs
   pub count : length runs ≡ task_count laid
-  pub standings : standings ≡ length runs
-  pub answers : length answers ≡ length runs
+  pub standing : standings ≡ length runs
+  pub answered : length answers ≡ length runs
   pub each : (task : ℕ) (run : Run) (graph : Graph) → task < length runs
       → IsRunAfter (laid_tree laid) (get_or graphs task graph).edges.items (get_or graphs task graph).nodes
       (get_or answers task []) (get_or runs task run)

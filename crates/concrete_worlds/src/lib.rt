@@ -10,10 +10,10 @@ mod accesses;
 mod clearing;
 mod held;
 mod races;
-mod running;
 mod standings;
 mod starts;
 mod steps;
+mod task_runs;
 mod worlds;
 
 pub use held::Held;

@@ -12,8 +12,8 @@ ghost use Rattle.concrete_worlds.specs.reading.Clearing.{cleared_contents};
 
 use crate::clearing::cleared_content;
 use crate::held::Held;
-use crate::running::start_runs;
 use crate::standings::{TaskStanding, settled};
+use crate::task_runs::start_runs;
 use crate::worlds::World;
 use concrete_steps::{Content, Status};
 use concrete_values::{Answer, Next, Pointer, Value};
@@ -95,9 +95,8 @@ fn start_tasks(alloc: Global, laid: &Laid, runs: &[Run]) -> Result<Vec<TaskStand
     requires few { length laid.now.file.tasks.items ≤ 32 }
     requires runs { length laid.now.file.tasks.items ≤ length runs.now }
     requires begin { BeginSo (laid_tree laid.now) (length laid.now.file.tasks.items) runs.now }
-    ensures tasks { IfOk result (λ v. map (standing_of (length laid.now.file.mutexes.items)) v.items
+    ensures { IfOk result (λ v. map (standing_of (length laid.now.file.mutexes.items)) v.items
         ≡ start_tasks (laid_tree laid.now) 0 laid.now.file.tasks.items) }
-    ensures count { IfOk result (λ v. length v.items ≡ length laid.now.file.tasks.items) }
 {
     let mut standings = Vec::new(alloc);
     for (task, found) in laid.file.tasks.iter().enumerate() {
@@ -113,9 +112,8 @@ fn start_standings(alloc: Global, laid: &Laid, runs: &[Run]) -> Result<Vec<TaskS
     requires few { length laid.now.file.tasks.items ≤ 32 }
     requires runs { task_count laid.now ≤ length runs.now }
     requires begin { BeginSo (laid_tree laid.now) (task_count laid.now) runs.now }
-    ensures all { IfOk result (λ v. map (standing_of (length laid.now.file.mutexes.items)) v.items
+    ensures { IfOk result (λ v. map (standing_of (length laid.now.file.mutexes.items)) v.items
         ≡ start_standings (laid_tree laid.now)) }
-    ensures count { IfOk result (λ v. length v.items ≡ task_count laid.now) }
 {
     let mut standings = start_tasks(alloc, laid, runs)?;
     match laid.file.main {

@@ -6,8 +6,8 @@ ghost use Rattle.concrete_worlds.specs.Views.{standing_of, laid_of, world_of, Le
 ghost use Rattle.concrete_worlds.specs.Running.{AreRunning, IsWorld, HasRoom};
 ghost use Rattle.concrete_worlds.specs.reading.Turns.{arrived};
 
-use crate::running::have_room;
 use crate::standings::{TaskStanding, is_done, settled, stand, wake_waiting};
+use crate::task_runs::have_room;
 use concrete_steps::{Content, Stepped};
 use concrete_values::{Answer, Next};
 use flow_graph::Graph;
@@ -33,7 +33,11 @@ pub struct World<'a> {
 fn reserve_one(list: &mut Vec<Answer>) -> Result<(), NoMemory>
     ensures same { list.new.items ≡ list.old.items }
     ensures room { OnOk result (vec_len list.new < vec_capacity list.new) }
+    ensures kept { vec_len list.old < vec_capacity list.old → IsOk result }
 {
+    if list.len() < list.capacity() {
+        return Ok(());
+    }
     match list.reserve(1) {
         Ok(()) => Ok(()),
         Err(_) => Err(NoMemory),
@@ -44,6 +48,7 @@ fn reserve_one(list: &mut Vec<Answer>) -> Result<(), NoMemory>
 fn reserve_at(lists: &mut Vec<Vec<Answer>>, task: u32) -> Result<(), NoMemory>
     ensures same { map vec_items lists.new.items ≡ map vec_items lists.old.items }
     ensures room { OnOk result (RoomAt lists.new.items task) }
+    ensures kept { RoomAt lists.old.items task → IsOk result }
 {
     match lists.get_mut(task as usize) {
         Some(list) => reserve_one(list),

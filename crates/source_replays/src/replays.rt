@@ -90,12 +90,7 @@ fn told(alloc: Global, run: &Run) -> Result<Reply, NoMemory>
 }
 
 /// The answer to bytes of whose source these are the layout and the graphs.
-fn replayed(
-    alloc: Global,
-    bytes: &[u8],
-    laid: &Laid,
-    graphs: &[Graph],
-) -> Result<Reply, NoMemory>
+fn replayed(alloc: Global, bytes: &[u8], laid: &Laid, graphs: &[Graph]) -> Result<Reply, NoMemory>
     requires replayable { IsReplayable bytes.now (laid_tree laid.now) }
     requires worlds { HasWorlds laid.now graphs.now }
     ensures { IfOk result (λ reply. HasReplay bytes.now reply.outcome (string_bytes reply.text)) }

@@ -8,7 +8,7 @@ use Rattle.graph_positions.specs.RunsAfter.{IsRunAfter}
 
 -- so many runs, each along the graph of its number and before any answer
 pub record AreStarted (laid : LaidTree) (graphs : List Graph) (count : ℕ) (runs : List Run) : Type 0 where
-  pub count : length runs ≡ count
+  pub number : length runs ≡ count
   pub each : (task : ℕ) (run : Run) (graph : Graph) → task < length runs
       → IsRunAfter laid (get_or graphs task graph).edges.items (get_or graphs task graph).nodes [] (get_or runs task run)
 

@@ -1,11 +1,12 @@
-use Rattle.std.proofs.Common.{◌++◌, ap, sym, ◌∙◌, [], ◌∷◌, map, vec_items, arith}
+use Rattle.std.proofs.Common.{◌++◌, ap, sym, ◌∙◌, [], ◌∷◌, arith}
 use Rattle.std.proofs.lemmas.List.FromFn.{map-range_with_len_more}
+use Rattle.concrete_steps.specs.Worlds.{next_at}
 use Rattle.concrete_worlds.specs.Views.{laid_of, world_of}
 use Rattle.concrete_worlds.specs.reading.Access.{access_of, access_after, accesses_after}
 use Rattle.concrete_worlds.proofs.worlds.World.accesses.Goals as goal
 
 pub loop-task-preserved : goal.loop-task-preserved
-unfolding access_after
+unfolding access_after next_at
 loop-task-preserved c =
     let w = c.args.self.now in
     c.in_ok-push.ensures.items ∙ ap (λ z. z ++ c.access_of.result ∷ []) c.loop-task.invariant
