@@ -1,19 +1,20 @@
 -- Tasks stay where their answers have led them.
-use Rattle.std.proofs.Common.{◌≡◌, refl, sym, ap, subst, ◌∙◌, ℕ, zero, suc, ◌+◌, ◌<◌, List, [], ◌∷◌, ◌++◌, length, map, get_or, slice_set, set, Option, Some, None, arith, inl, inr}
+use Rattle.std.proofs.Common.{◌≡◌, refl, sym, ap, subst, ◌∙◌, ℕ, zero, suc, ◌+◌, ◌<◌, ◌≤◌, List, [], ◌∷◌, ◌++◌, length, map, get_or, slice_set, set, Some, None, arith, ◌⊎◌, inl, inr}
 use Rattle.std.proofs.lemmas.Bool.{cases_eq, cases_lt}
 use Rattle.std.proofs.lemmas.List.{length-map, length-append, length-set, get_or-set_same, get_or-set_other, set-get_or, get_or_default, get_or_append_left, get_or-append-add}
-use Rattle.tm_typed.specs.declared.files.TypedTask.{TypedTask}
 use Rattle.tm_laid.specs.declared.layouts.Laid.{Laid}
 use Rattle.tm_laid.specs.Layouts.{LaidTree, laid_tree}
 use Rattle.concrete_values.specs.declared.values.Answer.{Answer}
+use Rattle.concrete_values.specs.declared.actions.Next.{Next}
 use Rattle.concrete_steps.specs.NextAction.{next}
 use Rattle.concrete_steps.specs.Worlds.{start_tasks, start_section, start_standings}
 use Rattle.flow_graph.specs.declared.graphs.Graph.{Graph}
 use Rattle.graph_positions.specs.declared.runs.Run.{Run}
 use Rattle.graph_positions.specs.RunsAfter.{IsRunAfter}
-use Rattle.concrete_worlds.specs.Lawful.{section_count, task_count, HasWorlds}
+use Rattle.tm_typed.specs.declared.files.TypedTask.{TypedTask}
+use Rattle.concrete_worlds.specs.Lawful.{section_count, task_count, HasWorlds, HasGraphs, IsGraphOfTask}
 use Rattle.concrete_worlds.specs.Running.{AreRunning}
-use Rattle.concrete_worlds.specs.reading.Starts.{AreStarted, BeginSo}
+use Rattle.concrete_worlds.specs.reading.Starts.{AreStarted, BeginSo, MayStart}
 use Rattle.concrete_worlds.proofs.Lists.{found_within, none_of}
 
 -- the run of a task after these answers
@@ -28,21 +29,20 @@ any_graph laid graphs task given answers run lt after graph =
     subst (λ (g : Graph). IsRunAfter (laid_tree laid) g.edges.items g.nodes answers run) (get_or_default graphs task given graph lt) after
 
 -- what follows a run is what the task does next
-next_after : (laid : Laid) (graphs : List Graph) → HasWorlds laid graphs → (task : ℕ) → task < length graphs → (answers : List Answer) (run : Run)
-    → ((graph : Graph) → IsAfter laid graphs task graph answers run) → run.next ≡ next (laid_tree laid) task answers
-next_after laid graphs worlds task lt answers run after =
-    let g = (found_within graphs task lt).0 in (worlds.each task g lt).follows answers run.next (after g).next
+next_after : (laid : Laid) (graphs : List Graph) (task : ℕ) → task < length graphs → ((graph : Graph) → IsGraphOfTask (laid_tree laid) task (get_or graphs task graph))
+    → (answers : List Answer) (run : Run) → ((graph : Graph) → IsAfter laid graphs task graph answers run) → run.next ≡ next (laid_tree laid) task answers
+next_after laid graphs task lt lawful answers run after = let g = (found_within graphs task lt).0 in (lawful g).follows answers run.next (after g).next
 
-module _ (laid : Laid) (graphs : List Graph) (standings : ℕ) (answers : List (List Answer)) (runs : List Run) (are : AreRunning laid graphs standings answers runs) where
-  -- each task has a graph
+module _ (laid : Laid) (graphs : List Graph) (answers : List (List Answer)) (runs : List Run) (are : AreRunning laid graphs answers runs) where
   pub has_graph : (task : ℕ) → task < length runs → task < length graphs
-  has_graph task lt = let c = are.count in let g = are.worlds.count in omega (arith, c, g, lt)
+  has_graph task lt = let g = are.graphed in omega (arith, g, lt)
 
-  -- its next action is at hand
+  -- a task's next action is at hand
   pub next_is : (task : ℕ) (run : Run) → task < length runs → run ≡ get_or runs task run → run.next ≡ next (laid_tree laid) task (get_or answers task [])
   next_is task run lt is =
       ap (λ (r : Run). r.next) is
-      ∙ next_after laid graphs are.worlds task (has_graph task lt) (get_or answers task []) (get_or runs task run) (λ graph. are.each task run graph lt)
+      ∙ next_after laid graphs task (has_graph task lt) (λ graph. are.lawful task graph lt) (get_or answers task []) (get_or runs task run)
+      (λ graph. are.each task run graph lt)
 
   module _ (task : ℕ) (lt : task < length runs) (answers' : List Answer) (run : Run) (after : (graph : Graph) → IsAfter laid graphs task graph answers' run) where
     here : (other : Run) (graph : Graph) → IsAfter laid graphs task graph (get_or (set answers task answers') task []) (get_or (set runs task run) task other)
@@ -59,13 +59,13 @@ module _ (laid : Laid) (graphs : List Graph) (standings : ℕ) (answers : List (
         let R : Run → Type 0 = λ r. IsAfter laid graphs k graph (get_or answers k []) r in
         subst A (sym (get_or-set_other answers task k answers' [] ne)) (subst R (sym (get_or-set_other runs task k run other ne)) (are.each k other graph within))
 
-    -- a task has had more answers
-    pub told_more : AreRunning laid graphs standings (slice_set answers task answers') (slice_set runs task run)
+    -- a task that has a run has had more answers
+    pub told_more : AreRunning laid graphs (slice_set answers task answers') (slice_set runs task run)
     told_more = record {
       worlds = are.worlds;
-      count = length-set runs task run ∙ are.count;
-      standing = are.standing ∙ sym (length-set runs task run);
-      answered = length-set answers task answers' ∙ are.answered ∙ sym (length-set runs task run);
+      graphed = let e = length-set runs task run in let g = are.graphed in omega (arith, e, g);
+      answered = let e = length-set runs task run in let f = length-set answers task answers' in let g = are.answered in omega (arith, e, f, g);
+      lawful = λ k graph h. are.lawful k graph (let e = length-set runs task run in omega (arith, e, h));
       each = λ k other graph h.
           let within : k < length runs = (let e = length-set runs task run in omega (arith, e, h)) in
           elim (cases_eq k task) [
@@ -77,10 +77,22 @@ module _ (laid : Laid) (graphs : List Graph) (standings : ℕ) (answers : List (
 
   -- a task stands elsewhere, with the same answers
   pub told_same : (task : ℕ) (run : Run) → task < length runs → ((graph : Graph) → IsAfter laid graphs task graph (get_or answers task []) run)
-      → AreRunning laid graphs standings answers (slice_set runs task run)
+      → AreRunning laid graphs answers (slice_set runs task run)
   told_same task run lt after =
-      subst (λ (xs : List (List Answer)). AreRunning laid graphs standings xs (slice_set runs task run)) (set-get_or answers task [])
+      subst (λ (xs : List (List Answer)). AreRunning laid graphs xs (slice_set runs task run)) (set-get_or answers task [])
       (told_more task lt (get_or answers task []) run after)
+
+  -- a task that has none has had more answers
+  pub told_behind : (task : ℕ) (answers' : List Answer) → length runs ≤ task → AreRunning laid graphs (slice_set answers task answers') runs
+  told_behind task answers' behind = record {
+    worlds = are.worlds;
+    graphed = are.graphed;
+    answered = let f = length-set answers task answers' in let g = are.answered in omega (arith, f, g);
+    lawful = are.lawful;
+    each = λ k other graph h.
+        let ne : k ≡ task → ⊥ = λ same. omega (arith, same, h, behind) in
+        subst (λ (xs : List Answer). IsAfter laid graphs k graph xs (get_or runs k other)) (sym (get_or-set_other answers task k answers' [] ne)) (are.each k other graph h);
+  }
 
 -- ## The start
 
@@ -88,7 +100,7 @@ length_tasks : (laid : LaidTree) (i : ℕ) (ts : List TypedTask) → length (sta
 length_tasks laid i [] = refl
 length_tasks laid i (t ∷ ts) = ap suc (length_tasks laid (suc i) ts)
 
-length_section : (laid : LaidTree) (main : Option ℕ) → length (start_section laid main) ≡ section_count main
+length_section : (laid : LaidTree) (main : _) → length (start_section laid main) ≡ section_count main
 length_section laid None = refl
 length_section laid (Some f) = refl
 
@@ -104,6 +116,9 @@ none_at [] zero = refl
 none_at [] (suc k) = refl
 none_at (x ∷ xs) zero = refl
 none_at (x ∷ xs) (suc k) = none_at xs k
+
+pub none_started : (laid : LaidTree) (graphs : List Graph) (runs : List Run) → runs ≡ [] → AreStarted laid graphs 0 runs
+none_started laid graphs runs e = subst (λ (xs : List Run). AreStarted laid graphs 0 xs) (sym e) (record { number = refl; each = λ task run graph lt. absurd (omega (arith, lt)) })
 
 pub started_more : (laid : LaidTree) (graphs : List Graph) (n : ℕ) (runs runs' : List Run) (run : Run) (given : Graph) → n < length graphs → runs' ≡ runs ++ run ∷ []
     → IsRunAfter laid (get_or graphs n given).edges.items (get_or graphs n given).nodes [] run → AreStarted laid graphs n runs → AreStarted laid graphs (n + 1) runs'
@@ -126,21 +141,37 @@ started_more laid graphs n runs runs' run given within is after are =
       ];
     })
 
-module _ (laid : Laid) (graphs : List Graph) (runs : List Run) (worlds : HasWorlds laid graphs) (are : AreStarted (laid_tree laid) graphs (task_count laid) runs) where
-  pub begin : BeginSo (laid_tree laid) (task_count laid) runs
-  begin task run lt =
-      let within : task < length runs = (let e = are.number in omega (arith, e, lt)) in
-      let has : task < length graphs = (let c = worlds.count in omega (arith, c, lt)) in
-      next_after laid graphs worlds task has [] (get_or runs task run) (λ graph. are.each task run graph within)
+module _ (laid : Laid) (graphs : List Graph) (runs : List Run) where
+  begin_along : HasGraphs laid graphs → AreStarted (laid_tree laid) graphs (task_count laid) runs → BeginSo (laid_tree laid) runs
+  begin_along has are task run lt =
+      let within : task < length graphs = (let e = are.number in let c = has.count in omega (arith, e, c, lt)) in
+      next_after laid graphs task within (λ graph. has.each task graph within) [] (get_or runs task run) (λ graph. are.each task run graph lt)
 
-  pub running_at_start : {A : Type 0} (standings : ℕ) (xs : List A) (answers : List (List Answer)) → standings ≡ task_count laid → length xs ≡ task_count laid → answers ≡ map none_of xs
-      → AreRunning laid graphs standings answers runs
-  running_at_start standings xs answers e f is = record {
-    worlds = worlds;
-    count = are.number;
-    standing = e ∙ sym are.number;
-    answered = ap length is ∙ length-map xs none_of ∙ f ∙ sym are.number;
-    each = λ task run graph lt.
-        subst (λ (as' : List Answer). IsAfter laid graphs task graph as' (get_or runs task run)) (sym (ap (λ (z : List (List Answer)). get_or z task []) is ∙ none_at xs task))
-        (are.each task run graph lt);
-  }
+  pub begin : MayStart laid graphs runs → BeginSo (laid_tree laid) runs
+  begin (inl none) task run lt = absurd (let e = ap length none in omega (arith, e, lt))
+  begin (inr along) = begin_along along.0 along.1
+
+  module _ {A : Type 0} (worlds : HasWorlds laid) (xs : List A) (answers : List (List Answer)) (count : length xs ≡ task_count laid) (is : answers ≡ map none_of xs) where
+    running_along : HasGraphs laid graphs → AreStarted (laid_tree laid) graphs (task_count laid) runs → AreRunning laid graphs answers runs
+    running_along has are = record {
+      worlds = worlds;
+      graphed = let e = are.number in let c = has.count in omega (arith, e, c);
+      answered = let e = are.number in let f : length answers ≡ task_count laid = ap length is ∙ length-map xs none_of ∙ count in omega (arith, e, f);
+      lawful = λ task graph lt. has.each task graph (let e = are.number in let c = has.count in omega (arith, e, c, lt));
+      each = λ task run graph lt.
+          subst (λ (as' : List Answer). IsAfter laid graphs task graph as' (get_or runs task run)) (sym (ap (λ (z : List (List Answer)). get_or z task []) is ∙ none_at xs task))
+          (are.each task run graph lt);
+    }
+
+    running_alone : runs ≡ [] → AreRunning laid graphs answers runs
+    running_alone none = record {
+      worlds = worlds;
+      graphed = let e = ap length none in omega (arith, e);
+      answered = let e = ap length none in omega (arith, e);
+      lawful = λ task graph lt. absurd (let e = ap length none in omega (arith, e, lt));
+      each = λ task run graph lt. absurd (let e = ap length none in omega (arith, e, lt));
+    }
+
+    pub running_at_start : MayStart laid graphs runs → AreRunning laid graphs answers runs
+    running_at_start (inl none) = running_alone none
+    running_at_start (inr along) = running_along along.0 along.1

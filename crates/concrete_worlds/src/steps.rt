@@ -1,5 +1,5 @@
 //! Steps of worlds.
-ghost use Rattle.std.specs.Prelude.{◌≡◌, ◌<◌, length, slice_get, pos, IsOk, IfOk, OnErr};
+ghost use Rattle.std.specs.Prelude.{◌≡◌, length, slice_get, pos, IsOk, IfOk, OnErr};
 ghost use Rattle.concrete_values.specs.declared.values.Answer.TheVariants as Answers;
 ghost use Rattle.concrete_steps.specs.Worlds.{step, act_step, answered, run_step, wake_step, load_step, store_step};
 ghost use Rattle.concrete_steps.specs.Worlds.{lock_step, unlock_step, openly, halted, cleared, is_taken};
@@ -93,8 +93,7 @@ impl World<'_> {
         value: i128,
         action: Next,
     ) -> Result<Stepped, NoMemory>
-        requires world { IsWorld self.old }
-        requires task { task < length self.old.runs.items }
+        requires { IsWorld self.old }
         ensures world { IsWorld self.new }
         ensures laid { self.new.laid ≡ self.old.laid }
         ensures leads { IfOk result (λ s. Leads (act_step (laid_of self.old) task (standing_of
@@ -136,8 +135,7 @@ impl World<'_> {
         standing: TaskStanding,
         action: Next,
     ) -> Result<Stepped, NoMemory>
-        requires world { IsWorld self.old }
-        requires task { task < length self.old.runs.items }
+        requires { IsWorld self.old }
         ensures world { IsWorld self.new }
         ensures laid { self.new.laid ≡ self.old.laid }
         ensures leads { IfOk result (λ s. IsPlain action → Leads (act_step (laid_of self.old) task (standing_of
@@ -177,8 +175,7 @@ impl World<'_> {
         standing: TaskStanding,
         answer: Answer,
     ) -> Result<Stepped, NoMemory>
-        requires world { IsWorld self.old }
-        requires task { task < length self.old.runs.items }
+        requires { IsWorld self.old }
         ensures world { IsWorld self.new }
         ensures laid { self.new.laid ≡ self.old.laid }
         ensures leads { IfOk result (λ s. Leads (answered (laid_of self.old) task (standing_of
@@ -201,8 +198,7 @@ impl World<'_> {
         value: i128,
         fits: bool,
     ) -> Result<Stepped, NoMemory>
-        requires world { IsWorld self.old }
-        requires task { task < length self.old.runs.items }
+        requires { IsWorld self.old }
         ensures world { IsWorld self.new }
         ensures laid { self.new.laid ≡ self.old.laid }
         ensures leads { IfOk result (λ s. Leads (openly (laid_of self.old) task (standing_of
@@ -228,8 +224,7 @@ impl World<'_> {
         scalar: Scalar,
         volatile: bool,
     ) -> Result<Stepped, NoMemory>
-        requires world { IsWorld self.old }
-        requires task { task < length self.old.runs.items }
+        requires { IsWorld self.old }
         ensures world { IsWorld self.new }
         ensures laid { self.new.laid ≡ self.old.laid }
         ensures leads { IfOk result (λ s. Leads (load_step (laid_of self.old) task (standing_of
@@ -262,8 +257,7 @@ impl World<'_> {
         cell: usize,
         value: Value,
     ) -> Result<Stepped, NoMemory>
-        requires world { IsWorld self.old }
-        requires task { task < length self.old.runs.items }
+        requires { IsWorld self.old }
         ensures world { IsWorld self.new }
         ensures laid { self.new.laid ≡ self.old.laid }
         ensures leads { IfOk result (λ s. Leads (store_step (laid_of self.old) task (standing_of
@@ -286,8 +280,7 @@ impl World<'_> {
 
     // The clearing of an object.
     fn clear(&mut self, task: u32, standing: TaskStanding, object: u32) -> Result<Stepped, NoMemory>
-        requires world { IsWorld self.old }
-        requires task { task < length self.old.runs.items }
+        requires { IsWorld self.old }
         ensures world { IsWorld self.new }
         ensures laid { self.new.laid ≡ self.old.laid }
         ensures leads { IfOk result (λ s. Leads (answered (laid_of self.old) task (standing_of
@@ -314,8 +307,7 @@ impl World<'_> {
         mutex: u32,
         place: Place,
     ) -> Result<Stepped, NoMemory>
-        requires world { IsWorld self.old }
-        requires task { task < length self.old.runs.items }
+        requires { IsWorld self.old }
         ensures world { IsWorld self.new }
         ensures laid { self.new.laid ≡ self.old.laid }
         ensures leads { IfOk result (λ s. Leads (lock_step (laid_of self.old) task (standing_of
@@ -348,8 +340,7 @@ impl World<'_> {
         mutex: u32,
         place: Place,
     ) -> Result<Stepped, NoMemory>
-        requires world { IsWorld self.old }
-        requires task { task < length self.old.runs.items }
+        requires { IsWorld self.old }
         ensures world { IsWorld self.new }
         ensures laid { self.new.laid ≡ self.old.laid }
         ensures leads { IfOk result (λ s. Leads (unlock_step (laid_of self.old) task (standing_of
@@ -373,8 +364,7 @@ impl World<'_> {
 
     // Whether some task holds a mutex.
     fn probe(&mut self, task: u32, standing: TaskStanding, mutex: u32) -> Result<Stepped, NoMemory>
-        requires world { IsWorld self.old }
-        requires task { task < length self.old.runs.items }
+        requires { IsWorld self.old }
         ensures world { IsWorld self.new }
         ensures laid { self.new.laid ≡ self.old.laid }
         ensures leads { IfOk result (λ s. Leads (answered (laid_of self.old) task (standing_of

@@ -3,7 +3,7 @@ ghost use Rattle.std.specs.Prelude.{◌≡◌, ℕ, ◌+◌, ◌<◌, ◌^◌, [
 ghost use Rattle.tm_laid.specs.Layouts.{laid_tree};
 ghost use Rattle.graph_positions.specs.declared.runs.Run.{Run};
 ghost use Rattle.graph_positions.specs.Positions.{HasRoom};
-ghost use Rattle.concrete_worlds.specs.Lawful.{HasWorlds, task_count};
+ghost use Rattle.concrete_worlds.specs.Lawful.{HasWorlds, HasGraphs, task_count};
 ghost use Rattle.concrete_worlds.specs.reading.Starts.{AreStarted};
 
 use flow_graph::Graph;
@@ -38,7 +38,8 @@ fn count_of_tasks(laid: &Laid) -> usize
 
 /// The runs of all tasks, and behind them that of the initial section, before any answer.
 pub(crate) fn start_runs(alloc: Global, laid: &Laid, graphs: &[Graph]) -> Result<Vec<Run>, NoMemory>
-    requires { HasWorlds laid.now graphs.now }
+    requires worlds { HasWorlds laid.now }
+    requires graphs { HasGraphs laid.now graphs.now }
     ensures { IfOk result (λ v. AreStarted (laid_tree laid.now) graphs.now (task_count laid.now) v.items) }
 {
     let mut runs = Vec::new(alloc);

@@ -1,7 +1,10 @@
 //! Worlds.
 ghost use Rattle.std.specs.Prelude.{◌≡◌, ℕ, ◌<◌, ◌∷◌, ◌++◌, [], length, map, get_or, slice_get, slice_set, IsOk, OnOk};
 ghost use Rattle.std.specs.Prelude.{OnErr, option_map, vec_items, vec_len, vec_capacity};
+ghost use Rattle.tm_laid.specs.Layouts.{laid_tree};
+ghost use Rattle.concrete_steps.specs.NextAction.{next};
 ghost use Rattle.concrete_steps.specs.Worlds.{next_at, settled, stand, told, freed, did, tasks_may_run};
+ghost use Rattle.concrete_worlds.specs.Lawful.{HasWorlds};
 ghost use Rattle.concrete_worlds.specs.Views.{standing_of, laid_of, world_of, Leads, RoomAt};
 ghost use Rattle.concrete_worlds.specs.Running.{AreRunning, IsWorld, HasRoom};
 ghost use Rattle.concrete_worlds.specs.reading.Turns.{arrived};
@@ -12,12 +15,13 @@ use concrete_steps::{Content, Stepped};
 use concrete_values::{Answer, Next};
 use flow_graph::Graph;
 use graph_positions::Run;
+use task_interpreter::next;
 use tm_laid::Laid;
 use tm_lattice::NoMemory;
 
-/// A world of a laid out program: what each cell holds, how each task stands, which answers it has had and where it has
-/// come along its graph, and behind them the initial section where there is one; and whether an error has stopped the
-/// run.
+/// A world of a laid out program: what each cell holds, how each task stands and which answers it has had, and behind
+/// them the initial section where there is one; and whether an error has stopped the run. Where the world has started
+/// with graphs, it also keeps how far each has come along its own.
 #[derive(Drop)]
 pub struct World<'a> {
     pub(crate) laid: &'a Laid,
@@ -86,6 +90,18 @@ fn note(lists: &mut Vec<Vec<Answer>>, task: u32, answer: Answer) -> Result<(), N
     }
 }
 
+// What a task, or the initial section, does next, where these are the answers of each.
+#[tactic(auto, using(crate::proofs::Lists::answers_there, crate::proofs::Lists::no_answers_there))]
+fn next_after(laid: &Laid, answers: &[Vec<Answer>], task: u32) -> Next
+    requires { HasWorlds laid.now }
+    ensures { result ≡ next (laid_tree laid.now) task (get_or (map vec_items answers.now) task []) }
+{
+    match answers.get(task as usize) {
+        Some(answers) => next(laid, task, answers),
+        None => next(laid, task, &[]),
+    }
+}
+
 impl World<'_> {
     /// Makes room for one answer of each task, and of the initial section: a step takes no memory then.
     pub fn reserve(&mut self) -> Result<(), NoMemory>
@@ -128,11 +144,13 @@ impl World<'_> {
 
     // What a task, or the initial section, does next.
     pub(crate) fn next_of(&self, task: u32) -> Next
-        requires world { IsWorld self.now }
-        requires task { task < length self.now.runs.items }
+        requires { IsWorld self.now }
         ensures { result ≡ next_at (laid_of self.now) (world_of self.now) task }
     {
-        self.runs[task as usize].next
+        match self.runs.get(task as usize) {
+            Some(run) => run.next,
+            None => next_after(self.laid, &self.answers, task),
+        }
     }
 
     // Whether there is no initial section, or it is done.
@@ -148,12 +166,9 @@ impl World<'_> {
 
     // The task takes an answer. Where memory is wanting the world is as it was.
     pub(crate) fn tell(&mut self, task: u32, answer: Answer) -> Result<(), NoMemory>
-        requires world { IsWorld self.old }
-        requires task { task < length self.old.runs.items }
+        requires { IsWorld self.old }
         ensures world { IsWorld self.new }
         ensures laid { self.new.laid ≡ self.old.laid }
-        ensures count { length self.new.runs.items ≡ length self.old.runs.items }
-        ensures standings { self.new.standings.items ≡ self.old.standings.items }
         ensures told { OnOk result (world_of self.new ≡ told task answer (world_of self.old)) }
         ensures same { OnErr result (world_of self.new ≡ world_of self.old) }
         ensures room { HasRoom self.old → IsOk result }
@@ -162,10 +177,12 @@ impl World<'_> {
             Ok(()) => {}
             Err(NoMemory) => return Err(NoMemory),
         }
-        let graph = &self.graphs[task as usize];
-        match self.runs[task as usize].answer(self.laid, graph, answer) {
-            Ok(()) => note(&mut self.answers, task, answer),
-            Err(NoMemory) => Err(NoMemory),
+        match self.runs.get_mut(task as usize) {
+            None => note(&mut self.answers, task, answer),
+            Some(run) => match run.answer(self.laid, &self.graphs[task as usize], answer) {
+                Ok(()) => note(&mut self.answers, task, answer),
+                Err(NoMemory) => Err(NoMemory),
+            },
         }
     }
 
@@ -187,7 +204,6 @@ impl World<'_> {
         requires { IsWorld self.old }
         ensures world { IsWorld self.new }
         ensures laid { self.new.laid ≡ self.old.laid }
-        ensures runs { self.new.runs.items ≡ self.old.runs.items }
         ensures freed { world_of self.new ≡ freed mutex (world_of self.old) }
     {
         wake_waiting(&mut self.standings, mutex);
@@ -195,8 +211,7 @@ impl World<'_> {
 
     // The task, which has had its answer and stands so, comes to its next action.
     pub(crate) fn arrive(&mut self, task: u32, standing: TaskStanding) -> Stepped
-        requires world { IsWorld self.old }
-        requires task { task < length self.old.runs.items }
+        requires { IsWorld self.old }
         ensures world { IsWorld self.new }
         ensures laid { self.new.laid ≡ self.old.laid }
         ensures leads { Leads (did (arrived (laid_of self.old) task (standing_of

@@ -2,6 +2,7 @@
 ghost use Rattle.std.specs.Prelude.{◌≡◌, List, [], ◌∷◌, ◌++◌, IsOk, IfOk, OnOk, OnErr};
 ghost use Rattle.tm_laid.specs.Layouts.{laid_tree};
 ghost use Rattle.concrete_values.specs.declared.values.Answer.{Answer};
+ghost use Rattle.flow_graph.specs.Runs.{GraphNext};
 ghost use Rattle.graph_positions.specs.Layouts.{IsServing};
 ghost use Rattle.graph_positions.specs.Positions.{IsGraph, IsPositionOf, HasRoom};
 ghost use Rattle.graph_positions.specs.RunsAfter.{IsRunAfter};
@@ -66,4 +67,22 @@ impl Run {
         }
         Ok(())
     }
+}
+
+/// The action that follows these answers in a run of the graph.
+pub fn graph_next(
+    alloc: Global,
+    laid: &Laid,
+    graph: &Graph,
+    answers: &[Answer],
+) -> Result<Next, NoMemory>
+    requires laid { IsServing laid.now }
+    requires graph { IsGraph graph.now.edges.items graph.now.nodes }
+    ensures { IfOk result (λ n. GraphNext (laid_tree laid.now) graph.now.edges.items answers.now n) }
+{
+    let mut run = Run::start(alloc, laid, graph)?;
+    for answer in answers {
+        run.answer(laid, graph, *answer)?;
+    }
+    Ok(run.next)
 }

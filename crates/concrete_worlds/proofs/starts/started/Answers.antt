@@ -3,25 +3,23 @@ use Rattle.std.proofs.lemmas.List.{length-map}
 use Rattle.tm_laid.specs.Layouts.{laid_tree}
 use Rattle.concrete_steps.specs.Worlds.{start, start_contents}
 use Rattle.graph_positions.specs.declared.runs.Run.{Run}
-use Rattle.concrete_worlds.specs.Lawful.{task_count}
-use Rattle.concrete_worlds.specs.reading.Starts.{BeginSo}
 use Rattle.concrete_worlds.specs.Views.{standing_of}
+use Rattle.concrete_worlds.specs.reading.Starts.{BeginSo}
 use Rattle.concrete_worlds.proofs.Lists.{none_of, no_answers_of}
 use Rattle.concrete_worlds.proofs.Running.{begin, length_standings, running_at_start}
-use Rattle.concrete_worlds.proofs.worlds.World.start.Goals as goal
+use Rattle.concrete_worlds.proofs.starts.started.Goals as goal
 
 pub start_standings-requires-clause-begin : goal.start_standings-requires-clause-begin
 start_standings-requires-clause-begin c =
-    subst (λ (runs : List Run). BeginSo (laid_tree c.args.laid.now) (task_count c.args.laid.now) runs) (sym c.deref.ensures.value)
-    (begin c.args.laid.now c.args.graphs.now c.in_ok-runs.runs.items c.requires c.in_ok-runs.ensures)
+    subst (λ (runs : List Run). BeginSo (laid_tree c.args.laid.now) runs) (sym c.deref.ensures.value) (begin c.args.laid.now c.args.graphs.now c.args.runs.items c.requires.graphs)
 
 pub returns-clause-running : goal.returns-clause-running
 returns-clause-running c =
     let laid = c.args.laid.now in
     let ss = c.in_ok-standings.standings.items in
     let count = sym (length-map ss (standing_of (length laid.file.mutexes.items))) ∙ ap length c.in_ok-standings.ensures ∙ length_standings laid in
-    running_at_start laid c.args.graphs.now c.in_ok-runs.runs.items c.requires c.in_ok-runs.ensures (length ss) ss (map vec_items c.in_ok-answers.answers.items) count count
-    (c.in_ok-answers.ensures ∙ ap (λ z. map none_of z) c.deref-2.ensures.value)
+    running_at_start laid c.args.graphs.now c.args.runs.items c.requires.worlds ss (map vec_items c.in_ok-answers.answers.items) count
+    (c.in_ok-answers.ensures ∙ ap (λ z. map none_of z) c.deref-2.ensures.value) c.requires.graphs
 
 pub returns-clause-world : goal.returns-clause-world
 unfolding start

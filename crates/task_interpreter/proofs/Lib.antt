@@ -1,0 +1,10 @@
+pub mod Steps
+pub mod Conditions
+pub mod Cells
+pub mod Loops
+pub mod Blocks
+pub mod Calls
+pub mod Bodies
+pub mod Sizes
+pub mod Cases
+pub mod Law

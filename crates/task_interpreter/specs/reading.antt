@@ -1,0 +1,4 @@
+pub mod Direct
+pub mod Sizes
+pub mod Lists
+pub mod Seats
