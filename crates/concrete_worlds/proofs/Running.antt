@@ -1,11 +1,10 @@
 -- Tasks stay where their answers have led them.
-use Rattle.std.proofs.Common.{◌≡◌, refl, sym, ap, subst, ◌∙◌, ℕ, zero, suc, ◌+◌, ◌<◌, ◌≤◌, List, [], ◌∷◌, ◌++◌, length, map, get_or, slice_set, set, Some, None, arith, ◌⊎◌, inl, inr}
+use Rattle.std.proofs.Common.{◌≡◌, refl, sym, ap, subst, ◌∙◌, ℕ, zero, suc, ◌+◌, ◌<◌, ◌≤◌, List, [], ◌∷◌, ◌++◌, length, map, get_or, slice_set, set, Some, None, arith, inl, inr}
 use Rattle.std.proofs.lemmas.Bool.{cases_eq, cases_lt}
 use Rattle.std.proofs.lemmas.List.{length-map, length-append, length-set, get_or-set_same, get_or-set_other, set-get_or, get_or_default, get_or_append_left, get_or-append-add}
 use Rattle.tm_laid.specs.declared.layouts.Laid.{Laid}
 use Rattle.tm_laid.specs.Layouts.{LaidTree, laid_tree}
 use Rattle.concrete_values.specs.declared.values.Answer.{Answer}
-use Rattle.concrete_values.specs.declared.actions.Next.{Next}
 use Rattle.concrete_steps.specs.NextAction.{next}
 use Rattle.concrete_steps.specs.Worlds.{start_tasks, start_section, start_standings}
 use Rattle.flow_graph.specs.declared.graphs.Graph.{Graph}
@@ -149,7 +148,7 @@ module _ (laid : Laid) (graphs : List Graph) (runs : List Run) where
 
   pub begin : MayStart laid graphs runs → BeginSo (laid_tree laid) runs
   begin (inl none) task run lt = absurd (let e = ap length none in omega (arith, e, lt))
-  begin (inr along) = begin_along along.0 along.1
+  begin (inr along) task run lt = begin_along along.0 along.1 task run lt
 
   module _ {A : Type 0} (worlds : HasWorlds laid) (xs : List A) (answers : List (List Answer)) (count : length xs ≡ task_count laid) (is : answers ≡ map none_of xs) where
     running_along : HasGraphs laid graphs → AreStarted (laid_tree laid) graphs (task_count laid) runs → AreRunning laid graphs answers runs

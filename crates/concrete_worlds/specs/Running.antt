@@ -1,5 +1,5 @@
 -- Worlds whose tasks stand where their answers have led them.
-use Rattle.std.specs.Prelude.{◌≡◌, ℕ, ◌<◌, ◌≤◌, List, [], length, map, get_or, vec_items}
+use Rattle.std.specs.Prelude.{ℕ, ◌<◌, ◌≤◌, List, [], length, map, get_or, vec_items}
 use Rattle.tm_laid.specs.declared.layouts.Laid.{Laid}
 use Rattle.tm_laid.specs.Layouts.{laid_tree}
 use Rattle.concrete_values.specs.declared.values.Answer.{Answer}

@@ -143,13 +143,15 @@ impl World<'_> {
     }
 
     // What a task, or the initial section, does next.
+    #[tactic(auto, unfolding(concrete_steps::specs::Worlds::next_at))]
     pub(crate) fn next_of(&self, task: u32) -> Next
         requires { IsWorld self.now }
         ensures { result ≡ next_at (laid_of self.now) (world_of self.now) task }
     {
-        match self.runs.get(task as usize) {
-            Some(run) => run.next,
-            None => next_after(self.laid, &self.answers, task),
+        if (task as usize) < self.runs.len() {
+            self.runs[task as usize].next
+        } else {
+            next_after(self.laid, &self.answers, task)
         }
     }
 
@@ -177,12 +179,13 @@ impl World<'_> {
             Ok(()) => {}
             Err(NoMemory) => return Err(NoMemory),
         }
-        match self.runs.get_mut(task as usize) {
-            None => note(&mut self.answers, task, answer),
-            Some(run) => match run.answer(self.laid, &self.graphs[task as usize], answer) {
-                Ok(()) => note(&mut self.answers, task, answer),
-                Err(NoMemory) => Err(NoMemory),
-            },
+        if task as usize >= self.runs.len() {
+            return note(&mut self.answers, task, answer);
+        }
+        let (laid, graphs) = (self.laid, self.graphs);
+        match self.runs[task as usize].answer(laid, &graphs[task as usize], answer) {
+            Ok(()) => note(&mut self.answers, task, answer),
+            Err(NoMemory) => Err(NoMemory),
         }
     }
 
