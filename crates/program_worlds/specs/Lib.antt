@@ -1,2 +1,2 @@
--- Which programs have worlds.
+-- Which programs have graphs along which their tasks go.
 pub mod Laws

@@ -2,7 +2,7 @@
 ghost use Rattle.std.specs.Prelude.{◌≡◌, ◌+◌, IfOk, OnOk};
 ghost use Rattle.tm_laid.specs.Layouts.{laid_tree};
 ghost use Rattle.concrete_steps.specs.Worlds.{step};
-ghost use Rattle.concrete_worlds.specs.Lawful.{HasWorlds};
+ghost use Rattle.concrete_worlds.specs.Lawful.{HasWorlds, HasGraphs};
 ghost use Rattle.concrete_worlds.specs.Running.{IsWorld};
 ghost use Rattle.concrete_worlds.specs.Views.{laid_of, world_of};
 ghost use Rattle.replay_runs.specs.Runs.{IsRun, ended_by};
@@ -82,10 +82,11 @@ pub fn run_by(
     graphs: &[Graph],
     choices: &[Choice],
 ) -> Result<Run, NoMemory>
-    requires { HasWorlds laid.now graphs.now }
+    requires worlds { HasWorlds laid.now }
+    requires graphs { HasGraphs laid.now graphs.now }
     ensures { IfOk result (λ run. IsRun (laid_tree laid.now) choices.now run.places.items run.ending) }
 {
-    let mut world = World::start(alloc, laid, graphs)?;
+    let mut world = World::start_along(alloc, laid, graphs)?;
     let mut places = Vec::new(alloc);
     for (done, choice) in choices.iter().enumerate() {
         match turn(alloc, &mut world, &mut places, done + 1, *choice)? {

@@ -2,13 +2,14 @@
 ghost use Rattle.std.specs.Prelude.{◌≡◌, IfOk, string_bytes};
 ghost use Rattle.tm_terms.specs.Texts.{refusal_text};
 ghost use Rattle.tm_laid.specs.Layouts.{laid_tree};
-ghost use Rattle.concrete_worlds.specs.Lawful.{HasWorlds};
+ghost use Rattle.concrete_worlds.specs.Lawful.{HasWorlds, HasGraphs};
 ghost use Rattle.source_programs.specs.Sources.{source_limit};
 ghost use Rattle.source_replays.specs.Replays.{HasReplay, IsReplayable, no_replay_text};
 ghost use Rattle.source_replays.specs.reading.Replies.{IsRefusalLine, TellsRun};
 
+use concrete_worlds::laws::laid_files_have_worlds;
 use flow_graph::Graph;
-use program_worlds::programs_have_worlds;
+use program_worlds::programs_have_graphs;
 use replay_lines::{Ending, choices_in, replay_text, source_in};
 use replay_runs::{Run, run_by};
 use source_programs::source_program;
@@ -92,7 +93,8 @@ fn told(alloc: Global, run: &Run) -> Result<Reply, NoMemory>
 /// The answer to bytes of whose source these are the layout and the graphs.
 fn replayed(alloc: Global, bytes: &[u8], laid: &Laid, graphs: &[Graph]) -> Result<Reply, NoMemory>
     requires replayable { IsReplayable bytes.now (laid_tree laid.now) }
-    requires worlds { HasWorlds laid.now graphs.now }
+    requires worlds { HasWorlds laid.now }
+    requires graphs { HasGraphs laid.now graphs.now }
     ensures { IfOk result (λ reply. HasReplay bytes.now reply.outcome (string_bytes reply.text)) }
 {
     match choices_in(alloc, bytes)? {
@@ -109,7 +111,8 @@ fn replayed(alloc: Global, bytes: &[u8], laid: &Laid, graphs: &[Graph]) -> Resul
 pub fn replay(alloc: Global, bytes: &[u8]) -> Result<Reply, NoMemory>
     ensures { IfOk result (λ reply. HasReplay bytes.now reply.outcome (string_bytes reply.text)) }
 {
-    programs_have_worlds();
+    laid_files_have_worlds();
+    programs_have_graphs();
     if bytes.len() > SOURCE as usize {
         return refused(alloc, too_long());
     }
