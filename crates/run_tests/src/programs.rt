@@ -1,15 +1,15 @@
 //! Programs without tasks: what their cells of static storage hold in the end is what a C compiler for 32-bit x86 gives
 //! (vectors/runs.c).
 ghost use Rattle.concrete_worlds.specs.Lawful.{HasWorlds};
+ghost use Rattle.concrete_worlds.specs.Running.{IsWorld};
 
 use crate::pictures::cells_told;
-use crate::sources::laid_out;
+use crate::sources::{RunningProgram, running};
 use concrete_steps::{Choice, Stepped};
 use concrete_worlds::World;
 use std::alloc::Global;
 use std::process::Abort;
 use std::test::Fail;
-use tm_laid::Laid;
 use tm_lattice::NoMemory;
 
 // A program, and what its cells of static storage hold when `main` has returned.
@@ -224,7 +224,7 @@ two(n,7));r[1]=f(2)&&f(3)?f(4):f(5);r[2]=two((n=n%100,n*5),3);return 0;}",
 
 // Runs `main` to its end: no action of it leaves a value open.
 fn run_main(world: &mut World) -> Result<Stepped, NoMemory>
-    requires { HasWorlds world.old.laid.now }
+    requires { IsWorld world.old }
 {
     for _turn in 0..20_000 {
         let stepped = world.step(Choice::Run { task: 0, value: 0 })?;
@@ -243,21 +243,21 @@ fn is_done(stepped: Stepped) -> bool {
     }
 }
 
-fn end_told(alloc: Global, laid: &Laid) -> Result<String, Fail>
-    requires { HasWorlds laid.now }
+fn end_told(alloc: Global, program: &RunningProgram) -> Result<String, Fail>
+    requires { HasWorlds program.now.laid program.now.graphs.graphs.items }
 {
-    let mut world = World::start(alloc, laid)?;
+    let mut world = World::start(alloc, &program.laid, &program.graphs.graphs)?;
     let last = run_main(&mut world)?;
     if is_done(last) && !world.is_stopped() {
-        let cells = laid.initial.len().min(65_536) as u32;
+        let cells = program.laid.initial.len().min(65_536) as u32;
         return cells_told(alloc, &world, cells);
     }
     Ok(String::from_str(alloc, "not at its end")?)
 }
 
 fn program_told(alloc: Global, source: &str) -> Result<String, Fail> {
-    match laid_out(alloc, source.as_bytes()) {
-        Ok(laid) => end_told(alloc, &laid),
+    match running(alloc, source.as_bytes()) {
+        Ok(program) => end_told(alloc, &program),
         Err(_) => Ok(String::from_str(alloc, "refused")?),
     }
 }

@@ -1,12 +1,18 @@
-//! The layout of a source.
+//! The layout of a source and the graphs of its bodies.
 ghost use Rattle.std.specs.Prelude.{IfOk};
+ghost use Rattle.tm_laid.specs.tm_typed.TypedFiles.{typed_file_tree};
+ghost use Rattle.tm_laid.specs.Layouts.{laid_tree};
+ghost use Rattle.tm_laid.specs.Layable.{IsLayable};
+ghost use Rattle.program_worlds.specs.lowering_laws.LaidFiles.{IsLaidFile};
 ghost use Rattle.concrete_worlds.specs.Lawful.{HasWorlds};
 
 use c_lexer::lex;
 use c_parser::parse;
 use c_typing::typed;
 use cell_layout::lay;
-use concrete_worlds::laws::laid_files_have_worlds;
+use flow_graph::Graphs;
+use graph_builder::lower;
+use program_worlds::programs_have_worlds;
 use std::alloc::Global;
 use tm_laid::Laid;
 use tm_terms::{Fail as Refused, Name, Shape, Token};
@@ -41,28 +47,51 @@ fn main_in(source: &[u8], tokens: &[Token]) -> Option<Name> {
     None
 }
 
-// The layout of a file: what it needs follows from its typing and from the limits.
+/// A program that can run.
+#[derive(Drop)]
+pub struct RunningProgram {
+    pub laid: Laid,
+    pub graphs: Graphs,
+}
+
+// The layout of a file: what it needs follows from its typing.
 fn laid_in(alloc: Global, file: &File, main: Option<Name>) -> Result<Laid, Refused>
-    ensures { IfOk result (λ laid. HasWorlds laid) }
+    ensures laid { IfOk result (λ laid. IsLaidFile (laid_tree laid)) }
+    ensures layable { IfOk result (λ laid. IsLayable (typed_file_tree laid.file) laid.file.order.items) }
 {
     typed_files_can_be_laid_out();
-    laid_files_have_worlds();
     match typed(alloc, file, main) {
         Ok(typed) => lay(alloc, typed),
         Err(fail) => Err(fail),
     }
 }
 
-/// The layout of a source, or its refusal.
-pub fn laid_out(alloc: Global, source: &[u8]) -> Result<Laid, Refused>
-    ensures { IfOk result (λ laid. HasWorlds laid) }
+// And the graphs of its bodies.
+fn lowered_in(alloc: Global, laid: Laid) -> Result<RunningProgram, Refused>
+    requires laid { IsLaidFile (laid_tree laid) }
+    requires layable { IsLayable (typed_file_tree laid.file) laid.file.order.items }
+    ensures { IfOk result (λ program. HasWorlds program.laid program.graphs.graphs.items) }
+{
+    programs_have_worlds();
+    match lower(alloc, &laid) {
+        Ok(graphs) => Ok(RunningProgram { laid, graphs }),
+        Err(fail) => Err(fail),
+    }
+}
+
+/// The program of a source, or its refusal.
+pub fn running(alloc: Global, source: &[u8]) -> Result<RunningProgram, Refused>
+    ensures { IfOk result (λ program. HasWorlds program.laid program.graphs.graphs.items) }
 {
     if source.len() > 1_048_576 {
         return Err(Refused::NoMemory);
     }
     match lex(alloc, source) {
         Ok(tokens) => match parse(alloc, &tokens) {
-            Ok(file) => laid_in(alloc, &file, main_in(source, &tokens)),
+            Ok(file) => match laid_in(alloc, &file, main_in(source, &tokens)) {
+                Ok(laid) => lowered_in(alloc, laid),
+                Err(fail) => Err(fail),
+            },
             Err(fail) => Err(fail),
         },
         Err(fail) => Err(fail),

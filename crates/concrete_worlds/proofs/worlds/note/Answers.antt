@@ -1,7 +1,7 @@
 use Rattle.std.proofs.Common.{ap, sym, ◌∙◌, arith, Some}
 use Rattle.std.proofs.lemmas.Option.{slice_get-get_or}
 use Rattle.concrete_worlds.proofs.Lists.{answer_one, same_one}
-use Rattle.concrete_worlds.proofs.worlds.tell.Goals as goal
+use Rattle.concrete_worlds.proofs.worlds.note.Goals as goal
 
 pub returns-in-Ok-clause-told : goal.returns-in-Ok-clause-told
 returns-in-Ok-clause-told c =
