@@ -1,6 +1,6 @@
 //! Programs without tasks: what their cells of static storage hold in the end is what a C compiler for 32-bit x86 gives
 //! (vectors/runs.c).
-ghost use Rattle.concrete_worlds.specs.Lawful.{HasWorlds};
+ghost use Rattle.concrete_worlds.specs.Lawful.{HasGraphs, HasWorlds};
 ghost use Rattle.concrete_worlds.specs.Running.{IsWorld};
 
 use crate::pictures::cells_told;
@@ -243,28 +243,43 @@ fn is_done(stepped: Stepped) -> bool {
     }
 }
 
-fn end_told(alloc: Global, program: &RunningProgram) -> Result<String, Fail>
-    requires { HasWorlds program.now.laid program.now.graphs.graphs.items }
+// What the first cells hold at the end.
+fn end_told(alloc: Global, world: &mut World, cells: u32) -> Result<String, Fail>
+    requires { IsWorld world.old }
 {
-    let mut world = World::start(alloc, &program.laid, &program.graphs.graphs)?;
-    let last = run_main(&mut world)?;
+    let last = run_main(world)?;
     if is_done(last) && !world.is_stopped() {
-        let cells = program.laid.initial.len().min(65_536) as u32;
-        return cells_told(alloc, &world, cells);
+        return cells_told(alloc, world, cells);
     }
     Ok(String::from_str(alloc, "not at its end")?)
 }
 
+// The end in the plain model, and behind a bar that in a world along graphs.
+fn ends_told(alloc: Global, program: &RunningProgram) -> Result<String, Fail>
+    requires worlds { HasWorlds program.now.laid }
+    requires graphs { HasGraphs program.now.laid program.now.graphs.graphs.items }
+{
+    let cells = program.laid.initial.len().min(65_536) as u32;
+    let mut plain = World::start(alloc, &program.laid)?;
+    let mut text = end_told(alloc, &mut plain, cells)?;
+    let mut along = World::start_along(alloc, &program.laid, &program.graphs.graphs)?;
+    let again = end_told(alloc, &mut along, cells)?;
+    text.push_str("| ")?;
+    text.push_str(&again)?;
+    Ok(text)
+}
+
 fn program_told(alloc: Global, source: &str) -> Result<String, Fail> {
     match running(alloc, source.as_bytes()) {
-        Ok(program) => end_told(alloc, &program),
+        Ok(program) => ends_told(alloc, &program),
         Err(_) => Ok(String::from_str(alloc, "refused")?),
     }
 }
 
 fn ends_so(rt: &impl Abort, alloc: Global, source: &str, values: &str) -> Result<(), Fail> {
     let given = program_told(alloc, source)?;
-    assert_eq!(rt; given.as_str(), values);
+    let twice = format!(in alloc; "{values}| {values}")?;
+    assert_eq!(rt; given.as_str(), twice.as_str());
     Ok(())
 }
 

@@ -1,6 +1,5 @@
 //! Runs by choices, with a picture of the world after each.
-ghost use Rattle.std.specs.Prelude.{◌≡◌};
-ghost use Rattle.concrete_worlds.specs.Lawful.{HasWorlds};
+ghost use Rattle.concrete_worlds.specs.Lawful.{HasGraphs, HasWorlds};
 ghost use Rattle.concrete_worlds.specs.Running.{IsWorld};
 
 use crate::pictures::world_told;
@@ -190,21 +189,34 @@ fn step_told(alloc: Global, world: &mut World, choice: Choice) -> Result<String,
     Ok(text)
 }
 
-fn run_told(alloc: Global, program: &RunningProgram, choices: &str) -> Result<String, Fail>
-    requires { HasWorlds program.now.laid program.now.graphs.graphs.items }
+fn run_told(alloc: Global, world: &mut World, choices: &str) -> Result<String, Fail>
+    requires { IsWorld world.old }
 {
-    let mut world = World::start(alloc, &program.laid, &program.graphs.graphs)?;
-    let mut text = picture(alloc, &world)?;
+    let mut text = picture(alloc, world)?;
     for word in choices.split_whitespace() {
-        let told = step_told(alloc, &mut world, choice_of(word))?;
+        let told = step_told(alloc, world, choice_of(word))?;
         text.push_str(&told)?;
     }
     Ok(text)
 }
 
+// The run in the plain model, and behind a bar that in a world along graphs.
+fn runs_told(alloc: Global, program: &RunningProgram, choices: &str) -> Result<String, Fail>
+    requires worlds { HasWorlds program.now.laid }
+    requires graphs { HasGraphs program.now.laid program.now.graphs.graphs.items }
+{
+    let mut plain = World::start(alloc, &program.laid)?;
+    let mut text = run_told(alloc, &mut plain, choices)?;
+    let mut along = World::start_along(alloc, &program.laid, &program.graphs.graphs)?;
+    let again = run_told(alloc, &mut along, choices)?;
+    text.push_str("| ")?;
+    text.push_str(&again)?;
+    Ok(text)
+}
+
 fn source_told(alloc: Global, source: &str, choices: &str) -> Result<String, Fail> {
     match running(alloc, source.as_bytes()) {
-        Ok(program) => run_told(alloc, &program, choices),
+        Ok(program) => runs_told(alloc, &program, choices),
         Err(_) => Ok(String::from_str(alloc, "refused")?),
     }
 }
@@ -217,7 +229,8 @@ fn runs_so(
     told: &str,
 ) -> Result<(), Fail> {
     let given = source_told(alloc, source, choices)?;
-    assert_eq!(rt; given.as_str(), told);
+    let twice = format!(in alloc; "{told}| {told}")?;
+    assert_eq!(rt; given.as_str(), twice.as_str());
     Ok(())
 }
 

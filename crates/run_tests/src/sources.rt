@@ -1,18 +1,17 @@
 //! The layout of a source and the graphs of its bodies.
 ghost use Rattle.std.specs.Prelude.{IfOk};
-ghost use Rattle.tm_laid.specs.tm_typed.TypedFiles.{typed_file_tree};
 ghost use Rattle.tm_laid.specs.Layouts.{laid_tree};
-ghost use Rattle.tm_laid.specs.Layable.{IsLayable};
 ghost use Rattle.program_worlds.specs.lowering_laws.LaidFiles.{IsLaidFile};
-ghost use Rattle.concrete_worlds.specs.Lawful.{HasWorlds};
+ghost use Rattle.concrete_worlds.specs.Lawful.{HasGraphs, HasWorlds};
 
 use c_lexer::lex;
 use c_parser::parse;
 use c_typing::typed;
 use cell_layout::lay;
+use concrete_worlds::laws::laid_files_have_worlds;
 use flow_graph::Graphs;
 use graph_builder::lower;
-use program_worlds::programs_have_worlds;
+use program_worlds::programs_have_graphs;
 use std::alloc::Global;
 use tm_laid::Laid;
 use tm_terms::{Fail as Refused, Name, Shape, Token};
@@ -54,12 +53,13 @@ pub struct RunningProgram {
     pub graphs: Graphs,
 }
 
-// The layout of a file: what it needs follows from its typing.
+// The layout of a file: what it needs follows from its typing and from the limits.
 fn laid_in(alloc: Global, file: &File, main: Option<Name>) -> Result<Laid, Refused>
-    ensures laid { IfOk result (λ laid. IsLaidFile (laid_tree laid)) }
-    ensures layable { IfOk result (λ laid. IsLayable (typed_file_tree laid.file) laid.file.order.items) }
+    ensures worlds { IfOk result (λ laid. HasWorlds laid) }
+    ensures typed { IfOk result (λ laid. IsLaidFile (laid_tree laid)) }
 {
     typed_files_can_be_laid_out();
+    laid_files_have_worlds();
     match typed(alloc, file, main) {
         Ok(typed) => lay(alloc, typed),
         Err(fail) => Err(fail),
@@ -68,11 +68,12 @@ fn laid_in(alloc: Global, file: &File, main: Option<Name>) -> Result<Laid, Refus
 
 // And the graphs of its bodies.
 fn lowered_in(alloc: Global, laid: Laid) -> Result<RunningProgram, Refused>
-    requires laid { IsLaidFile (laid_tree laid) }
-    requires layable { IsLayable (typed_file_tree laid.file) laid.file.order.items }
-    ensures { IfOk result (λ program. HasWorlds program.laid program.graphs.graphs.items) }
+    requires worlds { HasWorlds laid }
+    requires typed { IsLaidFile (laid_tree laid) }
+    ensures worlds { IfOk result (λ program. HasWorlds program.laid) }
+    ensures graphs { IfOk result (λ program. HasGraphs program.laid program.graphs.graphs.items) }
 {
-    programs_have_worlds();
+    programs_have_graphs();
     match lower(alloc, &laid) {
         Ok(graphs) => Ok(RunningProgram { laid, graphs }),
         Err(fail) => Err(fail),
@@ -81,7 +82,8 @@ fn lowered_in(alloc: Global, laid: Laid) -> Result<RunningProgram, Refused>
 
 /// The program of a source, or its refusal.
 pub fn running(alloc: Global, source: &[u8]) -> Result<RunningProgram, Refused>
-    ensures { IfOk result (λ program. HasWorlds program.laid program.graphs.graphs.items) }
+    ensures worlds { IfOk result (λ program. HasWorlds program.laid) }
+    ensures graphs { IfOk result (λ program. HasGraphs program.laid program.graphs.graphs.items) }
 {
     if source.len() > 1_048_576 {
         return Err(Refused::NoMemory);
