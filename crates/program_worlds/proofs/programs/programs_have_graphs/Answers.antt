@@ -1,15 +1,14 @@
-use Rattle.std.proofs.Common.{◌≡◌, ℕ, ◌+◌, ◌<◌, ◌≤◌, List, [], ◌∷◌, ◌++◌, length, map, get_or, Option, Some, None, refl, sym, ap, subst, ◌∙◌, arith}
-use Rattle.std.specs.Prelude.{All}
+use Rattle.std.proofs.Common.{◌≡◌, ℕ, ◌+◌, ◌<◌, length, map, get_or, Option, Some, None, refl, sym, ap, subst, ◌∙◌, arith}
 use Rattle.std.proofs.lemmas.List.{length-map, length-append}
 use Rattle.tm_typed.specs.Files.{TypedFileTree}
-use Rattle.tm_laid.specs.declared.layouts.Laid.{Laid}
 use Rattle.tm_laid.specs.Layouts.{LaidTree, laid_tree, layout_of}
-use Rattle.tm_laid.specs.Paths.{bodies_of, listed}
+use Rattle.tm_laid.specs.Paths.{listed}
 use Rattle.layout_laws.proofs.Kept.{limits_kept}
 use Rattle.flow_graph.specs.declared.graphs.Graph.{Graph}
 use Rattle.flow_graph.specs.Graphs.{Edges}
 use Rattle.flow_graph.specs.Runs.{GraphNext}
 use Rattle.graph_facts.specs.Edges.{AreInRange}
+use Rattle.lowering_laws.specs.lowering.Built.{graph_of}
 use Rattle.concrete_worlds.specs.Lawful.{section_count, task_count}
 use Rattle.program_worlds.proofs.programs.programs_have_graphs.Goals as goal
 
@@ -41,7 +40,7 @@ returns c = λ laid graphs source are.
             is_graph = record {
               entry = can.entry;
               range = subst (λ (es : Edges). AreInRange es g.nodes) (sym is.edges)
-                  (subst (λ (n : ℕ). AreInRange (_) n) (sym is.nodes) (c.edges_join_nodes.ensures tree task));
+                  (subst (λ (n : ℕ). AreInRange (graph_of tree task) n) (sym is.nodes) (c.edges_join_nodes.ensures tree task));
             };
             follows = λ answers n run. (c.graphs_run_as_next.ensures tree source task within answers n).0
                 (subst (λ (es : Edges). GraphNext tree es answers n) is.edges run);
