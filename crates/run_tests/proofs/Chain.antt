@@ -14,7 +14,7 @@ use Rattle.c_typing.specs.call_graph.Graphs.{lists}
 use Rattle.c_typing.specs.call_graph.Orders.{IsWholeOrder}
 use Rattle.typed_file_laws.specs.Layouts.{AreLayable}
 use Rattle.typed_file_laws.proofs.Layable.{comes}
-use Rattle.program_worlds.specs.lowering_laws.LaidFiles.{IsLaidFile}
+use Rattle.lowering_laws.specs.LaidFiles.{IsLaidFile}
 use Rattle.concrete_worlds.specs.Lawful.{HasWorlds}
 use Rattle.concrete_worlds.specs.Laws.{LaidFilesHaveWorlds}
 

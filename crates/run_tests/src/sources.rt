@@ -1,7 +1,7 @@
 //! The layout of a source and the graphs of its bodies.
 ghost use Rattle.std.specs.Prelude.{IfOk};
 ghost use Rattle.tm_laid.specs.Layouts.{laid_tree};
-ghost use Rattle.program_worlds.specs.lowering_laws.LaidFiles.{IsLaidFile};
+ghost use Rattle.lowering_laws.specs.LaidFiles.{IsLaidFile};
 ghost use Rattle.concrete_worlds.specs.Lawful.{HasGraphs, HasWorlds};
 
 use c_lexer::lex;
