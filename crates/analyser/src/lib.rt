@@ -6,12 +6,11 @@
 //! `alarms 1`, each with byte 10 behind it, and the status `Alarms`: `x` is 0 where the task divides by it.
 #![tactic(auto)]
 
-mod input;
+mod commands;
 pub mod laws;
-mod output;
 mod replies;
-mod statuses;
+mod solvers;
 mod top;
 
-pub use statuses::Status;
-pub use top::analyse;
+pub use program_streams::Status;
+pub use top::{analyse, analyse_alone, asks_workers};
