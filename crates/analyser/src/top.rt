@@ -23,9 +23,9 @@ use tm_lattice::NoMemory;
 /// made before its first byte is written.
 ///
 /// The tasks are analysed by as many workers as the words ask for, and the gate is told when a pass begins and when it
-/// has ended; where the words ask for no workers the calling thread passes the tasks in turn, as in `analyse_alone`, and
-/// the gate is not told. The call may wait for its workers, so no contract says that it returns; what it answers does
-/// not depend on how many they are, nor on their order, but for the lines of a history.
+/// has ended; where the words ask for no workers the calling thread passes the tasks in turn, as in `analyse_alone`,
+/// and the gate is not told. The call may wait for its workers, so no contract says that it returns; what it answers
+/// does not depend on how many they are, nor on their order, but for the lines of a history.
 pub fn analyse<R: Threads + Wait + Sync, S: Source, K: Sink, G: Gate>(
     rt: &R,
     alloc: Heap,
@@ -82,8 +82,8 @@ fn asks(command: &Option<Command>) -> bool
     }
 }
 
-/// Whether words ask for workers: for more than one, or for the history of one. All others, among them those that are no
-/// command, `analyse_alone` answers.
+/// Whether words ask for workers: for more than one, or for the history of one. All others, those that are no command
+/// among them, `analyse_alone` answers.
 pub fn asks_workers(alloc: Heap, words: &[String]) -> Result<bool, NoMemory>
     ensures { IfOk result (λ asks. asks ≡ asks_workers (command_of (texts_of words.now))) }
 {

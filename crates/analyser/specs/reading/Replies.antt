@@ -11,8 +11,8 @@ use Rattle.analyser.specs.declared.solvers.Solved.{Solved}
 use Rattle.analyser.specs.declared.replies.Found.{Found}
 use Rattle.analyser.specs.declared.replies.Found.TheVariants as Finds
 use Rattle.program_streams.specs.declared.statuses.Status.{Status}
-use Rattle.program_streams.specs.declared.statuses.Status.TheVariants.{NoAlarm, Alarms, Refused, Usage, ReadFault, WriteFault}
-use Rattle.program_streams.specs.declared.statuses.Status.TheVariants.{NoMemory}
+use Rattle.program_streams.specs.declared.statuses.Status.TheVariants.{NoAlarm, Alarms, Refused, Usage, ReadFault}
+use Rattle.program_streams.specs.declared.statuses.Status.TheVariants.{WriteFault, NoMemory}
 use Rattle.analyser.specs.Answers.{HasAlarm, HistoryFor, Reports}
 
 -- the lines of a past, where they are asked for
