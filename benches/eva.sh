@@ -10,6 +10,8 @@
 # processor seconds, each run bound to one processor; a row says N, bytes of the source, seconds and MB of both, and the
 # two ratios. Frama-C and GNU time have to be installed.
 set -eu
+[ $# -ge 1 ] || { sed -n 's/^#     /usage: /p' "$0"; exit 2; }
+command -v frama-c > /dev/null || { echo 'frama-c is not on the PATH' >&2; exit 2; }
 
 program=$(readlink -f "$1")
 shift

@@ -11,6 +11,8 @@
 # and MB of both, and the two ratios; then how the time grows from the least to the greatest N, and with 1 and with 4
 # workers on eight tasks (seconds by the clock). Frama-C and GNU time have to be installed.
 set -eu
+[ $# -ge 1 ] || { sed -n 's/^#     /usage: /p' "$0"; exit 2; }
+command -v frama-c > /dev/null || { echo 'frama-c is not on the PATH' >&2; exit 2; }
 
 program=$(readlink -f "$1")
 shift

@@ -7,6 +7,7 @@
 # processor seconds and the MB of one run with a stack of 8 MB, and the last line of the answer. A run is ended after
 # LIMIT processor seconds, 300 where it is not set. GNU time has to be installed.
 set -eu
+[ $# -ge 1 ] || { sed -n 's/^#     /usage: /p' "$0"; exit 2; }
 
 program=$(readlink -f "$1")
 shift

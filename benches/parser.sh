@@ -1,20 +1,24 @@
 #!/bin/sh
 # The time and the memory of the program on 1 MiB of code of the examples' kind, which it lexes, parses and types, beside
 # a C compiler's `-fsyntax-only` on the same text.
-# The text is the examples again and again, each copy with long names of its own, so that 1 MiB has at most 200,000 tokens. The
-# compiler gets the words of the language that C lacks by definitions on its command line.
+# The text is three of the examples again and again, each copy with long names of its own, so that 1 MiB has at most
+# 200,000 tokens. It has more tasks than a program may have, so it is refused by that limit once it is typed. The compiler
+# gets the words of the language that C lacks by definitions on its command line. It is run at the top of the repository.
 # usage: benches/parser.sh PROGRAM WORD..    e.g. benches/parser.sh crates/analyse_main/out/analyse_main analyse
 set -eu
-[ $# -ge 1 ] || { sed -n 2,6p "$0"; exit 2; }
+[ $# -ge 1 ] || { sed -n 2,7p "$0"; exit 2; }
 folder=$(mktemp -d)
 trap 'rm -r "$folder"' EXIT
 
-# copy N: the three examples, with _of_unit_N behind each name that is declared at file scope
+# copy N: the examples, with _of_unit_N behind each name that is declared at file scope
 names='sample_t accumulator_t CHANNELS WINDOW FRACTION filter bank limits input output saturations clamped low_pass average filters
 byte ring size CAPACITY received last checksum put take guard receive process
 state_t IDLE STARTING RUNNING STOPPING FAULT inputs LEAST_CURRENT GREATEST_CURRENT TICKS in state ticks faults duty enter step machine main'
 renames() { for name in $names; do printf 's/\\b%s\\b/%s_of_unit_%s/g\n' "$name" "$name" "$1"; done; }
-copy() { renames "$1" > "$folder/renames"; cat examples/filter_bank.c examples/ring_buffer.c examples/state_machine.c | sed -f "$folder/renames"; }
+copy() {
+    renames "$1" > "$folder/renames"
+    cat examples/filter_bank.c examples/ring_buffer.c examples/state_machine.c | sed -f "$folder/renames"
+}
 
 n=0
 : > "$folder/text.c"

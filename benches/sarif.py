@@ -91,6 +91,9 @@ def places(log):
 
 
 def main():
+    if not sys.argv[1:]:
+        print(__doc__)
+        return 2
     for file in sys.argv[1:]:
         try:
             with open(file, encoding="utf-8") as it:

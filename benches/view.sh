@@ -1,9 +1,10 @@
 #!/usr/bin/env bash
 # Shows reports in the files of their sources: benches/view.sh [--unproved]. It needs gcc, clang, make and python3.
 #
-# The example of two files and a header is compiled and run by gcc and clang, unchanged, and analysed: its alarms stand at
-# the lines of its files, also through a link, from another folder, and under names with blanks, quotes and backslashes.
-# The logs of all examples are checked, and have the places of the lines.
+# The example of two files and a header is compiled and run by gcc and clang, unchanged, and analysed: its alarms stand
+# at the lines of its files, also through a link, from another folder, and under names with blanks, quotes and
+# backslashes. Each example has the report that stands beside it. The logs of all examples are checked, and have the
+# places of the lines.
 set -eu
 here=$(cd "$(dirname "$0")" && pwd)
 top=${here%/*}
@@ -60,6 +61,12 @@ for compiler in gcc clang; do
 done
 unset CC
 
+# Each example has the report that stands beside it.
+for source in "$top"/examples/*.c; do
+    same "$(cat "${source%.c}.report")" "$(told "$top/analyse" --plain --preprocessed "$source" | sed '$d')" \
+        "the report of ${source##*/}"
+done
+
 # The logs and summaries of the examples: each log has the places and classes of the lines.
 for source in "$top"/examples/*.c "$top/examples/project/project.c"; do
     told "$top/analyse" --sarif "$source" >"$work/log"
@@ -79,6 +86,7 @@ done
 # Refusals at their places, marks that cannot be followed, and names that are no UTF-8.
 printf '# 7 "a b.h"\nint\n=;\n' >"$work/refused.c"
 same $'a b.h:8:1: refused Syntax\nstatus 2' "$(told "$top/analyse" --preprocessed "$work/refused.c")" "a refusal"
+grep -q '^analyse: Syntax: ' "$work/err" && echo "its meaning is told"
 printf '# 99999999999 "a.h"\nint n;\n' >"$work/broken.c"
 same "status 10" "$(told "$top/analyse" --preprocessed "$work/broken.c")" "a broken mark"
 printf 'int n;\n__task(1) void t(void) { n = 1 / n; }\n' >"$work/"$'n\xff.c'
@@ -90,4 +98,11 @@ printf '#error no\n' >"$work/error.c"
 same "status 9" "$(told "$top/analyse" "$work/error.c")" "a preprocessor that fails"
 grep -q 'error.c:1:' "$work/err" && echo "its message is told"
 same "status 9" "$(CC=$work/none told "$top/analyse" "$work/error.c")" "a preprocessor that is not there"
+
+# Words that are no command: what may be wrong with them is told.
+same "status 3" "$(told "$top/analyse" "$work/refused.c" --sarif)" "an option behind the file"
+grep -q 'stands before FILE' "$work/err"
+same "status 3" "$(told "$top/analyse" "$work/refused.c" "$work/error.c")" "a second file"
+grep -q 'one FILE is analysed' "$work/err"
+same "status 3" "$(told "$top/analyse" --sarif "$work/refused.c" --json)" "two forms"
 echo "all as wanted"

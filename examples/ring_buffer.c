@@ -2,7 +2,7 @@
 
    The report has no alarm. The subscripts stay below CAPACITY, since `first` is only ever stored after `% CAPACITY`;
    `count` wraps in unsigned arithmetic and is no subscript; and each access to the ring and to the checksum stands
-   under the mutex. Without the mutex it is ring_buffer_unguarded.c. */
+   under the mutex. A buffer without one is unguarded_buffer.c. */
 typedef unsigned char byte;
 typedef struct ring ring;
 

@@ -242,6 +242,9 @@ def split_use(file, line):
 
 
 def main():
+    if len(sys.argv) > 2 or sys.argv[1:] and sys.argv[1].startswith("-"):
+        print(__doc__)
+        return
     repository = Repository(os.path.abspath(sys.argv[1] if len(sys.argv) > 1 else "."))
     repository.read()
     repository.order()

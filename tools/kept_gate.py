@@ -103,7 +103,10 @@ def try_edits(crate):
 
 def main():
     words = sys.argv[1:]
-    names = {it for it in words if not it.startswith("--")}
+    names = {it for it in words if not it.startswith("-")}
+    if set(words) - names - {"--no-tests", "--no-edits"}:
+        print(__doc__)
+        return 2
     root = os.getcwd()
     Crate.cuts_libraries = True
     rtlib.stop, rtlib.Crate = rt.stop, Crate

@@ -2,16 +2,16 @@
 ghost use Rattle.std.specs.Prelude.{◌≡◌, ◌≤◌, [], ◌∷◌, true, false, length, map, Some, IfOk};
 ghost use Rattle.c_expr_parser.specs.reading.Parts.{then_read, and_after, after};
 ghost use Rattle.tm_trees.specs.DeclarationTrees.{declared_name, specifier_tree, as_specifiers, declarator_tree};
-ghost use Rattle.tm_trees.specs.DeclarationTrees.{init_declarator_tree, declaration_tree};
+ghost use Rattle.tm_trees.specs.DeclarationTrees.{InitDeclaratorTree, init_declarator_tree, declaration_tree};
 ghost use Rattle.tm_trees.specs.DeclarationSpelling.{is_file_list, is_typedef_list};
 ghost use Rattle.c_decl_parser.specs.reading.Parts.{seen};
-ghost use Rattle.c_decl_parser.specs.reading.Repetitions.{separated, one_or_more};
 ghost use Rattle.c_decl_parser.specs.reading.DeclarationDescent.{pointers, initialiser, init_declarator_after};
 ghost use Rattle.c_decl_parser.specs.reading.DeclarationDescent.{init_declarator, init_declarators, local_after};
 ghost use Rattle.c_decl_parser.specs.reading.DeclarationDescent.{local_declaration, typedef_after, typedefs_from};
 ghost use Rattle.c_decl_parser.specs.reading.DeclarationDescent.{rest_of_declaration, file_declarators};
 
 use crate::declarators::declarator_after;
+use crate::lists::{PartReader, further_parts, parts};
 use crate::reads::{Read, push};
 use crate::specifiers::{names_type, specifiers};
 use crate::values::initialiser;
@@ -86,64 +86,26 @@ fn init_declarator_after<'a>(
     }
 }
 
-fn init_declarator<'a>(
-    alloc: Global,
-    types: &Names,
-    allowed: u32,
-    tokens: &'a [Token],
-) -> Result<Read<'a, InitDeclarator>, NoMemory>
-    requires { allowed ≤ 500 }
-    ensures { IfOk result (λ read. seen init_declarator_tree read ≡ init_declarator types.now allowed tokens.now) }
-{
-    let (pointers, rest) = read_pointers(alloc, tokens)?;
-    init_declarator_after(alloc, types, allowed, pointers, rest)
-}
+// Reads declarators with their values.
+struct ValuedDeclarators;
 
-// Behind the first declarator the further ones, each after a `,`.
-fn further_declarators<'a>(
-    alloc: Global,
-    types: &Names,
-    allowed: u32,
-    first: InitDeclarator,
-    tokens: &'a [Token],
-) -> Result<Read<'a, Vec<InitDeclarator>>, NoMemory>
-    requires { allowed ≤ 500 }
-    ensures { IfOk result (λ read. seen (λ v. map init_declarator_tree v.items) read
-        ≡ separated (init_declarator types.now allowed) (length tokens.now)
-        (init_declarator_tree first ∷ []) tokens.now) }
-{
-    let mut found = Vec::new(alloc);
-    push(&mut found, first)?;
-    let mut rest = tokens;
-    let limit = tokens.len();
-    'declarators: for _i in 0..limit {
-        match after(Mark::Comma, rest) {
-            None => return Ok(Read::Found(found, rest)),
-            Some(parted) => match init_declarator(alloc, types, allowed, parted)? {
-                Read::Stuck(at) => return Ok(Read::Stuck(at)),
-                Read::Found(declarator, next) => {
-                    push(&mut found, declarator)?;
-                    rest = next;
-                }
-            },
-        }
-    }
-    Ok(Read::Found(found, rest))
-}
+impl PartReader for ValuedDeclarators {
+    type Part = InitDeclarator;
 
-fn some_declarators<'a>(
-    alloc: Global,
-    types: &Names,
-    allowed: u32,
-    tokens: &'a [Token],
-) -> Result<Read<'a, Vec<InitDeclarator>>, NoMemory>
-    requires { allowed ≤ 500 }
-    ensures { IfOk result (λ read. seen (λ v. map init_declarator_tree v.items) read
-        ≡ one_or_more (init_declarator types.now allowed) tokens.now) }
-{
-    match init_declarator(alloc, types, allowed, tokens)? {
-        Read::Stuck(at) => Ok(Read::Stuck(at)),
-        Read::Found(first, rest) => further_declarators(alloc, types, allowed, first, rest),
+    ghost Tree = { InitDeclaratorTree };
+
+    ghost tree = { init_declarator_tree };
+
+    ghost reads = { init_declarator };
+
+    fn read<'a>(
+        alloc: Global,
+        types: &Names,
+        allowed: u32,
+        tokens: &'a [Token],
+    ) -> Result<Read<'a, InitDeclarator>, NoMemory> {
+        let (pointers, rest) = read_pointers(alloc, tokens)?;
+        init_declarator_after(alloc, types, allowed, pointers, rest)
     }
 }
 
@@ -161,7 +123,7 @@ fn init_declarators<'a>(
 {
     match after(Mark::Semicolon, tokens) {
         Some(rest) => Ok(Read::Found(Vec::new(alloc), rest)),
-        None => match some_declarators(alloc, types, allowed, tokens)? {
+        None => match parts::<ValuedDeclarators>(alloc, types, allowed, tokens)? {
             Read::Stuck(at) => Ok(Read::Stuck(at)),
             Read::Found(found, next) => match after(Mark::Semicolon, next) {
                 None => Ok(Read::Stuck(next)),
@@ -353,7 +315,9 @@ fn objects<'a>(
 {
     match init_declarator_after(alloc, types, allowed, pointers, tokens)? {
         Read::Stuck(at) => Ok(Read::Stuck(at)),
-        Read::Found(first, next) => match further_declarators(alloc, types, allowed, first, next)? {
+        Read::Found(first, next) => match further_parts::<ValuedDeclarators>(
+            alloc, types, allowed, first, next,
+        )? {
             Read::Stuck(at) => Ok(Read::Stuck(at)),
             Read::Found(found, rest) => Ok(Read::Found(found, rest)),
         },

@@ -1,12 +1,13 @@
 //! Declarators (C99 6.7.5).
-ghost use Rattle.std.specs.Prelude.{◌≡◌, ◌≤◌, [], ◌∷◌, length, map, true, Some, IfOk};
+ghost use Rattle.std.specs.Prelude.{◌≡◌, ◌≤◌, map, true, Some, IfOk};
 ghost use Rattle.c_expr_parser.specs.reading.Parts.{then_read};
-ghost use Rattle.tm_trees.specs.DeclarationTrees.{length_tree, a_declared_name, a_nested, declarator_tree};
+ghost use Rattle.tm_trees.specs.DeclarationTrees.{length_tree, DeclaratorTree, declarator_tree, a_declared_name};
+ghost use Rattle.tm_trees.specs.DeclarationTrees.{a_nested};
 ghost use Rattle.c_decl_parser.specs.reading.Parts.{seen};
-ghost use Rattle.c_decl_parser.specs.reading.Repetitions.{separated, one_or_more};
 ghost use Rattle.c_decl_parser.specs.reading.DeclarationDescent.{lengths, declarator_after, declarator};
 
 use crate::expressions::until;
+use crate::lists::PartReader;
 use crate::reads::{Read, push};
 use crate::tokens::{declared_at, place_after};
 use c_expr_parser::marks::{Mark, after};
@@ -161,50 +162,24 @@ pub fn declarator<'a>(
     declarator_after(alloc, types, member, allowed, pointers, rest)
 }
 
-// Behind the first declarator of members the further ones, each after a `,`.
-fn further_members<'a>(
-    alloc: Global,
-    types: &Names,
-    allowed: u32,
-    first: Declarator,
-    tokens: &'a [Token],
-) -> Result<Read<'a, Vec<Declarator>>, NoMemory>
-    requires { allowed ≤ 500 }
-    ensures { IfOk result (λ read. seen (λ v. map declarator_tree v.items) read
-        ≡ separated (declarator true types.now allowed) (length tokens.now) (declarator_tree first ∷ []) tokens.now) }
-{
-    let mut found = Vec::new(alloc);
-    push(&mut found, first)?;
-    let mut rest = tokens;
-    let limit = tokens.len();
-    'declarators: for _i in 0..limit {
-        match after(Mark::Comma, rest) {
-            None => return Ok(Read::Found(found, rest)),
-            Some(parted) => match declarator(alloc, types, true, allowed, parted)? {
-                Read::Stuck(at) => return Ok(Read::Stuck(at)),
-                Read::Found(declarator, next) => {
-                    push(&mut found, declarator)?;
-                    rest = next;
-                }
-            },
-        }
-    }
-    Ok(Read::Found(found, rest))
-}
+/// Reads declarators of members.
+pub struct MemberDeclarators;
 
-/// The declarators of members: at least one.
-pub fn member_declarators<'a>(
-    alloc: Global,
-    types: &Names,
-    allowed: u32,
-    tokens: &'a [Token],
-) -> Result<Read<'a, Vec<Declarator>>, NoMemory>
-    requires { allowed ≤ 500 }
-    ensures { IfOk result (λ read. seen (λ v. map declarator_tree v.items) read
-        ≡ one_or_more (declarator true types.now allowed) tokens.now) }
-{
-    match declarator(alloc, types, true, allowed, tokens)? {
-        Read::Stuck(at) => Ok(Read::Stuck(at)),
-        Read::Found(first, rest) => further_members(alloc, types, allowed, first, rest),
+impl PartReader for MemberDeclarators {
+    type Part = Declarator;
+
+    ghost Tree = { DeclaratorTree };
+
+    ghost tree = { declarator_tree };
+
+    ghost reads = { declarator true };
+
+    fn read<'a>(
+        alloc: Global,
+        types: &Names,
+        allowed: u32,
+        tokens: &'a [Token],
+    ) -> Result<Read<'a, Declarator>, NoMemory> {
+        declarator(alloc, types, true, allowed, tokens)
     }
 }

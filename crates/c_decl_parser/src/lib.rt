@@ -9,6 +9,7 @@ pub mod declarations;
 pub mod declarators;
 pub mod enumerations;
 pub mod expressions;
+pub mod lists;
 pub mod openings;
 pub mod reads;
 pub mod specifiers;

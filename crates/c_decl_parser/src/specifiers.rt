@@ -11,8 +11,9 @@ ghost use Rattle.c_decl_parser.specs.reading.DeclarationDescent.{declarator, pla
 ghost use Rattle.c_decl_parser.specs.reading.DeclarationDescent.{specifiers, body_by, body, member_after, members_by};
 ghost use Rattle.c_decl_parser.specs.reading.DeclarationDescent.{member};
 
-use crate::declarators::member_declarators;
+use crate::declarators::MemberDeclarators;
 use crate::enumerations::enumerators;
+use crate::lists::parts;
 use crate::openings::{Opening, opened};
 use crate::reads::{Read, push};
 use c_expr_parser::marks::{Mark, after};
@@ -360,7 +361,7 @@ fn declared_members<'a>(
         and_after (after Mark.Semicolon a)
         (λ rest. Some ((as_specifiers (map specifier_tree specifiers.items), declarators), rest)))) }
 {
-    match member_declarators(alloc, types, allowed, tokens)? {
+    match parts::<MemberDeclarators>(alloc, types, allowed, tokens)? {
         Read::Stuck(at) => Ok(Read::Stuck(at)),
         Read::Found(declarators, next) => match after(Mark::Semicolon, next) {
             None => Ok(Read::Stuck(next)),

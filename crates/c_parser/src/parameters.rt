@@ -1,16 +1,16 @@
 //! Parameters of functions (C99 6.7.5.3).
-ghost use Rattle.std.specs.Prelude.{◌≡◌, ◌≤◌, [], ◌∷◌, length, map, IfOk};
+ghost use Rattle.std.specs.Prelude.{◌≡◌, ◌≤◌, map, IfOk};
 ghost use Rattle.c_expr_parser.specs.reading.Parts.{then_read, seen_rest};
 ghost use Rattle.tm_trees.specs.DeclarationTrees.{specifier_tree};
-ghost use Rattle.tm_trees.specs.FileTrees.{parameter_tree, parameters_tree};
+ghost use Rattle.tm_trees.specs.FileTrees.{ParameterTree, parameter_tree, parameters_tree};
 ghost use Rattle.c_decl_parser.specs.reading.Parts.{seen};
-ghost use Rattle.c_decl_parser.specs.reading.Repetitions.{separated};
 ghost use Rattle.c_decl_parser.specs.reading.DeclarationDescent.{specifiers};
 ghost use Rattle.c_parser.specs.reading.FileDescent.{only_void_at, declares, declares_by, parameter_by};
 ghost use Rattle.c_parser.specs.reading.FileDescent.{parameter_after, parameter, list_by, parameters};
 
 use c_decl_parser::declarators::declarator_after;
-use c_decl_parser::reads::{Read, push};
+use c_decl_parser::lists::{PartReader, parts};
+use c_decl_parser::reads::Read;
 use c_decl_parser::specifiers::{names_type, specifiers};
 use c_decl_parser::tokens::{Keyword, after_word};
 use c_expr_parser::marks::{Mark, after};
@@ -107,20 +107,29 @@ fn parameter_after<'a>(
     }
 }
 
-// A parameter of at most the allowed height.
-fn parameter<'a>(
-    alloc: Global,
-    types: &Names,
-    allowed: u32,
-    tokens: &'a [Token],
-) -> Result<Read<'a, Parameter>, NoMemory>
-    requires { allowed ≤ 500 }
-    ensures { IfOk result (λ read. seen parameter_tree read ≡ parameter types.now allowed tokens.now) }
-{
-    if allowed == 0 {
-        return Ok(Read::Stuck(tokens));
+// Reads parameters.
+struct ParameterReader;
+
+impl PartReader for ParameterReader {
+    type Part = Parameter;
+
+    ghost Tree = { ParameterTree };
+
+    ghost tree = { parameter_tree };
+
+    ghost reads = { parameter };
+
+    fn read<'a>(
+        alloc: Global,
+        types: &Names,
+        allowed: u32,
+        tokens: &'a [Token],
+    ) -> Result<Read<'a, Parameter>, NoMemory> {
+        if allowed == 0 {
+            return Ok(Read::Stuck(tokens));
+        }
+        parameter_within(alloc, types, allowed - 1, tokens)
     }
-    parameter_within(alloc, types, allowed - 1, tokens)
 }
 
 // A parameter whose parts have at most the allowed height.
@@ -143,37 +152,6 @@ fn parameter_within<'a>(
     }
 }
 
-// Further parameters, each after a `,`.
-fn further_parameters<'a>(
-    alloc: Global,
-    types: &Names,
-    allowed: u32,
-    first: Parameter,
-    tokens: &'a [Token],
-) -> Result<Read<'a, Vec<Parameter>>, NoMemory>
-    requires { allowed ≤ 500 }
-    ensures { IfOk result (λ read. seen (λ v. map parameter_tree v.items) read
-        ≡ separated (parameter types.now allowed) (length tokens.now) (parameter_tree first ∷ []) tokens.now) }
-{
-    let mut found = Vec::new(alloc);
-    push(&mut found, first)?;
-    let mut rest = tokens;
-    let limit = tokens.len();
-    'parameters: for _i in 0..limit {
-        match after(Mark::Comma, rest) {
-            None => return Ok(Read::Found(found, rest)),
-            Some(parted) => match parameter(alloc, types, allowed, parted)? {
-                Read::Stuck(at) => return Ok(Read::Stuck(at)),
-                Read::Found(one, next) => {
-                    push(&mut found, one)?;
-                    rest = next;
-                }
-            },
-        }
-    }
-    Ok(Read::Found(found, rest))
-}
-
 // At least one parameter, and the `)`.
 fn parameter_list<'a>(
     alloc: Global,
@@ -184,17 +162,12 @@ fn parameter_list<'a>(
     requires { allowed ≤ 500 }
     ensures { IfOk result (λ read. seen parameters_tree read ≡ list_by types.now allowed None tokens.now) }
 {
-    match parameter(alloc, types, allowed, tokens)? {
+    match parts::<ParameterReader>(alloc, types, allowed, tokens)? {
         Read::Stuck(at) => Ok(Read::Stuck(at)),
-        Read::Found(first, behind) => {
-            match further_parameters(alloc, types, allowed, first, behind)? {
-                Read::Stuck(at) => Ok(Read::Stuck(at)),
-                Read::Found(found, end) => match after(Mark::CloseParenthesis, end) {
-                    None => Ok(Read::Stuck(end)),
-                    Some(rest) => Ok(Read::Found(Parameters::List(found), rest)),
-                },
-            }
-        }
+        Read::Found(found, end) => match after(Mark::CloseParenthesis, end) {
+            None => Ok(Read::Stuck(end)),
+            Some(rest) => Ok(Read::Found(Parameters::List(found), rest)),
+        },
     }
 }
 

@@ -3,3 +3,4 @@ pub mod Lists
 pub mod StandingViews
 pub mod Cleared
 pub mod Racing
+pub mod Running

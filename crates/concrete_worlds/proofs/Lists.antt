@@ -1,5 +1,6 @@
 -- Lists whose elements are changed one by one, and lists of answers.
-use Rattle.std.proofs.Common.{◌≡◌, ℕ, zero, suc, ◌+◌, ◌<◌, ◌≤◌, refl, ap, sym, subst, ◌∙◌, List, [], ◌∷◌, ◌++◌, map, take, drop, set, get_or, length, slice_get, slice_set, Some, None, arith, ◌⊎◌, inl, inr, vec_items, vec_len, vec_capacity, Vec, Global}
+use Rattle.std.proofs.Common.{◌≡◌, ℕ, zero, suc, ◌+◌, ◌<◌, ◌≤◌, refl, ap, sym, subst, ◌∙◌, List, [], ◌∷◌, ◌++◌, map, take, drop, set, get_or, length, slice_get, slice_set, Some, None, Result, Ok, Err, arith, ◌⊎◌, inl, inr, vec_items, vec_len, vec_capacity, Vec, Global}
+use Rattle.std.specs.Prelude.{IsOk, OnOk}
 use Rattle.std.proofs.lemmas.List.{map-set, map-append, append_assoc}
 use Rattle.std.proofs.lemmas.Bool.{cases_lt}
 use Rattle.std.proofs.Math.Seq.{map-set_same}
@@ -65,7 +66,7 @@ same_at vs i d w e = map-set_same vec_items vs i w d e
 
 -- ## Room
 
-get_same : (lists : List Answered) (k : ℕ) (w v : Answered) → slice_get (slice_set lists k w) k ≡ Some v → w ≡ v
+pub get_same : (lists : List Answered) (k : ℕ) (w v : Answered) → slice_get (slice_set lists k w) k ≡ Some v → w ≡ v
 get_same [] zero w v e = absurd cc
 get_same [] (suc k) w v e = absurd cc
 get_same (x ∷ lists) zero w v e = cc
@@ -76,6 +77,20 @@ get_other [] k i w h = refl
 get_other (x ∷ lists) zero i w h = absurd (omega (arith, h))
 get_other (x ∷ lists) (suc k) zero w h = refl
 get_other (x ∷ lists) (suc k) (suc i) w h = get_other lists k i w (omega (arith, h))
+
+pub room_here : (lists : List Answered) (k : ℕ) (w : Answered) → vec_len w < vec_capacity w → RoomAt (slice_set lists k w) k
+room_here lists k w h v e = let P : Answered → Type 0 = λ z. vec_len z < vec_capacity z in subst P (get_same lists k w v e) h
+
+pub room_nowhere : (lists : List Answered) (k : ℕ) → (k < length lists → ⊥) → RoomAt lists k
+room_nowhere lists k none v e = absurd (none (slice_get_within lists k v e))
+
+pub on_ok : {A E : Type 0} {P Q : Type 0} (r : Result A E) → (P → Q) → OnOk r P → OnOk r Q
+on_ok (Ok a) f p = f p
+on_ok (Err e) f p = tt
+
+pub get_ok : {A E : Type 0} {P : Type 0} (r : Result A E) → IsOk r → OnOk r P → P
+get_ok (Ok a) is p = p
+get_ok (Err e) is p = absurd cc
 
 pub room_more : (lists : List Answered) (k : ℕ) (w : Answered) → vec_len w < vec_capacity w
     → ((i : ℕ) → i < k → RoomAt lists i) → (i : ℕ) → i < k + 1 → RoomAt (slice_set lists k w) i

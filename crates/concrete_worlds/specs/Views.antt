@@ -33,7 +33,3 @@ Leads o s w = (s ≡ o.answer) × (w ≡ o.world)
 -- the list of this number has room for one more answer
 abbrev pub RoomAt : List (Vec Answer Global) → ℕ → Type 0
 RoomAt lists i = (v : Vec Answer Global) → slice_get lists i ≡ Some v → vec_len v < vec_capacity v
-
--- there is room for one more answer of each task and of the initial section
-abbrev pub HasRoom : HeldWorld → Type 0
-HasRoom w = (i : ℕ) → RoomAt w.answers.items i

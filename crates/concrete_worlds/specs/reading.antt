@@ -1,3 +1,4 @@
+pub mod Starts
 pub mod Standings
 pub mod Turns
 pub mod Clearing

@@ -1,16 +1,13 @@
 //! Races of worlds.
-ghost use Rattle.std.specs.Prelude.{◌≡◌, ◌++◌, map, length, IfOk, OnOk, vec_items};
-ghost use Rattle.tm_laid.specs.Layouts.{laid_tree};
-ghost use Rattle.concrete_worlds.specs.Lawful.{HasWorlds};
+ghost use Rattle.std.specs.Prelude.{◌≡◌, ◌++◌, length, IfOk, OnOk};
 ghost use Rattle.concrete_worlds.specs.Races.{AreRaces};
+ghost use Rattle.concrete_worlds.specs.Running.{IsWorld};
 ghost use Rattle.concrete_worlds.specs.Views.{laid_of, world_of};
 ghost use Rattle.concrete_worlds.specs.reading.Access.{accesses_after, race_of, races_from};
 
 use crate::accesses::{Access, access_of, races_with_some};
-use crate::worlds::{World, next_after};
-use concrete_values::Answer;
+use crate::worlds::World;
 use std::alloc::Global;
-use tm_laid::Laid;
 use tm_lattice::NoMemory;
 use tm_terms::Place;
 
@@ -45,34 +42,30 @@ fn places_of(alloc: Global, accesses: &[Option<Access>]) -> Result<Vec<Place>, N
     Ok(places)
 }
 
-// The access of each task after its answers, where its next action is one.
-fn accesses_after(
-    alloc: Global,
-    laid: &Laid,
-    answers: &[Vec<Answer>],
-) -> Result<Vec<Option<Access>>, NoMemory>
-    requires { HasWorlds laid.now }
-    ensures { IfOk result (λ v. v.items ≡ accesses_after (laid_tree laid.now) (map vec_items answers.now)
-        (length laid.now.file.tasks.items)) }
-{
-    let mut accesses = Vec::new(alloc);
-    let tasks = laid.file.tasks.len() as u32;
-    for task in 0..tasks {
-        accesses.push(access_of(next_after(laid, answers, task)))?;
-    }
-    Ok(accesses)
-}
-
 impl World<'_> {
+    // The access of each task, where its next action is one.
+    fn accesses(&self, alloc: Global) -> Result<Vec<Option<Access>>, NoMemory>
+        requires { IsWorld self.now }
+        ensures { IfOk result (λ v. v.items ≡ accesses_after (laid_of self.now) (world_of self.now).answers
+            (length self.now.laid.now.file.tasks.items)) }
+    {
+        let mut accesses = Vec::new(alloc);
+        let tasks = self.laid.file.tasks.len() as u32;
+        for task in 0..tasks {
+            accesses.push(access_of(self.next_of(task)))?;
+        }
+        Ok(accesses)
+    }
+
     /// The places at which tasks race, sorted, each once.
     pub fn races(&self, alloc: Global) -> Result<Vec<Place>, NoMemory>
-        requires { HasWorlds self.now.laid.now }
+        requires { IsWorld self.now }
         ensures { IfOk result (λ v. AreRaces (laid_of self.now) (world_of self.now) v.items) }
     {
         if self.stopped || !self.tasks_may_run() {
             return Ok(Vec::new(alloc));
         }
-        let accesses = accesses_after(alloc, self.laid, &self.answers)?;
+        let accesses = self.accesses(alloc)?;
         let mut places = places_of(alloc, &accesses)?;
         places.sort()?;
         places.dedup();

@@ -3,16 +3,14 @@ ghost use Rattle.std.specs.Prelude.{◌≡◌, length, slice_get, pos, IsOk, IfO
 ghost use Rattle.concrete_values.specs.declared.values.Answer.TheVariants as Answers;
 ghost use Rattle.concrete_steps.specs.Worlds.{step, act_step, answered, run_step, wake_step, load_step, store_step};
 ghost use Rattle.concrete_steps.specs.Worlds.{lock_step, unlock_step, openly, halted, cleared, is_taken};
-ghost use Rattle.concrete_worlds.specs.Lawful.{HasWorlds};
-ghost use Rattle.concrete_worlds.specs.Views.{standing_of, laid_of, world_of, Leads, HasRoom};
+ghost use Rattle.concrete_worlds.specs.Running.{IsWorld, HasRoom};
+ghost use Rattle.concrete_worlds.specs.Views.{standing_of, laid_of, world_of, Leads};
 ghost use Rattle.concrete_values.specs.Values.{truth_value};
 ghost use Rattle.concrete_worlds.specs.reading.Turns.{IsPlain};
 
 use crate::clearing::{cell_of, clear_object, put};
-use crate::standings::{
-    TaskStanding, is_ready, is_taken, is_waiting, none_above, stand, wake_waiting, yielded,
-};
-use crate::worlds::{World, tell};
+use crate::standings::{TaskStanding, is_ready, is_taken, is_waiting, none_above, yielded};
+use crate::worlds::World;
 use concrete_steps::{Choice, Content, Status, Stepped};
 use concrete_values::{Answer, Next, Value, is_of, truth_value};
 use tm_cint::Class;
@@ -25,7 +23,8 @@ impl World<'_> {
     /// `reserve` one step takes no memory.
     #[tactic(auto, unfolding(concrete_steps::specs::Worlds::step))]
     pub fn step(&mut self, choice: Choice) -> Result<Stepped, NoMemory>
-        requires { HasWorlds self.old.laid.now }
+        requires { IsWorld self.old }
+        ensures world { IsWorld self.new }
         ensures laid { self.new.laid.now ≡ self.old.laid.now }
         ensures leads { IfOk result (λ s. Leads (step (laid_of self.old) (world_of self.old) choice) s
             (world_of self.new)) }
@@ -44,7 +43,8 @@ impl World<'_> {
     // A task that waits becomes ready.
     #[tactic(auto, using(crate::proofs::StandingViews::stands_there))]
     fn wake(&mut self, task: u32) -> Stepped
-        requires { HasWorlds self.old.laid.now }
+        requires { IsWorld self.old }
+        ensures world { IsWorld self.new }
         ensures laid { self.new.laid ≡ self.old.laid }
         ensures leads { Leads (wake_step (laid_of self.old) task (slice_get (world_of self.old).standings task)
             (world_of self.old)) result (world_of self.new) }
@@ -55,11 +55,7 @@ impl World<'_> {
                 if !self.tasks_may_run() || !is_waiting(standing.status) {
                     return Stepped::NotAllowed;
                 }
-                stand(
-                    &mut self.standings,
-                    task,
-                    standing.with_status(Status::Ready),
-                );
+                self.stand(task, standing.with_status(Status::Ready));
                 Stepped::Done
             }
         }
@@ -68,7 +64,8 @@ impl World<'_> {
     // A task that may run does what it does next.
     #[tactic(auto, using(crate::proofs::StandingViews::none_more_urgent))]
     fn run(&mut self, task: u32, value: i128) -> Result<Stepped, NoMemory>
-        requires { HasWorlds self.old.laid.now }
+        requires { IsWorld self.old }
+        ensures world { IsWorld self.new }
         ensures laid { self.new.laid ≡ self.old.laid }
         ensures leads { IfOk result (λ s. Leads (run_step (laid_of self.old) task value
             (slice_get (world_of self.old).standings task) (world_of self.old)) s (world_of self.new)) }
@@ -96,7 +93,8 @@ impl World<'_> {
         value: i128,
         action: Next,
     ) -> Result<Stepped, NoMemory>
-        requires { HasWorlds self.old.laid.now }
+        requires { IsWorld self.old }
+        ensures world { IsWorld self.new }
         ensures laid { self.new.laid ≡ self.old.laid }
         ensures leads { IfOk result (λ s. Leads (act_step (laid_of self.old) task (standing_of
             (length self.old.laid.now.file.mutexes.items) standing) value action (world_of self.old)) s
@@ -137,7 +135,8 @@ impl World<'_> {
         standing: TaskStanding,
         action: Next,
     ) -> Result<Stepped, NoMemory>
-        requires { HasWorlds self.old.laid.now }
+        requires { IsWorld self.old }
+        ensures world { IsWorld self.new }
         ensures laid { self.new.laid ≡ self.old.laid }
         ensures leads { IfOk result (λ s. IsPlain action → Leads (act_step (laid_of self.old) task (standing_of
             (length self.old.laid.now.file.mutexes.items) standing) (pos 0) action (world_of self.old)) s
@@ -176,7 +175,8 @@ impl World<'_> {
         standing: TaskStanding,
         answer: Answer,
     ) -> Result<Stepped, NoMemory>
-        requires { HasWorlds self.old.laid.now }
+        requires { IsWorld self.old }
+        ensures world { IsWorld self.new }
         ensures laid { self.new.laid ≡ self.old.laid }
         ensures leads { IfOk result (λ s. Leads (answered (laid_of self.old) task (standing_of
             (length self.old.laid.now.file.mutexes.items) standing) answer (world_of self.old)) s
@@ -184,7 +184,7 @@ impl World<'_> {
         ensures same { OnErr result (world_of self.new ≡ world_of self.old) }
         ensures room { HasRoom self.old → IsOk result }
     {
-        match tell(&mut self.answers, task, answer) {
+        match self.tell(task, answer) {
             Err(NoMemory) => Err(NoMemory),
             Ok(()) => Ok(self.arrive(task, standing)),
         }
@@ -198,7 +198,8 @@ impl World<'_> {
         value: i128,
         fits: bool,
     ) -> Result<Stepped, NoMemory>
-        requires { HasWorlds self.old.laid.now }
+        requires { IsWorld self.old }
+        ensures world { IsWorld self.new }
         ensures laid { self.new.laid ≡ self.old.laid }
         ensures leads { IfOk result (λ s. Leads (openly (laid_of self.old) task (standing_of
             (length self.old.laid.now.file.mutexes.items) standing) value fits (world_of self.old)) s
@@ -223,7 +224,8 @@ impl World<'_> {
         scalar: Scalar,
         volatile: bool,
     ) -> Result<Stepped, NoMemory>
-        requires { HasWorlds self.old.laid.now }
+        requires { IsWorld self.old }
+        ensures world { IsWorld self.new }
         ensures laid { self.new.laid ≡ self.old.laid }
         ensures leads { IfOk result (λ s. Leads (load_step (laid_of self.old) task (standing_of
             (length self.old.laid.now.file.mutexes.items) standing) value scalar volatile
@@ -255,7 +257,8 @@ impl World<'_> {
         cell: usize,
         value: Value,
     ) -> Result<Stepped, NoMemory>
-        requires { HasWorlds self.old.laid.now }
+        requires { IsWorld self.old }
+        ensures world { IsWorld self.new }
         ensures laid { self.new.laid ≡ self.old.laid }
         ensures leads { IfOk result (λ s. Leads (store_step (laid_of self.old) task (standing_of
             (length self.old.laid.now.file.mutexes.items) standing) (pos 0) cell value
@@ -266,7 +269,7 @@ impl World<'_> {
         if self.contents.get(cell).is_none() {
             return Ok(Stepped::NotAllowed);
         }
-        match tell(&mut self.answers, task, Answer::Done) {
+        match self.tell(task, Answer::Done) {
             Err(NoMemory) => Err(NoMemory),
             Ok(()) => {
                 put(&mut self.contents, cell, Content::Is(value));
@@ -277,7 +280,8 @@ impl World<'_> {
 
     // The clearing of an object.
     fn clear(&mut self, task: u32, standing: TaskStanding, object: u32) -> Result<Stepped, NoMemory>
-        requires { HasWorlds self.old.laid.now }
+        requires { IsWorld self.old }
+        ensures world { IsWorld self.new }
         ensures laid { self.new.laid ≡ self.old.laid }
         ensures leads { IfOk result (λ s. Leads (answered (laid_of self.old) task (standing_of
             (length self.old.laid.now.file.mutexes.items) standing) Answers.Done
@@ -285,7 +289,7 @@ impl World<'_> {
         ensures same { OnErr result (world_of self.new ≡ world_of self.old) }
         ensures room { HasRoom self.old → IsOk result }
     {
-        match tell(&mut self.answers, task, Answer::Done) {
+        match self.tell(task, Answer::Done) {
             Err(NoMemory) => Err(NoMemory),
             Ok(()) => {
                 clear_object(self.laid, object, &mut self.contents);
@@ -303,7 +307,8 @@ impl World<'_> {
         mutex: u32,
         place: Place,
     ) -> Result<Stepped, NoMemory>
-        requires { HasWorlds self.old.laid.now }
+        requires { IsWorld self.old }
+        ensures world { IsWorld self.new }
         ensures laid { self.new.laid ≡ self.old.laid }
         ensures leads { IfOk result (λ s. Leads (lock_step (laid_of self.old) task (standing_of
             (length self.old.laid.now.file.mutexes.items) standing) mutex place (world_of self.old)) s
@@ -316,11 +321,7 @@ impl World<'_> {
             return Ok(self.halt(Class::Lock, place));
         }
         if is_taken(mutexes, mutex, &self.standings) {
-            stand(
-                &mut self.standings,
-                task,
-                standing.with_status(Status::Blocked(mutex)),
-            );
+            self.stand(task, standing.with_status(Status::Blocked(mutex)));
             return Ok(Stepped::Done);
         }
         self.answer(
@@ -339,7 +340,8 @@ impl World<'_> {
         mutex: u32,
         place: Place,
     ) -> Result<Stepped, NoMemory>
-        requires { HasWorlds self.old.laid.now }
+        requires { IsWorld self.old }
+        ensures world { IsWorld self.new }
         ensures laid { self.new.laid ≡ self.old.laid }
         ensures leads { IfOk result (λ s. Leads (unlock_step (laid_of self.old) task (standing_of
             (length self.old.laid.now.file.mutexes.items) standing) mutex place (world_of self.old)) s
@@ -351,10 +353,10 @@ impl World<'_> {
         if !standing.holds(mutexes, mutex) {
             return Ok(self.halt(Class::Lock, place));
         }
-        match tell(&mut self.answers, task, Answer::Done) {
+        match self.tell(task, Answer::Done) {
             Err(NoMemory) => Err(NoMemory),
             Ok(()) => {
-                wake_waiting(&mut self.standings, mutex);
+                self.free(mutex);
                 Ok(self.arrive(task, standing.with_mutex(mutexes, mutex, false)))
             }
         }
@@ -362,7 +364,8 @@ impl World<'_> {
 
     // Whether some task holds a mutex.
     fn probe(&mut self, task: u32, standing: TaskStanding, mutex: u32) -> Result<Stepped, NoMemory>
-        requires { HasWorlds self.old.laid.now }
+        requires { IsWorld self.old }
+        ensures world { IsWorld self.new }
         ensures laid { self.new.laid ≡ self.old.laid }
         ensures leads { IfOk result (λ s. Leads (answered (laid_of self.old) task (standing_of
             (length self.old.laid.now.file.mutexes.items) standing) (Answers.Given
@@ -378,6 +381,8 @@ impl World<'_> {
 
     // An error ends the run.
     fn halt(&mut self, class: Class, place: Place) -> Stepped
+        requires { IsWorld self.old }
+        ensures world { IsWorld self.new }
         ensures laid { self.new.laid ≡ self.old.laid }
         ensures leads { Leads (halted class place (world_of self.old)) result (world_of self.new) }
     {

@@ -1,6 +1,6 @@
 -- What follows where a run stands.
-use Rattle.std.proofs.Common.{◌≡◌, refl, sym, ap, subst, ◌∙◌, ℕ, suc, ◌+◌, ◌<◌, ◌≤◌, Bool, true, false, List, [], ◌∷◌, ◌++◌, length, get_or, take, drop, Some, None}
-use Rattle.std.proofs.lemmas.List.{append-nil, take_more, take_all, drop_more, take-append-drop}
+use Rattle.std.proofs.Common.{◌≡◌, refl, sym, ap, subst, ◌∙◌, ℕ, suc, List, [], ◌∷◌, ◌++◌, Some, None}
+use Rattle.std.proofs.lemmas.List.{append-nil, append_assoc}
 use Rattle.tm_laid.specs.Layouts.{LaidTree}
 use Rattle.concrete_values.specs.declared.values.Value.{Value}
 use Rattle.concrete_values.specs.declared.values.Answer.{Answer}
@@ -15,7 +15,6 @@ use Rattle.flow_graph.proofs.Positions.{reaches_then}
 use Rattle.flow_graph.proofs.Same.{same_next}
 use Rattle.graph_positions.specs.declared.steps.Step.{Step}
 use Rattle.graph_positions.specs.declared.steps.Step.TheVariants as Steps
-use Rattle.graph_positions.specs.Positions.{IsAnswered}
 use Rattle.graph_positions.specs.reading.Steps.{edge_at, behind, IsStepAt, IsStop}
 
 module _ (laid : LaidTree) (g : Edges) where
@@ -86,37 +85,28 @@ module _ (laid : LaidTree) (g : Edges) where
   pub stands : (node : ℕ) (m : Memory) (x : Next) → Is (move laid g node m) x → Runs laid g node m [] x
   stands node m x h = stands_by node m (move laid g node m) x refl h
 
-  -- ## Over a list of answers
+  -- ## Behind the answers so far
 
-  pub reaches_more : (answers : List Answer) (i start node node' : ℕ) (first m m' : Memory) (a : Answer) → i < length answers → a ≡ get_or answers i a → Reaches laid g start first (take i answers) node m
-      → Reaches laid g node m (a ∷ []) node' m' → Reaches laid g start first (take (i + 1) answers) node' m'
-  reaches_more answers i start node node' first m m' a lt is before then' =
-      let more : take i answers ++ a ∷ [] ≡ take (i + 1) answers = ap (λ (x : Answer). take i answers ++ x ∷ []) is ∙ sym (take_more answers i a lt) in
-      subst (λ (as' : List Answer). Reaches laid g start first as' node' m') more (reaches_then laid g before then')
+  -- a run goes on by itself, with no answer more
+  pub led_on : (answers : List Answer) (node node' : ℕ) (m m' : Memory) → Reaches laid g 0 at_entry answers node m → Reaches laid g node m [] node' m' → Reaches laid g 0 at_entry answers node' m'
+  led_on answers node node' m m' before then' = subst (λ (as' : List Answer). Reaches laid g 0 at_entry as' node' m') (append-nil answers) (reaches_then laid g before then')
 
-  pub misfits : (answers : List Answer) (i start node : ℕ) (first m : Memory) (a : Answer) → i < length answers → a ≡ get_or answers i a → Reaches laid g start first (take i answers) node m
-      → ((rest : List Answer) → Runs laid g node m (a ∷ rest) Misfit) → Runs laid g start first answers Misfit
-  misfits answers i start node first m a lt is before ends =
-      let all : take i answers ++ (a ∷ drop (i + 1) answers) ≡ answers =
-      ap (λ (x : Answer). take i answers ++ (x ∷ drop (i + 1) answers)) is ∙ ap (λ (xs : List Answer). take i answers ++ xs) (sym (drop_more answers i a lt)) ∙ take-append-drop i answers in
-      subst (λ (as' : List Answer). Runs laid g start first as' Misfit) all (run_from (a ∷ drop (i + 1) answers) before (ends (drop (i + 1) answers)))
+  -- what stands there is its next action
+  pub stands_behind : (answers : List Answer) (node : ℕ) (m : Memory) (x : Next) → Reaches laid g 0 at_entry answers node m → Is (move laid g node m) x → Runs laid g 0 at_entry answers x
+  stands_behind answers node m x before is = subst (λ (as' : List Answer). Runs laid g 0 at_entry as' x) (append-nil answers) (run_from [] before (stands node m x is))
 
-  pub stands_after : (answers : List Answer) (i start node node' : ℕ) (first m m' : Memory) (x : Next) → length answers ≤ i → Reaches laid g start first (take i answers) node m
-      → Reaches laid g node m [] node' m' → Is (move laid g node' m') x → Runs laid g start first answers x
-  stands_after answers i start node node' first m m' x le before then' is =
-      let r = reaches_then laid g before then' in
-      let all : (take i answers ++ []) ++ [] ≡ answers = append-nil (take i answers ++ []) ∙ append-nil (take i answers) ∙ take_all i answers le in
-      subst (λ (as' : List Answer). Runs laid g start first as' x) all (run_from [] r (stands node' m' x is))
+  -- an answer does not fit, and neither do any more
+  pub none_fits : (answers : List Answer) (a : Answer) (node : ℕ) (m : Memory) → Reaches laid g 0 at_entry answers node m → ((rest : List Answer) → Runs laid g node m (a ∷ rest) Misfit)
+      → (more : List Answer) → Runs laid g 0 at_entry ((answers ++ a ∷ []) ++ more) Misfit
+  none_fits answers a node m before ends more =
+      subst (λ (as' : List Answer). Runs laid g 0 at_entry as' Misfit) (sym (append_assoc answers (a ∷ []) more)) (run_from (a ∷ more) before (ends more))
 
-  pub answer_fits : (answers : List Answer) (i start node node' : ℕ) (first m m' : Memory) (a : Answer) (b : Bool) → i < length answers → a ≡ get_or answers i a → b ≡ true
-      → Reaches laid g start first (take i answers) node m → IsAnswered laid g node m a b node' m' → Reaches laid g start first (take (i + 1) answers) node' m'
-  answer_fits answers i start node node' first m m' a true lt is e before h = reaches_more answers i start node node' first m m' a lt is before h
-  answer_fits answers i start node node' first m m' a false lt is e before h = absurd cc
+  pub still_none_fits : (answers : List Answer) (a : Answer) → ((more : List Answer) → Runs laid g 0 at_entry (answers ++ more) Misfit)
+      → (more : List Answer) → Runs laid g 0 at_entry ((answers ++ a ∷ []) ++ more) Misfit
+  still_none_fits answers a none more = subst (λ (as' : List Answer). Runs laid g 0 at_entry as' Misfit) (sym (append_assoc answers (a ∷ []) more)) (none (a ∷ more))
 
-  pub answer_fails : (answers : List Answer) (i start node node' : ℕ) (first m m' : Memory) (a : Answer) (b : Bool) → i < length answers → a ≡ get_or answers i a → b ≡ false
-      → Reaches laid g start first (take i answers) node m → IsAnswered laid g node m a b node' m' → Runs laid g start first answers Misfit
-  answer_fails answers i start node node' first m m' a true lt is e before h = absurd cc
-  answer_fails answers i start node node' first m m' a false lt is e before h = misfits answers i start node first m a lt is before h.1
+  pub nothing_follows : (answers : List Answer) → ((more : List Answer) → Runs laid g 0 at_entry (answers ++ more) Misfit) → Runs laid g 0 at_entry answers Misfit
+  nothing_follows answers none = subst (λ (as' : List Answer). Runs laid g 0 at_entry as' Misfit) (append-nil answers) (none [])
 
   pub stands_as : (next_is : List Answer → Next) → ((answers : List Answer) → Runs laid g 0 at_entry answers (next_is answers)) → (answers : List Answer) (node : ℕ) (m : Memory) (n : Next)
       → Reaches laid g 0 at_entry answers node m → Is (move laid g node m) n → StandsAt laid g next_is answers node m

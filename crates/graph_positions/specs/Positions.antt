@@ -35,3 +35,7 @@ abbrev pub IsAnswered : LaidTree → Edges → ℕ → Memory → Answer → Boo
 IsAnswered laid g node m a true node' m' = Reaches laid g node m (a ∷ []) node' m'
 IsAnswered laid g node m a false node' m' = Reaches laid g node m [] node' m'
     × ((answers : List Answer) → Runs laid g node m (a ∷ answers) Misfit)
+
+-- its count of answers has room for one more
+abbrev pub HasRoom : Position → Type 0
+HasRoom p = p.used + 2 < 2 ^ 64

@@ -17,4 +17,4 @@ mod tests;
 pub use laws::{layouts_serve, stands_where_it_leads};
 pub use outcomes::{Outcome, doing};
 pub use positions::Position;
-pub use runs::graph_next;
+pub use runs::{Run, graph_next};

@@ -1,11 +1,12 @@
 //! Positions of runs along graphs.
-ghost use Rattle.std.specs.Prelude.{◌≡◌, ◌<◌, ◌+◌, ◌^◌, [], IfOk, length, slice_set};
+ghost use Rattle.std.specs.Prelude.{◌≡◌, ◌<◌, ◌+◌, ◌^◌, [], IsOk, IfOk, OnErr};
+ghost use Rattle.std.specs.Prelude.{length, slice_set};
 ghost use Rattle.tm_laid.specs.Layouts.{laid_tree};
 ghost use Rattle.flow_graph.specs.Runs.{at_entry, move};
 ghost use Rattle.flow_graph.specs.Positions.{Reaches, Is};
 ghost use Rattle.graph_positions.specs.Layouts.{IsServing};
 ghost use Rattle.graph_positions.specs.Memories.{memory_of};
-ghost use Rattle.graph_positions.specs.Positions.{IsGraph, IsPositionOf, IsAnswered};
+ghost use Rattle.graph_positions.specs.Positions.{IsGraph, IsPositionOf, IsAnswered, HasRoom};
 ghost use Rattle.graph_positions.specs.reading.Steps.{edge_at, behind, IsStepAt, IsStop};
 
 use crate::outcomes::doing;
@@ -34,7 +35,8 @@ pub struct Position {
 
 // One answer more. Where that would be nearly 2^64, there is no memory for so many answers.
 fn one_more(used: u64) -> Result<u64, NoMemory>
-    ensures { IfOk result (λ n. (n ≡ used + 1) × (n + 1 < 2 ^ 64)) }
+    ensures one { IfOk result (λ n. (n ≡ used + 1) × (n + 1 < 2 ^ 64)) }
+    ensures room { used + 2 < 2 ^ 64 → IsOk result }
 {
     if used < u64::MAX - 1 {
         Ok(used + 1)
@@ -112,6 +114,7 @@ impl Position {
             self.new.node (memory_of self.new) }
         ensures step { IsStepAt (laid_tree laid.now) graph.now.edges.items self.new.node (memory_of self.new) result }
         ensures stop { IsStop result }
+        ensures used { self.new.used ≡ self.old.used }
     {
         let mut step = self.step(laid, graph);
         while let Step::Goes { edge, value } = step {
@@ -141,7 +144,8 @@ impl Position {
         }
     }
 
-    /// The run goes on by itself to where it stands, and by one answer, where that fits. Whether it does.
+    /// The run goes on by itself to where it stands, and by one answer, where that fits. Whether it does. The
+    /// one cause of want of memory is a count of answers that leaves 64 bits.
     pub fn answer(&mut self, laid: &Laid, graph: &Graph, answer: Answer) -> Result<bool, NoMemory>
         requires laid { IsServing laid.now }
         requires graph { IsGraph graph.now.edges.items graph.now.nodes }
@@ -149,6 +153,9 @@ impl Position {
         ensures position { IsPositionOf graph.now.edges.items graph.now.nodes self.new }
         ensures answered { IfOk result (λ fits. IsAnswered (laid_tree laid.now) graph.now.edges.items self.old.node
             (memory_of self.old) answer fits self.new.node (memory_of self.new)) }
+        ensures same { OnErr result (Reaches (laid_tree laid.now) graph.now.edges.items self.old.node
+            (memory_of self.old) [] self.new.node (memory_of self.new)) }
+        ensures room { HasRoom self.old → IsOk result }
     {
         match self.drift(laid, graph) {
             Step::Awaits { edge, action } => match answer_of(laid, action, answer) {

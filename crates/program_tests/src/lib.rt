@@ -9,6 +9,8 @@ mod answers;
 #[cfg(test)]
 mod commands;
 #[cfg(test)]
+mod deep_calls;
+#[cfg(test)]
 mod devices;
 #[cfg(test)]
 mod gates;

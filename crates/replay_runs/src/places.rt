@@ -1,6 +1,6 @@
 //! Places at which tasks race.
 ghost use Rattle.std.specs.Prelude.{IfOk, OnOk};
-ghost use Rattle.concrete_worlds.specs.Lawful.{HasWorlds};
+ghost use Rattle.concrete_worlds.specs.Running.{IsWorld};
 ghost use Rattle.concrete_worlds.specs.Views.{laid_of, world_of};
 ghost use Rattle.replay_runs.specs.reading.Turns.{AddsRaces, IsSetOf};
 
@@ -15,7 +15,7 @@ pub(crate) fn push_races(
     world: &World<'_>,
     places: &mut Vec<Place>,
 ) -> Result<(), NoMemory>
-    requires { HasWorlds world.now.laid.now }
+    requires { IsWorld world.now }
     ensures { OnOk result (AddsRaces (laid_of world.now) (world_of world.now) places.old.items places.new.items) }
 {
     let found = world.races(alloc)?;

@@ -2,7 +2,8 @@
 ghost use Rattle.std.specs.Prelude.{◌≡◌, ◌+◌, IfOk, OnOk};
 ghost use Rattle.tm_laid.specs.Layouts.{laid_tree};
 ghost use Rattle.concrete_steps.specs.Worlds.{step};
-ghost use Rattle.concrete_worlds.specs.Lawful.{HasWorlds};
+ghost use Rattle.concrete_worlds.specs.Lawful.{HasWorlds, HasGraphs};
+ghost use Rattle.concrete_worlds.specs.Running.{IsWorld};
 ghost use Rattle.concrete_worlds.specs.Views.{laid_of, world_of};
 ghost use Rattle.replay_runs.specs.Runs.{IsRun, ended_by};
 ghost use Rattle.replay_runs.specs.reading.Turns.{AddsRaces, IsSetOf};
@@ -10,6 +11,7 @@ ghost use Rattle.replay_runs.specs.reading.Turns.{AddsRaces, IsSetOf};
 use crate::places::{push_races, sorted};
 use concrete_steps::{Choice, Stepped};
 use concrete_worlds::World;
+use flow_graph::Graph;
 use replay_lines::Ending;
 use std::alloc::Global;
 use tm_laid::Laid;
@@ -48,7 +50,8 @@ fn turn(
     number: usize,
     choice: Choice,
 ) -> Result<Option<Ending>, NoMemory>
-    requires { HasWorlds world.old.laid.now }
+    requires { IsWorld world.old }
+    ensures running { IsWorld world.new }
     ensures laid { world.new.laid.now ≡ world.old.laid.now }
     ensures races { OnOk result (AddsRaces (laid_of world.old) (world_of world.old) places.old.items places.new.items) }
     ensures ended { IfOk result (λ e. e ≡ ended_by number
@@ -71,12 +74,19 @@ fn finished(places: Vec<Place>, ending: Ending) -> Result<Run, NoMemory>
     Ok(Run { places, ending })
 }
 
-/// The run of a program by these choices: one after the other, up to the first that is not allowed or stops it.
-pub fn run_by(alloc: Global, laid: &Laid, choices: &[Choice]) -> Result<Run, NoMemory>
-    requires { HasWorlds laid.now }
+/// The run of a program, which has these graphs, by these choices: one after the other, up to the first that is not
+/// allowed or stops it. It takes time linear in what the choices do and in their number.
+pub fn run_by(
+    alloc: Global,
+    laid: &Laid,
+    graphs: &[Graph],
+    choices: &[Choice],
+) -> Result<Run, NoMemory>
+    requires worlds { HasWorlds laid.now }
+    requires graphs { HasGraphs laid.now graphs.now }
     ensures { IfOk result (λ run. IsRun (laid_tree laid.now) choices.now run.places.items run.ending) }
 {
-    let mut world = World::start(alloc, laid)?;
+    let mut world = World::start_along(alloc, laid, graphs)?;
     let mut places = Vec::new(alloc);
     for (done, choice) in choices.iter().enumerate() {
         match turn(alloc, &mut world, &mut places, done + 1, *choice)? {

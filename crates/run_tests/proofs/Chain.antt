@@ -8,12 +8,13 @@ use Rattle.tm_laid.specs.tm_typed.declared.files.TypedFile.{TypedFile}
 use Rattle.tm_laid.specs.tm_typed.Files.{TypedFileTree, IsTyped}
 use Rattle.tm_laid.specs.tm_typed.TypedFiles.{typed_file_tree}
 use Rattle.tm_laid.specs.declared.layouts.Laid.{Laid}
-use Rattle.tm_laid.specs.Layouts.{laid_out, answer_of}
+use Rattle.tm_laid.specs.Layouts.{laid_tree, laid_out, answer_of}
 use Rattle.tm_laid.specs.Layable.{IsLayable}
 use Rattle.c_typing.specs.call_graph.Graphs.{lists}
 use Rattle.c_typing.specs.call_graph.Orders.{IsWholeOrder}
 use Rattle.typed_file_laws.specs.Layouts.{AreLayable}
 use Rattle.typed_file_laws.proofs.Layable.{comes}
+use Rattle.program_worlds.specs.lowering_laws.LaidFiles.{IsLaidFile}
 use Rattle.concrete_worlds.specs.Lawful.{HasWorlds}
 use Rattle.concrete_worlds.specs.Laws.{LaidFilesHaveWorlds}
 
@@ -34,3 +35,9 @@ pub worlds : LaidFilesHaveWorlds → (t : TypedFile) → IsLayable (typed_file_t
 worlds law t layable (Ok laid) told order =
     law (typed_file_tree t) laid told (subst (λ z. IsLayable (typed_file_tree t) z) (sym order) layable)
 worlds law t layable (Err e) told order = tt
+
+-- it is that of a typed file
+pub laid_file : (main : Option Name) (items : List ItemTree) (t : TypedFile) → IsTyped main items (Ok (typed_file_tree t)) → (r : Result Laid Fail)
+    → IfSome (answer_of r) (λ answer. laid_out (typed_file_tree t) ≡ answer) → IfOk r (λ laid. IsLaidFile (laid_tree laid))
+laid_file main items t typed (Ok laid) told = record { main = main; items = items; file = typed_file_tree t; typed = typed; answered = told }
+laid_file main items t typed (Err e) told = tt

@@ -1,15 +1,15 @@
 //! Programs without tasks: what their cells of static storage hold in the end is what a C compiler for 32-bit x86 gives
 //! (vectors/runs.c).
-ghost use Rattle.concrete_worlds.specs.Lawful.{HasWorlds};
+ghost use Rattle.concrete_worlds.specs.Lawful.{HasGraphs, HasWorlds};
+ghost use Rattle.concrete_worlds.specs.Running.{IsWorld};
 
 use crate::pictures::cells_told;
-use crate::sources::laid_out;
+use crate::sources::{RunningProgram, running};
 use concrete_steps::{Choice, Stepped};
 use concrete_worlds::World;
 use std::alloc::Global;
 use std::process::Abort;
 use std::test::Fail;
-use tm_laid::Laid;
 use tm_lattice::NoMemory;
 
 // A program, and what its cells of static storage hold when `main` has returned.
@@ -224,7 +224,7 @@ two(n,7));r[1]=f(2)&&f(3)?f(4):f(5);r[2]=two((n=n%100,n*5),3);return 0;}",
 
 // Runs `main` to its end: no action of it leaves a value open.
 fn run_main(world: &mut World) -> Result<Stepped, NoMemory>
-    requires { HasWorlds world.old.laid.now }
+    requires { IsWorld world.old }
 {
     for _turn in 0..20_000 {
         let stepped = world.step(Choice::Run { task: 0, value: 0 })?;
@@ -243,28 +243,43 @@ fn is_done(stepped: Stepped) -> bool {
     }
 }
 
-fn end_told(alloc: Global, laid: &Laid) -> Result<String, Fail>
-    requires { HasWorlds laid.now }
+// What the first cells hold at the end.
+fn end_told(alloc: Global, world: &mut World, cells: u32) -> Result<String, Fail>
+    requires { IsWorld world.old }
 {
-    let mut world = World::start(alloc, laid)?;
-    let last = run_main(&mut world)?;
+    let last = run_main(world)?;
     if is_done(last) && !world.is_stopped() {
-        let cells = laid.initial.len().min(65_536) as u32;
-        return cells_told(alloc, &world, cells);
+        return cells_told(alloc, world, cells);
     }
     Ok(String::from_str(alloc, "not at its end")?)
 }
 
+// The end in the plain model, and behind a bar that in a world along graphs.
+fn ends_told(alloc: Global, program: &RunningProgram) -> Result<String, Fail>
+    requires worlds { HasWorlds program.now.laid }
+    requires graphs { HasGraphs program.now.laid program.now.graphs.graphs.items }
+{
+    let cells = program.laid.initial.len().min(65_536) as u32;
+    let mut plain = World::start(alloc, &program.laid)?;
+    let mut text = end_told(alloc, &mut plain, cells)?;
+    let mut along = World::start_along(alloc, &program.laid, &program.graphs.graphs)?;
+    let again = end_told(alloc, &mut along, cells)?;
+    text.push_str("| ")?;
+    text.push_str(&again)?;
+    Ok(text)
+}
+
 fn program_told(alloc: Global, source: &str) -> Result<String, Fail> {
-    match laid_out(alloc, source.as_bytes()) {
-        Ok(laid) => end_told(alloc, &laid),
+    match running(alloc, source.as_bytes()) {
+        Ok(program) => ends_told(alloc, &program),
         Err(_) => Ok(String::from_str(alloc, "refused")?),
     }
 }
 
 fn ends_so(rt: &impl Abort, alloc: Global, source: &str, values: &str) -> Result<(), Fail> {
     let given = program_told(alloc, source)?;
-    assert_eq!(rt; given.as_str(), values);
+    let twice = format!(in alloc; "{values}| {values}")?;
+    assert_eq!(rt; given.as_str(), twice.as_str());
     Ok(())
 }
 

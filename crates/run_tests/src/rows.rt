@@ -1,16 +1,15 @@
 //! Runs by choices, with a picture of the world after each.
-ghost use Rattle.std.specs.Prelude.{◌≡◌};
-ghost use Rattle.concrete_worlds.specs.Lawful.{HasWorlds};
+ghost use Rattle.concrete_worlds.specs.Lawful.{HasGraphs, HasWorlds};
+ghost use Rattle.concrete_worlds.specs.Running.{IsWorld};
 
 use crate::pictures::world_told;
-use crate::sources::laid_out;
+use crate::sources::{RunningProgram, running};
 use concrete_steps::{Choice, Stepped};
 use concrete_worlds::World;
 use std::alloc::Global;
 use std::process::Abort;
 use std::test::Fail;
 use tm_cint::Class;
-use tm_laid::Laid;
 
 // A source with two cells of static storage, and two tasks or one and the initial section; choices, as w0 for wake 0
 // and r17 for run 1 7; and the picture of the start and of the world after each choice: what was answered, the cells,
@@ -162,7 +161,7 @@ fn choice_of(word: &str) -> Choice {
 
 // The cells, how both stand, and where they race.
 fn picture(alloc: Global, world: &World) -> Result<String, Fail>
-    requires { HasWorlds world.now.laid.now }
+    requires { IsWorld world.now }
 {
     let mut text = world_told(alloc, world, 2, 2)?;
     let races = world.races(alloc)?;
@@ -179,8 +178,8 @@ fn picture(alloc: Global, world: &World) -> Result<String, Fail>
 
 // What is answered to a choice, and the picture then.
 fn step_told(alloc: Global, world: &mut World, choice: Choice) -> Result<String, Fail>
-    requires { HasWorlds world.old.laid.now }
-    ensures { world.new.laid.now ≡ world.old.laid.now }
+    requires { IsWorld world.old }
+    ensures { IsWorld world.new }
 {
     world.reserve()?;
     let stepped = world.step(choice)?;
@@ -190,21 +189,34 @@ fn step_told(alloc: Global, world: &mut World, choice: Choice) -> Result<String,
     Ok(text)
 }
 
-fn run_told(alloc: Global, laid: &Laid, choices: &str) -> Result<String, Fail>
-    requires { HasWorlds laid.now }
+fn run_told(alloc: Global, world: &mut World, choices: &str) -> Result<String, Fail>
+    requires { IsWorld world.old }
 {
-    let mut world = World::start(alloc, laid)?;
-    let mut text = picture(alloc, &world)?;
+    let mut text = picture(alloc, world)?;
     for word in choices.split_whitespace() {
-        let told = step_told(alloc, &mut world, choice_of(word))?;
+        let told = step_told(alloc, world, choice_of(word))?;
         text.push_str(&told)?;
     }
     Ok(text)
 }
 
+// The run in the plain model, and behind a bar that in a world along graphs.
+fn runs_told(alloc: Global, program: &RunningProgram, choices: &str) -> Result<String, Fail>
+    requires worlds { HasWorlds program.now.laid }
+    requires graphs { HasGraphs program.now.laid program.now.graphs.graphs.items }
+{
+    let mut plain = World::start(alloc, &program.laid)?;
+    let mut text = run_told(alloc, &mut plain, choices)?;
+    let mut along = World::start_along(alloc, &program.laid, &program.graphs.graphs)?;
+    let again = run_told(alloc, &mut along, choices)?;
+    text.push_str("| ")?;
+    text.push_str(&again)?;
+    Ok(text)
+}
+
 fn source_told(alloc: Global, source: &str, choices: &str) -> Result<String, Fail> {
-    match laid_out(alloc, source.as_bytes()) {
-        Ok(laid) => run_told(alloc, &laid, choices),
+    match running(alloc, source.as_bytes()) {
+        Ok(program) => runs_told(alloc, &program, choices),
         Err(_) => Ok(String::from_str(alloc, "refused")?),
     }
 }
@@ -217,7 +229,8 @@ fn runs_so(
     told: &str,
 ) -> Result<(), Fail> {
     let given = source_told(alloc, source, choices)?;
-    assert_eq!(rt; given.as_str(), told);
+    let twice = format!(in alloc; "{told}| {told}")?;
+    assert_eq!(rt; given.as_str(), twice.as_str());
     Ok(())
 }
 

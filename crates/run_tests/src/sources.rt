@@ -1,12 +1,17 @@
-//! The layout of a source.
+//! The layout of a source and the graphs of its bodies.
 ghost use Rattle.std.specs.Prelude.{IfOk};
-ghost use Rattle.concrete_worlds.specs.Lawful.{HasWorlds};
+ghost use Rattle.tm_laid.specs.Layouts.{laid_tree};
+ghost use Rattle.program_worlds.specs.lowering_laws.LaidFiles.{IsLaidFile};
+ghost use Rattle.concrete_worlds.specs.Lawful.{HasGraphs, HasWorlds};
 
 use c_lexer::lex;
 use c_parser::parse;
 use c_typing::typed;
 use cell_layout::lay;
 use concrete_worlds::laws::laid_files_have_worlds;
+use flow_graph::Graphs;
+use graph_builder::lower;
+use program_worlds::programs_have_graphs;
 use std::alloc::Global;
 use tm_laid::Laid;
 use tm_terms::{Fail as Refused, Name, Shape, Token};
@@ -41,9 +46,17 @@ fn main_in(source: &[u8], tokens: &[Token]) -> Option<Name> {
     None
 }
 
+/// A program that can run.
+#[derive(Drop)]
+pub struct RunningProgram {
+    pub laid: Laid,
+    pub graphs: Graphs,
+}
+
 // The layout of a file: what it needs follows from its typing and from the limits.
 fn laid_in(alloc: Global, file: &File, main: Option<Name>) -> Result<Laid, Refused>
-    ensures { IfOk result (λ laid. HasWorlds laid) }
+    ensures worlds { IfOk result (λ laid. HasWorlds laid) }
+    ensures typed { IfOk result (λ laid. IsLaidFile (laid_tree laid)) }
 {
     typed_files_can_be_laid_out();
     laid_files_have_worlds();
@@ -53,16 +66,34 @@ fn laid_in(alloc: Global, file: &File, main: Option<Name>) -> Result<Laid, Refus
     }
 }
 
-/// The layout of a source, or its refusal.
-pub fn laid_out(alloc: Global, source: &[u8]) -> Result<Laid, Refused>
-    ensures { IfOk result (λ laid. HasWorlds laid) }
+// And the graphs of its bodies.
+fn lowered_in(alloc: Global, laid: Laid) -> Result<RunningProgram, Refused>
+    requires worlds { HasWorlds laid }
+    requires typed { IsLaidFile (laid_tree laid) }
+    ensures worlds { IfOk result (λ program. HasWorlds program.laid) }
+    ensures graphs { IfOk result (λ program. HasGraphs program.laid program.graphs.graphs.items) }
+{
+    programs_have_graphs();
+    match lower(alloc, &laid) {
+        Ok(graphs) => Ok(RunningProgram { laid, graphs }),
+        Err(fail) => Err(fail),
+    }
+}
+
+/// The program of a source, or its refusal.
+pub fn running(alloc: Global, source: &[u8]) -> Result<RunningProgram, Refused>
+    ensures worlds { IfOk result (λ program. HasWorlds program.laid) }
+    ensures graphs { IfOk result (λ program. HasGraphs program.laid program.graphs.graphs.items) }
 {
     if source.len() > 1_048_576 {
         return Err(Refused::NoMemory);
     }
     match lex(alloc, source) {
         Ok(tokens) => match parse(alloc, &tokens) {
-            Ok(file) => laid_in(alloc, &file, main_in(source, &tokens)),
+            Ok(file) => match laid_in(alloc, &file, main_in(source, &tokens)) {
+                Ok(laid) => lowered_in(alloc, laid),
+                Err(fail) => Err(fail),
+            },
             Err(fail) => Err(fail),
         },
         Err(fail) => Err(fail),

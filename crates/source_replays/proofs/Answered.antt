@@ -10,9 +10,11 @@ use Rattle.tm_laid.specs.Layable.{IsLayable}
 use Rattle.tm_laid.specs.Layouts.{LaidTree, laid_tree, layout_of}
 use Rattle.layout_laws.proofs.Kept.{limits_kept}
 use Rattle.concrete_steps.specs.declared.worlds.Choice.{Choice}
-use Rattle.concrete_worlds.specs.Lawful.{HasWorlds}
+use Rattle.concrete_worlds.specs.Lawful.{HasGraphs, HasWorlds}
 use Rattle.concrete_worlds.specs.Laws.{LaidFilesHaveWorlds}
-use Rattle.source_programs.specs.Sources.{IsLaidSource}
+use Rattle.program_graphs.specs.Prepared.{Graphed, IsPrepared}
+use Rattle.program_worlds.specs.Laws.{ProgramsHaveGraphs}
+use Rattle.source_programs.specs.Sources.{main_in, IsLaidSource}
 use Rattle.replay_lines.specs.declared.endings.Ending.{Ending}
 use Rattle.replay_lines.specs.declared.endings.Ending.TheVariants.{Ran, NotAllowed, Stopped}
 use Rattle.replay_lines.specs.Choices.{asked_of}
@@ -36,6 +38,15 @@ has_worlds bytes laid source layable law =
     let kept = limits_kept file (laid_tree laid) answered in
     let same : typed_file_tree laid.file ≡ file = same_file file (laid_tree laid) kept.whole in
     law file laid answered (subst (λ (f : TypedFileTree). IsLayable f laid.file.order.items) same layable)
+
+-- ## Its graphs are those along which its tasks go
+
+pub has_graphs : (bytes : List ℕ) (laid : Laid) (graphed : Graphed) → IsLaidSource bytes (laid_tree laid) → IsPrepared (laid_tree laid) (Ok graphed)
+    → ProgramsHaveGraphs → HasGraphs laid graphed.graphs
+has_graphs bytes laid graphed source prepared law =
+    law laid graphed.graphs
+    (record { main = main_in bytes source.tokens; items = source.typed.items; file = source.file; typed = source.typed.typed; answered = source.answered })
+    prepared.0
 
 -- ## Answers
 

@@ -5,7 +5,6 @@
 //! `notallowed 1`, since the task still waits; `int x;` alone is answered by `refused replay`.
 #![tactic(auto)]
 
-mod depths;
 pub mod laws;
 mod replays;
 

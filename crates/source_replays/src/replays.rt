@@ -2,13 +2,14 @@
 ghost use Rattle.std.specs.Prelude.{◌≡◌, IfOk, string_bytes};
 ghost use Rattle.tm_terms.specs.Texts.{refusal_text};
 ghost use Rattle.tm_laid.specs.Layouts.{laid_tree};
-ghost use Rattle.concrete_worlds.specs.Lawful.{HasWorlds};
+ghost use Rattle.concrete_worlds.specs.Lawful.{HasWorlds, HasGraphs};
 ghost use Rattle.source_programs.specs.Sources.{source_limit};
 ghost use Rattle.source_replays.specs.Replays.{HasReplay, IsReplayable, no_replay_text};
 ghost use Rattle.source_replays.specs.reading.Replies.{IsRefusalLine, TellsRun};
 
-use crate::depths::may_need_much_stack;
 use concrete_worlds::laws::laid_files_have_worlds;
+use flow_graph::Graph;
+use program_worlds::programs_have_graphs;
 use replay_lines::{Ending, choices_in, replay_text, source_in};
 use replay_runs::{Run, run_by};
 use source_programs::source_program;
@@ -89,18 +90,16 @@ fn told(alloc: Global, run: &Run) -> Result<Reply, NoMemory>
     Ok(Reply { outcome, text })
 }
 
-/// The answer to bytes of whose source this is the layout. Where the stack may be too small, that is want of memory.
-fn replayed(alloc: Global, bytes: &[u8], laid: &Laid) -> Result<Reply, NoMemory>
+/// The answer to bytes of whose source these are the layout and the graphs.
+fn replayed(alloc: Global, bytes: &[u8], laid: &Laid, graphs: &[Graph]) -> Result<Reply, NoMemory>
     requires replayable { IsReplayable bytes.now (laid_tree laid.now) }
     requires worlds { HasWorlds laid.now }
+    requires graphs { HasGraphs laid.now graphs.now }
     ensures { IfOk result (λ reply. HasReplay bytes.now reply.outcome (string_bytes reply.text)) }
 {
-    if may_need_much_stack(alloc, source_in(bytes), laid)? {
-        return Err(NoMemory);
-    }
     match choices_in(alloc, bytes)? {
         Some(choices) => {
-            let run = run_by(alloc, laid, &choices)?;
+            let run = run_by(alloc, laid, graphs, &choices)?;
             told(alloc, &run)
         }
         None => not_asked(alloc),
@@ -113,11 +112,12 @@ pub fn replay(alloc: Global, bytes: &[u8]) -> Result<Reply, NoMemory>
     ensures { IfOk result (λ reply. HasReplay bytes.now reply.outcome (string_bytes reply.text)) }
 {
     laid_files_have_worlds();
+    programs_have_graphs();
     if bytes.len() > SOURCE as usize {
         return refused(alloc, too_long());
     }
     match source_program(alloc, source_in(bytes), &[]) {
-        Ok(program) => replayed(alloc, bytes, &program.laid),
+        Ok(program) => replayed(alloc, bytes, &program.laid, &program.graphs.graphs),
         Err(Fail::Refused(refusal)) => refused(alloc, refusal),
         Err(Fail::NoMemory) => Err(NoMemory),
     }

@@ -1,6 +1,6 @@
 -- Each call of the core has one answer.
-use Rattle.std.proofs.Common.{◌≡◌, ◌≢◌, ℕ, Bool, ◌∷◌, Some, Result, Ok, Err, refl, sym, ap, ◌∙◌, inl, inr}
-use Rattle.std.specs.Prelude.{not, ◌==◌, set}
+use Rattle.std.proofs.Common.{◌≡◌, ◌≢◌, ℕ, ◌<◌, ◌≤◌, Bool, false, ◌∷◌, None, Some, Result, Ok, Err, refl, sym, ap, ◌∙◌, inl, inr, arith}
+use Rattle.std.specs.Prelude.{not, ◌==◌, set, slice_get, unwrap_or}
 use Rattle.std.proofs.lemmas.Bool.{true≢false}
 use Rattle.tm_lattice.specs.declared.lattices.Lattice as lattice
 use Rattle.tm_lattice.specs.declared.passers.Passer as passer
@@ -10,11 +10,12 @@ use Rattle.store_core.specs.declared.outcomes.Taken.TheVariants.{Next, Holding, 
 use Rattle.store_core.specs.declared.outcomes.Refused.{Refused}
 use Rattle.store_core.specs.declared.outcomes.Refused.TheVariants.{NotLent, Stranger, NoMemory}
 use Rattle.store_core.specs.declared.outcomes.Grew.{Grew}
-use Rattle.store_core.specs.Histories.{Publish, version_of, store_at, Rises}
+use Rattle.store_core.specs.Histories.{Read, Publish, Past, version_of, IsLent, is_settled, store_at, Rises}
+use Rattle.store_core.specs.KeptValues.{last_read}
+use Rattle.store_core.specs.Turns.{unread_from, IsNextTask}
 use Rattle.store_core.specs.Cores.{Lent, Brought, Core}
-use Rattle.store_core.specs.Answers.{IsGrown, IsStranger}
+use Rattle.store_core.specs.Answers.{LendsFreeTask, IsGrown, IsStranger}
 use Rattle.store_core.specs.Outcomes.{Takes, Publishes}
-use Rattle.store_core.specs.Calls.{HaveOneCause}
 use Rattle.store_core.proofs.Pasts.{some_pair, none_some}
 
 module _ {P S M : Type 0} (store : lattice.Ghosts S M) (passer : passer.Ghosts P S M) where
@@ -31,29 +32,84 @@ module _ {P S M : Type 0} (store : lattice.Ghosts S M) (passer : passer.Ghosts P
     ]
   ]
 
+module _ {S : Type 0} where
+  -- of two free tasks that may both be lent next, each comes before the other: they are one
+  one_next : (tasks : ℕ) (past : Past S) (one other : ℕ) → IsNextTask tasks past one → IsNextTask tasks past other
+      → one < tasks → other < tasks → (IsLent past one → ⊥) → (IsLent past other → ⊥)
+      → is_settled past one ≡ false → is_settled past other ≡ false → one ≡ other
+  one_next tasks past one other first second exists exists' free free' unsettled unsettled' =
+      let ahead : unread_from (last_read past one) ≤ unread_from (last_read past other) =
+      first.oldest other exists' free' unsettled' in
+      let behind : unread_from (last_read past other) ≤ unread_from (last_read past one) =
+      second.oldest one exists free unsettled in
+      let same : unread_from (last_read past other) ≡ unread_from (last_read past one) = omega (arith, ahead, behind) in
+      let low : one ≤ other = first.lowest other exists' free' unsettled' same in
+      let high : other ≤ one = second.lowest one exists free unsettled (sym same) in
+      omega (arith, low, high)
+
 module _ {P S M K : Type 0} (store : lattice.Ghosts S M) (passer : passer.Ghosts P S M) where
-  pub one_taken : (before one other : Core P S K) (worker : ℕ) (a b : Result (Taken P K S M) memory.NoMemory) → Takes store passer before one worker a → Takes store passer before other worker b → HaveOneCause a b
-  one_taken before one other worker (Err none) b first second = tt
-  one_taken before one other worker (Ok (Next l)) (Err none) first second = tt
-  one_taken before one other worker (Ok (Next l)) (Ok (Next m)) first second = tt
-  one_taken before one other worker (Ok (Next l)) (Ok (Holding t)) first second = absurd (none_some _ _ first.may.idle second.lent)
-  one_taken before one other worker (Ok (Next l)) (Ok Others) first second = absurd (first.may.not_lent (second.lent l.task first.may.task_exists first.may.unsettled))
-  one_taken before one other worker (Ok (Next l)) (Ok AllQuiet) first second = absurd (true≢false (sym (second.quiet.settled l.task first.may.task_exists) ∙ first.may.unsettled))
-  one_taken before one other worker (Ok (Holding t)) (Err none) first second = tt
-  one_taken before one other worker (Ok (Holding t)) (Ok (Next m)) first second = absurd (none_some _ _ second.may.idle first.lent)
-  one_taken before one other worker (Ok (Holding t)) (Ok (Holding u)) first second = (some_pair _ t first.version u second.version first.lent second.lent).0
-  one_taken before one other worker (Ok (Holding t)) (Ok Others) first second = absurd (none_some _ _ second.idle first.lent)
-  one_taken before one other worker (Ok (Holding t)) (Ok AllQuiet) first second = absurd (none_some _ _ second.idle first.lent)
-  one_taken before one other worker (Ok Others) (Err none) first second = tt
-  one_taken before one other worker (Ok Others) (Ok (Next m)) first second = absurd (second.may.not_lent (first.lent m.task second.may.task_exists second.may.unsettled))
-  one_taken before one other worker (Ok Others) (Ok (Holding u)) first second = absurd (none_some _ _ first.idle second.lent)
-  one_taken before one other worker (Ok Others) (Ok Others) first second = tt
-  one_taken before one other worker (Ok Others) (Ok AllQuiet) first second = absurd (first.loud second.quiet)
-  one_taken before one other worker (Ok AllQuiet) (Err none) first second = tt
-  one_taken before one other worker (Ok AllQuiet) (Ok (Next m)) first second = absurd (true≢false (sym (first.quiet.settled m.task second.may.task_exists) ∙ second.may.unsettled))
-  one_taken before one other worker (Ok AllQuiet) (Ok (Holding u)) first second = absurd (none_some _ _ first.idle second.lent)
-  one_taken before one other worker (Ok AllQuiet) (Ok Others) first second = absurd (second.loud first.quiet)
-  one_taken before one other worker (Ok AllQuiet) (Ok AllQuiet) first second = tt
+  one_lent : (before one other : Core P S K) (worker : ℕ) (l m : Lent P S K)
+      → LendsFreeTask store passer before one worker l → LendsFreeTask store passer before other worker m
+      → (l ≡ m) × (one ≡ other)
+  one_lent before one other worker l m first second =
+      let task : l.task ≡ m.task = one_next _ before.past l.task m.task first.next second.next first.may.task_exists
+      second.may.task_exists first.may.not_lent second.may.not_lent first.may.unsettled second.may.unsettled in
+      let program : l.program ≡ m.program = first.program ∙ sym second.program in
+      let version : l.version ≡ m.version = first.may.present ∙ sym second.may.present in
+      let over : l.store ≡ m.store = first.present ∙ sym second.present in
+      let both : Some l.kept ≡ Some m.kept =
+      sym first.kept ∙ ap (slice_get before.kept) task ∙ second.kept in
+      let kept : l.kept ≡ m.kept = ap (λ o. unwrap_or o l.kept) both in
+      let end : (task version : ℕ) → Core P S K = λ task version. record before {
+        past = Read worker task version ∷ before.past;
+        kept = set before.kept task None;
+      } in (
+        λ i. record { program = program i; task = task i; version = version i; store = over i; kept = kept i },
+        first.new ∙ (λ i. end (task i) (version i)) ∙ sym second.new,
+      )
+
+  pub one_taken : (before one other : Core P S K) (worker : ℕ) (a b : Result (Taken P K S M) memory.NoMemory)
+      → Takes store passer before one worker a → ((none : memory.NoMemory) → a ≢ Err none)
+      → Takes store passer before other worker b → ((none : memory.NoMemory) → b ≢ Err none)
+      → (a ≡ b) × (one ≡ other)
+  one_taken before one other worker (Err none) b first is second is' = absurd (is none refl)
+  one_taken before one other worker (Ok (Next l)) (Err none) first is second is' = absurd (is' none refl)
+  one_taken before one other worker (Ok (Next l)) (Ok (Next m)) first is second is' =
+      let both = one_lent before one other worker l m first second in
+      (ap (λ l. Ok (Next l)) both.0, both.1)
+  one_taken before one other worker (Ok (Next l)) (Ok (Holding t)) first is second is' =
+      absurd (none_some _ _ first.may.idle second.lent)
+  one_taken before one other worker (Ok (Next l)) (Ok Others) first is second is' =
+      absurd (first.may.not_lent (second.lent l.task first.may.task_exists first.may.unsettled))
+  one_taken before one other worker (Ok (Next l)) (Ok AllQuiet) first is second is' =
+      absurd (true≢false (sym (second.quiet.settled l.task first.may.task_exists) ∙ first.may.unsettled))
+  one_taken before one other worker (Ok (Holding t)) (Err none) first is second is' = absurd (is' none refl)
+  one_taken before one other worker (Ok (Holding t)) (Ok (Next m)) first is second is' =
+      absurd (none_some _ _ second.may.idle first.lent)
+  one_taken before one other worker (Ok (Holding t)) (Ok (Holding u)) first is second is' = (
+    ap (λ t. Ok (Holding t)) (some_pair _ t first.version u second.version first.lent second.lent).0,
+    first.same ∙ sym second.same,
+  )
+  one_taken before one other worker (Ok (Holding t)) (Ok Others) first is second is' =
+      absurd (none_some _ _ second.idle first.lent)
+  one_taken before one other worker (Ok (Holding t)) (Ok AllQuiet) first is second is' =
+      absurd (none_some _ _ second.idle first.lent)
+  one_taken before one other worker (Ok Others) (Err none) first is second is' = absurd (is' none refl)
+  one_taken before one other worker (Ok Others) (Ok (Next m)) first is second is' =
+      absurd (second.may.not_lent (first.lent m.task second.may.task_exists second.may.unsettled))
+  one_taken before one other worker (Ok Others) (Ok (Holding u)) first is second is' =
+      absurd (none_some _ _ first.idle second.lent)
+  one_taken before one other worker (Ok Others) (Ok Others) first is second is' =
+      (refl, first.same ∙ sym second.same)
+  one_taken before one other worker (Ok Others) (Ok AllQuiet) first is second is' = absurd (first.loud second.quiet)
+  one_taken before one other worker (Ok AllQuiet) (Err none) first is second is' = absurd (is' none refl)
+  one_taken before one other worker (Ok AllQuiet) (Ok (Next m)) first is second is' =
+      absurd (true≢false (sym (first.quiet.settled m.task second.may.task_exists) ∙ second.may.unsettled))
+  one_taken before one other worker (Ok AllQuiet) (Ok (Holding u)) first is second is' =
+      absurd (none_some _ _ first.idle second.lent)
+  one_taken before one other worker (Ok AllQuiet) (Ok Others) first is second is' = absurd (second.loud first.quiet)
+  one_taken before one other worker (Ok AllQuiet) (Ok AllQuiet) first is second is' =
+      (refl, first.same ∙ sym second.same)
 
   one_grown : (before one other : Core P S K) (worker : ℕ) (brought : Brought P S K) (a b : Grew) → IsGrown store passer before one worker brought a.version a.raised → IsGrown store passer before other worker brought b.version b.raised → (a ≡ b) × (one ≡ other)
   one_grown before one other worker brought a b first second =

@@ -12,6 +12,7 @@ use Rattle.store_core.specs.Events.{plain_event, past_of}
 use Rattle.store_core.specs.Cores.{Lent}
 use Rattle.store_core.specs.KeptValues.{last_read, KeptAfter, IsKept, IsKeptNow}
 use Rattle.store_core.specs.reading.Slots.{loan_at, IsSlot, IsCore}
+use Rattle.store_core.specs.Turns.{unread_from, IsNextTask}
 use Rattle.store_core.proofs.Pasts.{some_pair, none_some, loan_of, one_lender, present_at, stays_at, not_ahead, last_published, settled_last, published_exists}
 
 -- one more event
@@ -277,6 +278,33 @@ module _ {P S M K : Type 0} (store : lattice.Ghosts S M) (passer : passer.Ghosts
           not_lent = (core.slots_are task nothing exists).free (free.1 nothing);
           unsettled = elim (cases_Bool (is_settled past task)) [ inl t ↦ absurd (free.2 nothing (settled_seen task nothing exists t)) | inr f ↦ f ];
           present = refl;
+        }
+
+    pub next_task : (task : ℕ) → task < length slots
+        → ((other : ℕ) (d : Slot K) → other < length slots → (get_or slots other d).lent ≡ false
+        → ((get_or slots other d).seen ≡ Some version → ⊥)
+        → (unread_from (get_or slots task d).seen ≤ unread_from (get_or slots other d).seen)
+        × (unread_from (get_or slots other d).seen ≡ unread_from (get_or slots task d).seen → task ≤ other))
+        → IsNextTask (passer.task_count program) past task
+    next_task task within first =
+        let exists : task < passer.task_count program = omega (arith, within, core.slot_count) in
+        let seen = λ (which : ℕ) (lt : which < passer.task_count program).
+        ap unread_from (core.slots_are which nothing lt).seen in
+        let each = λ (other : ℕ) (lt : other < passer.task_count program) (not_lent : IsLent past other → ⊥)
+        (unsettled : is_settled past other ≡ false).
+        first other nothing (omega (arith, lt, core.slot_count))
+        (elim (cases_Bool (get_or slots other nothing).lent) [
+          | inl t ↦ absurd (not_lent ((core.slots_are other nothing lt).lent t))
+          | inr f ↦ f
+        ])
+        (λ now. false≢true (sym unsettled ∙ seen_settled other nothing lt now)) in
+        record {
+          oldest = λ other lt not_lent unsettled.
+              subst (λ n. n ≤ unread_from (last_read past other)) (seen task exists)
+              (subst (λ n. unread_from (get_or slots task nothing).seen ≤ n) (seen other lt)
+              (each other lt not_lent unsettled).0);
+          lowest = λ other lt not_lent unsettled same.
+              (each other lt not_lent unsettled).1 (seen other lt ∙ same ∙ sym (seen task exists));
         }
 
     pub unsettled_lent : ((task : ℕ) (d : Slot K) → task < length slots → ((get_or slots task d).lent ≡ true) ⊎ ((get_or slots task d).seen ≡ Some version))

@@ -1,4 +1,5 @@
 pub mod Causes
+pub mod FirstFree
 pub mod Keeping
 pub mod Led
 pub mod Pasts

@@ -5,11 +5,14 @@ use Rattle.tm_lattice.specs.declared.passers.Passer as passer
 use Rattle.store_core.specs.Histories.{Read, Publish, version_of, lent_to, IsLent, is_settled, IsQuiet, store_of}
 use Rattle.store_core.specs.Histories.{store_at, MayRead, MayPublish}
 use Rattle.store_core.specs.Cores.{Lent, Brought, Core}
+use Rattle.store_core.specs.Turns.{IsNextTask}
 
 module _ {P S M K : Type 0} (store : lattice.Ghosts S M) (passer : passer.Ghosts P S M) where
-  -- a free task is lent at the present version, with what was kept for it, and the reading stands in the past
+  -- the free task whose reading is the oldest is lent at the present version, with what was kept for it, and the
+  -- reading stands in the past
   pub record LendsFreeTask (before after : Core P S K) (worker : ℕ) (lent : Lent P S K) : Type 0 where
     pub may : MayRead store passer before.program before.workers before.past worker lent.task lent.version
+    pub next : IsNextTask (passer.task_count before.program) before.past lent.task
     pub program : lent.program ≡ before.program
     pub present : lent.store ≡ store_of store passer before.program before.past
     pub kept : slice_get before.kept lent.task ≡ Some lent.kept

@@ -1,10 +1,9 @@
 -- Lists of calls of the core, with their answers.
-use Rattle.std.specs.Prelude.{◌≡◌, ℕ, ◌<◌, List, [], ◌∷◌, ◌++◌, Result, Ok, Err}
+use Rattle.std.specs.Prelude.{◌≡◌, ℕ, ◌<◌, List, [], ◌∷◌, ◌++◌, Result}
 use Rattle.tm_lattice.specs.declared.lattices.Lattice as lattice
 use Rattle.tm_lattice.specs.declared.passers.Passer as passer
 use Rattle.tm_lattice.specs.declared.memory.NoMemory as memory
 use Rattle.store_core.specs.declared.outcomes.Taken.{Taken}
-use Rattle.store_core.specs.declared.outcomes.Taken.TheVariants.{Next, Holding, Others, AllQuiet}
 use Rattle.store_core.specs.declared.outcomes.Refused.{Refused}
 use Rattle.store_core.specs.declared.outcomes.Grew.{Grew}
 use Rattle.store_core.specs.Histories.{Past, IsLegal}
@@ -15,17 +14,6 @@ use Rattle.store_core.specs.Outcomes.{Takes, Publishes}
 pub data Call (P S M K : Type 0) : Type 0 where
   TakeCall : (worker : ℕ) (answer : Result (Taken P K S M) memory.NoMemory) → Call P S M K
   PublishCall : (worker : ℕ) (brought : Brought P S K) (answer : Result Grew (Refused P K S M)) → Call P S M K
-
--- two answers of `take` that come of one cause; want of memory has none, so it goes with every other answer
-abbrev pub HaveOneCause : {P S M K : Type 0}
-    → Result (Taken P K S M) memory.NoMemory → Result (Taken P K S M) memory.NoMemory → Type 0
-HaveOneCause (Err none) b = Unit {0}
-HaveOneCause a (Err none) = Unit {0}
-HaveOneCause (Ok (Next one)) (Ok (Next other)) = Unit {0}
-HaveOneCause (Ok (Holding one)) (Ok (Holding other)) = one ≡ other
-HaveOneCause (Ok Others) (Ok Others) = Unit {0}
-HaveOneCause (Ok AllQuiet) (Ok AllQuiet) = Unit {0}
-HaveOneCause a b = ⊥
 
 module _ {P S M K : Type 0} (store : lattice.Ghosts S M) (passer : passer.Ghosts P S M) where
   -- the call may give this answer, and leads from one core to the other

@@ -5,5 +5,6 @@ pub mod Events
 pub mod Histories
 pub mod KeptValues
 pub mod Outcomes
+pub mod Turns
 pub mod laws
 pub mod reading

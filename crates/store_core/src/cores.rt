@@ -10,6 +10,7 @@ ghost use Rattle.store_core.specs.reading.Slots.{loan_at};
 ghost use Rattle.store_core.specs.Answers.{LendsFreeTask, IsGrown};
 ghost use Rattle.store_core.specs.Events.{past_of};
 ghost use Rattle.store_core.specs.Outcomes.{Takes, Publishes};
+ghost use Rattle.store_core.specs.Turns.{IsNextTask};
 
 use crate::contributions::Contribution;
 use crate::events::Event;
@@ -117,7 +118,9 @@ impl<P: Warm> StoreCore<P> {
         })
     }
 
-    /// Lends the worker a task, with the present store and what was kept for the task.
+    /// Lends the worker the next task, with the present store and what was kept for the task: of the tasks that are
+    /// neither lent nor settled the one whose last publication had read the oldest version. A task of which nothing was
+    /// published comes before the others, and of several that are as old the one of the lowest number.
     ///
     /// `Holding` exactly where the worker is lent a task already; else `AllQuiet` exactly where every task is settled
     /// and none is lent; else `Others` exactly where each task that is not settled is lent. In these cases and after
@@ -140,10 +143,11 @@ impl<P: Warm> StoreCore<P> {
         }
     }
 
-    // Lends the worker this task.
+    // Lends the worker this task, the next one.
     fn lend(&mut self, worker: u32, task: u32) -> Result<Snapshot<P>, NoMemory>
-        requires { MayRead P.Store.Lattice P.Passer self.old.program self.old.workers self.old.past
+        requires may { MayRead P.Store.Lattice P.Passer self.old.program self.old.workers self.old.past
             worker task (version_of self.old.past) }
+        requires next { IsNextTask (P.task_count self.old.program) self.old.past task }
         ensures lent { IfOk result (LendsFreeTask P.Store.Lattice P.Passer self.old self.new worker) }
         ensures err { OnErr result (self.new ≡ self.old) }
     {

@@ -7,7 +7,7 @@ ghost use Rattle.store_core.specs.Histories.{IsQuiet, IsPassOverItsReading};
 ghost use Rattle.store_core.specs.Cores.{Brought, Core};
 ghost use Rattle.store_core.specs.KeptValues.{IsKept, IsKeptNow};
 ghost use Rattle.store_core.specs.Outcomes.{Takes, Publishes};
-ghost use Rattle.store_core.specs.Calls.{Call, Lead, GoesOn, HaveOneCause};
+ghost use Rattle.store_core.specs.Calls.{Call, Lead, GoesOn};
 ghost use Rattle.store_core.specs.declared.outcomes.Taken.{Taken};
 ghost use Rattle.store_core.specs.declared.outcomes.Refused.{Refused};
 ghost use Rattle.store_core.specs.declared.outcomes.Grew.{Grew};
@@ -80,14 +80,14 @@ pub fn every_list_of_calls<P: Warm>()
         → GoesOn P.Store.Lattice P.Passer before after }
 {}
 
-/// Each call has one answer, want of memory aside: the causes exclude each other. Which free task is lent is left open;
-/// a publication has one answer and leads to one core.
+/// Each call has one answer, want of memory aside, and leads to one core: the causes exclude each other, and one of the
+/// free tasks is the next.
 pub fn one_answer<P: Warm>()
     ensures take { (before one other : Core P P.Store P.Kept) (worker : ℕ)
         (a b : Result (Taken P P.Kept P.Store P.Store.Marks) memory.NoMemory)
-        → Takes P.Store.Lattice P.Passer before one worker a
-        → Takes P.Store.Lattice P.Passer before other worker b
-        → HaveOneCause a b }
+        → Takes P.Store.Lattice P.Passer before one worker a → ((none : memory.NoMemory) → a ≢ Err none)
+        → Takes P.Store.Lattice P.Passer before other worker b → ((none : memory.NoMemory) → b ≢ Err none)
+        → (a ≡ b) × (one ≡ other) }
     ensures publish { (before one other : Core P P.Store P.Kept) (worker : ℕ) (brought : Brought P P.Store P.Kept)
         (a b : Result Grew (Refused P P.Kept P.Store P.Store.Marks))
         → Publishes P.Store.Lattice P.Passer before one worker brought a → a ≢ Err Refused.NoMemory

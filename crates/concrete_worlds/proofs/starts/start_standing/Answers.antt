@@ -10,6 +10,6 @@ use Rattle.concrete_worlds.proofs.starts.start_standing.Goals as goal
 pub returns : goal.returns
 returns c =
     c.settled.ensures
-    ∙ ap (λ a. settled (laid_tree c.args.laid.now) c.args.task a (standing_of (length c.args.laid.now.file.mutexes.items) (record { priority = c.args.priority; status = c.args.status; held = c.none.result }))) c.next.ensures
+    ∙ ap (λ a. settled (laid_tree c.args.laid.now) c.args.task a (standing_of (length c.args.laid.now.file.mutexes.items) (record { priority = c.args.priority; status = c.args.status; held = c.none.result }))) c.first_action.ensures
     ∙ ap (λ h. settled (laid_tree c.args.laid.now) c.args.task (next (laid_tree c.args.laid.now) c.args.task []) (record { priority = c.args.priority; status = c.args.status; held = h }))
     (ap (first_mutexes (length c.args.laid.now.file.mutexes.items)) c.none.ensures ∙ set_empty c.args.laid.now.file.mutexes.items)

@@ -16,6 +16,7 @@ loop-done-preserved c =
       goes_on_there (laid_tree c.args.laid.now) _ (ap laid_tree c.loop-done.invariant.0) c.args.choices.now c.loop-done.places.items c.turn.new.places.items
           c.loop-done.done (world_of c.loop-done.world) _ c.loop-done.invariant.2 c.in_ok-ending.ensures.races _ _ (world_of c.turn.new.world) _
           (drop_more c.args.choices.now c.loop-done.done _ lt) c.in_ok-ending.ensures.ended c.in-None.is c.in_ok-ending.ensures.world,
+      c.in_ok-ending.ensures.running,
     )
 
 pub returns-in-Some : goal.returns-in-Some
@@ -40,4 +41,5 @@ loop-done-init c = (
   omega arith,
   subst (λ (z : List Place). IsSoFar (laid_tree c.args.laid.now) c.args.choices.now z 0 (world_of c.in_ok-world.world) c.args.choices.now)
       (sym c.new-places.ensures.items) (none_done (laid_tree c.args.laid.now) c.args.choices.now (world_of c.in_ok-world.world) c.in_ok-world.ensures.world),
+  c.in_ok-world.ensures.running,
 )

@@ -1,5 +1,5 @@
-use Rattle.concrete_worlds.specs.Lawful.{HasWorlds}
+use Rattle.concrete_worlds.specs.Running.{IsWorld}
 use Rattle.run_tests.proofs.rows.run_told.Given as goal
 
 abbrev pub invariant-loop-word : goal.invariant-loop-word
-invariant-loop-word l = HasWorlds l.world.laid.now
+invariant-loop-word l = IsWorld l.world

@@ -1,11 +1,14 @@
-use Rattle.std.proofs.Common.{ℕ, ◌<◌, ◌≤◌, List, length, arith, subst}
+use Rattle.std.proofs.Common.{ℕ, ◌<◌, ◌≤◌, List, length, arith, sym, subst}
 use Rattle.std.specs.Prelude.{string_bytes}
 use Rattle.tm_terms.specs.declared.refusals.Refusal.{Refusal}
 use Rattle.tm_laid.specs.Layouts.{laid_tree}
+use Rattle.flow_graph.specs.declared.graphs.Graph.{Graph}
+use Rattle.concrete_worlds.specs.Lawful.{HasGraphs}
+use Rattle.program_graphs.specs.Prepared.{Graphed}
 use Rattle.source_programs.specs.Sources.{longest_source, source_limit, IsLaidSource, IsRefused}
 use Rattle.source_replays.specs.Replays.{all_too_long, source_refused}
 use Rattle.source_replays.specs.reading.Replies.{IsRefusalLine}
-use Rattle.source_replays.proofs.Answered.{has_worlds, refusal_answers, one_ok}
+use Rattle.source_replays.proofs.Answered.{has_graphs, has_worlds, refusal_answers, one_ok}
 use Rattle.source_replays.proofs.replays.replay.Goals as goal
 
 pub returns-then-bytes : goal.returns-then-bytes
@@ -26,6 +29,12 @@ replayed-requires-clause-replayable c = record {
 pub replayed-requires-clause-worlds : goal.replayed-requires-clause-worlds
 replayed-requires-clause-worlds c =
     has_worlds c.source_in.result.now c.in-Ok.program.laid c.in-Ok.ensures.source c.in-Ok.ensures.analysable.layable c.laid_files_have_worlds.ensures
+
+pub replayed-requires-clause-graphs : goal.replayed-requires-clause-graphs
+replayed-requires-clause-graphs c =
+    let graphed : Graphed = record { graphs = c.in-Ok.program.graphs.graphs.items; configured = c.in-Ok.program.configured.items } in
+    subst (λ (graphs : List Graph). HasGraphs c.in-Ok.program.laid graphs) (sym c.deref.ensures.value)
+    (has_graphs c.source_in.result.now c.in-Ok.program.laid graphed c.in-Ok.ensures.source c.in-Ok.ensures.prepared c.programs_have_graphs.ensures)
 
 pub returns-in-Err-Refused : goal.returns-in-Err-Refused
 returns-in-Err-Refused c =

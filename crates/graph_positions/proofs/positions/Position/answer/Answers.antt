@@ -1,4 +1,4 @@
-use Rattle.std.proofs.Common.{◌≡◌, ◌∙◌, ◌∷◌, suc, sym, arith}
+use Rattle.std.proofs.Common.{refl, ◌≡◌, ◌∙◌, ◌∷◌, suc, sym, arith}
 use Rattle.tm_laid.specs.Layouts.{LaidTree, laid_tree}
 use Rattle.flow_graph.specs.Graphs.{Edges}
 use Rattle.flow_graph.specs.Runs.{Memory}
@@ -9,7 +9,7 @@ use Rattle.graph_positions.proofs.positions.Position.answer.Goals as goal
 pub returns-in_ok-used-in-Some-clause-answered : goal.returns-in_ok-used-in-Some-clause-answered
 returns-in_ok-used-in-Some-clause-answered c =
     let m : Memory = memory_of c.drift.new.self in
-    let more = c.in_ok-used-in-Some.ensures.0 in
+    let more = c.in_ok-used-in-Some.ensures.one.0 in
     let u : c.in_ok-used-in-Some.used ≡ suc c.drift.new.self.used = omega (arith, more) in
     answered_on (laid_tree c.args.laid.now) c.args.graph.now.edges.items c.args.self.now.node c.drift.new.self.node c.in-Awaits.edge c.in_ok-used-in-Some.used (memory_of c.args.self.now) m
     (memory_of c.go.new.self) c.go.new.self.node c.in-Awaits.action c.args.answer c.in-Some.value c.drift.result c.in-Awaits.is c.drift.ensures.step (sym c.answer_of.ensures ∙ c.in-Some.is) u
@@ -35,4 +35,6 @@ returns-in_default c =
         λ answers. run_from laid g (c.args.answer ∷ answers) c.drift.ensures.reaches
             (no_fit laid g c.drift.new.self.node (memory_of c.drift.new.self) c.args.answer c.drift.result c.in_default.not-Awaits c.drift.ensures.stop c.drift.ensures.step answers),
       );
+      same = tt;
+      room = λ h. refl;
     }

@@ -1,4 +1,4 @@
-use Rattle.std.proofs.Common.{◌<◌, ℕ, refl, sym, subst}
+use Rattle.std.proofs.Common.{◌<◌, ◌∙◌, ℕ, refl, sym, subst}
 use Rattle.tm_laid.specs.Layouts.{laid_tree}
 use Rattle.flow_graph.specs.Graphs.{Edges}
 use Rattle.flow_graph.specs.Runs.{Memory}
@@ -11,7 +11,7 @@ use Rattle.graph_positions.proofs.Ends.{gone_on}
 use Rattle.graph_positions.proofs.positions.Position.drift.Goals as goal
 
 pub loop-step-init : goal.loop-step-init
-loop-step-init c = record { position = c.requires.position; reaches = here; at = c.step-step.ensures }
+loop-step-init c = record { position = c.requires.position; reaches = here; used = refl; at = c.step-step.ensures }
 
 pub loop-step-preserved : goal.loop-step-preserved
 loop-step-preserved c = record {
@@ -19,6 +19,7 @@ loop-step-preserved c = record {
   reaches =
       gone_on (laid_tree c.args.laid.now) c.args.graph.now.edges.items c.args.self.now.node c.loop-step.self.node c.in-Goes.edge c.loop-step.self.used (memory_of c.args.self.now) (memory_of c.loop-step.self)
       (memory_of c.go.new.self) c.go.new.self.node c.in-Goes.value c.loop-step.step c.in-Goes.is c.loop-step.invariant.at refl c.go.ensures.node c.go.ensures.memory c.loop-step.invariant.reaches;
+  used = c.go.ensures.used ∙ c.loop-step.invariant.used;
   at = c.step-step-in-Goes.ensures;
 }
 

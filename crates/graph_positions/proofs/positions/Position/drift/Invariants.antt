@@ -1,4 +1,4 @@
-use Rattle.std.proofs.Common.{[]}
+use Rattle.std.proofs.Common.{◌≡◌, []}
 use Rattle.tm_laid.specs.Layouts.{laid_tree}
 use Rattle.flow_graph.specs.Positions.{Reaches}
 use Rattle.graph_positions.specs.Memories.{memory_of}
@@ -11,6 +11,7 @@ abbrev pub invariant-loop-step : goal.invariant-loop-step
 invariant-loop-step l = record {
   position : IsPositionOf l.graph.edges.items l.graph.nodes l.self;
   reaches : Reaches (laid_tree l.laid) l.graph.edges.items l.initial.self.node (memory_of l.initial.self) [] l.self.node (memory_of l.self);
+  used : l.self.used ≡ l.initial.self.used;
   at : IsStepAt (laid_tree l.laid) l.graph.edges.items l.self.node (memory_of l.self) l.step;
 }
 

@@ -1,0 +1,47 @@
+//! A replay of calls that are 395 deep in one another, each in an expression of height 480: to go down through calls
+//! and trees would need more stack than a main thread has.
+
+use analyser::analyse;
+use std::alloc::Global;
+use std::test::Fail;
+use tm_io::{OpenGate, SureSink, SureSource};
+
+/// The text `fK`.
+fn push_name(alloc: Global, text: &mut String, number: u32) -> Result<(), Fail> {
+    let name = format!(in alloc; "f{number}")?;
+    text.push_str(&name)?;
+    Ok(())
+}
+
+/// `int f0(void){return 1;}`, then for K from 1 to 394 `int fK(void){return + + .. + f(K-1)();}` with 480 signs, a task
+/// that stores what the last one gives, and the two choices with which it does so.
+fn deep_source(alloc: Global) -> Result<String, Fail> {
+    let mut text = String::from_str(alloc, "int f0(void){return 1;}\n")?;
+    for callee in 0..394u32 {
+        text.push_str("int ")?;
+        push_name(alloc, &mut text, callee + 1)?;
+        text.push_str("(void){return")?;
+        for _sign in 0..480 {
+            text.push_str(" +")?;
+        }
+        text.push_str(" ")?;
+        push_name(alloc, &mut text, callee)?;
+        text.push_str("();}\n")?;
+    }
+    text.push_str("int x;__task(1) void t(void){x=f394();}\n#replay\nwake 0\nrun 0 0\n")?;
+    Ok(text)
+}
+
+#[test]
+fn deep_calls(rt: HostRuntime) -> Result<(), Fail> {
+    let alloc = rt.alloc();
+    let text = deep_source(alloc)?;
+    let mut words = Vec::new(alloc);
+    words.push(String::from_str(alloc, "replay")?)?;
+    let mut source = SureSource::new(text.as_bytes().to_vec(alloc)?);
+    let mut out = SureSink::new(alloc);
+    let status = analyse(&rt, alloc, &words, &mut source, &mut out, &OpenGate);
+    assert_eq!(&rt; out.taken(), b"ran 2\n");
+    assert_eq!(&rt; status.number(), 0);
+    Ok(())
+}

@@ -1,0 +1,2 @@
+-- Which programs have graphs along which their tasks go.
+pub mod Laws
