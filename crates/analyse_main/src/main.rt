@@ -1,12 +1,13 @@
-//! The program: it analyses standard input, writes to standard output, and ends with the number of
-//! the analysis' status. Where the system does not give the program its words, it writes nothing
-//! and ends with status 7.
+//! The program: it analyses standard input, writes to standard output, and ends with the number of the analysis'
+//! status. Words that ask for workers are handed to the call that may wait for them, all others to the one that waits
+//! for none. Where the system does not give the program its words, it writes nothing and ends with status 7.
 #![tactic(auto)]
 
-use analyser::{Status, analyse};
+use analyser::{Status, analyse, analyse_alone, asks_workers};
 use std::env;
 use std::process::ExitCode;
 use tm_io::{OpenGate, StdSink, StdSource};
+use tm_lattice::NoMemory;
 
 /// The status where the system does not give the program its words.
 const NO_WORDS: u8 = 7;
@@ -16,11 +17,16 @@ fn main(rt: HostRuntime) -> ExitCode {
         return ExitCode::from(NO_WORDS);
     };
     let _program = words.next();
-    let Ok(words) = words.collect::<Vec<String>>(rt.alloc()) else {
+    let alloc = rt.alloc();
+    let Ok(words) = words.collect::<Vec<String>>(alloc) else {
         return ExitCode::from(Status::NoMemory.number());
     };
     let mut source = StdSource::new(rt.stdin());
     let mut out = StdSink::new(rt.stdout());
-    let status = analyse(&rt, rt.alloc(), &words, &mut source, &mut out, &OpenGate);
+    let status = match asks_workers(alloc, &words) {
+        Ok(false) => analyse_alone(alloc, &words, &mut source, &mut out),
+        Ok(true) => analyse(&rt, alloc, &words, &mut source, &mut out, &OpenGate),
+        Err(NoMemory) => Status::NoMemory,
+    };
     ExitCode::from(status.number())
 }

@@ -1,5 +1,5 @@
 -- From the answer to the bytes to the answer to what was read of a source.
-use Rattle.std.proofs.Common.{◌≡◌, ℕ, ◌<◌, ◌≤◌, List, [], ◌++◌, length, refl, sym, ◌∙◌, ap, subst, inl, inr, arith, length-append}
+use Rattle.std.proofs.Common.{◌≡◌, ℕ, ◌+◌, ◌<◌, ◌≤◌, List, [], ◌++◌, length, refl, sym, ◌∙◌, ap, subst, inl, inr, arith, length-append}
 use Rattle.std.proofs.lemmas.List.{append-nil}
 use Rattle.std.specs.Io.KnownBytes.{IsAtEnd, append_known, prepend_known}
 use Rattle.std.specs.Prelude.{◌⊎◌, Bool, Option, Some, None, Result, Ok, Err, IfOk}
@@ -13,13 +13,14 @@ use Rattle.source_programs.specs.Sources.{not_typed, not_laid, not_prepared}
 use Rattle.source_replays.specs.declared.replays.Outcome.{Outcome}
 use Rattle.source_replays.specs.declared.replays.Outcome.TheVariants as Outcomes
 use Rattle.source_replays.proofs.Alike.{long_ones_are_alike}
-use Rattle.analyser.specs.declared.statuses.Status.{Status}
-use Rattle.analyser.specs.declared.statuses.Status.TheVariants.{NoAlarm, Alarms, Refused, Usage, ReadFault, WriteFault, NoMemory}
+use Rattle.program_streams.specs.declared.statuses.Status.{Status}
+use Rattle.program_streams.specs.declared.statuses.Status.TheVariants.{NoAlarm, Alarms, Refused, Usage, ReadFault, WriteFault, NoMemory}
 use Rattle.analyser.specs.Answers.{Reports, WritesReport, HistoryFor, HasAnswer, HasSummary, IsGenerated}
 use Rattle.analyser.specs.Answers.{IsReplayed, replay_status, IsReadOut, Answers, TakesNoMore, Told, report_lines}
 use Rattle.analyser.specs.Statuses.{IsWhole}
 use Rattle.analyser.specs.reading.Replies.{TellsAlarms}
-use Rattle.analyser.specs.reading.Streams.{TakesFrontOf, Says, SaysNoMore}
+use Rattle.analyser.specs.reading.Streams.{Says, SaysNoMore}
+use Rattle.program_streams.specs.Streams.{TakesFrontOf}
 
 -- what an answer says is what it says of another fact that follows
 pub if_ok_by : {A E : Type 0} {P Q : A → Type 0} (r : Result A E) → IfOk r P → ((a : A) → P a → Q a) → IfOk r Q
@@ -197,8 +198,10 @@ pub read_out : (left : Option (List ℕ)) (bytes : List ℕ) (left' : Option (Li
     → IsAtEnd left' ⊎ (longest_source < length bytes) → IsReadOut left left'
 read_out left bytes left' e k = subst (λ l. IsReadOut l left') (sym e) (read_out_by bytes left' k)
 
-pub past_limit : (n m : ℕ) (left' : Option (List ℕ)) → n ≡ m → IsAtEnd left' ⊎ (longest_source < n) → IsAtEnd left' ⊎ (longest_source < m)
-past_limit n m left' e h = subst (λ k. IsAtEnd left' ⊎ (longest_source < k)) e h
+-- what is read up to one byte more than a source may have is read to its end, or past the limit
+pub past_limit : (n m : ℕ) (left' : Option (List ℕ)) → n ≡ m → IsAtEnd left' ⊎ (longest_source + 1 ≤ n) → IsAtEnd left' ⊎ (longest_source < m)
+past_limit n m left' e (inl h) = inl h
+past_limit n m left' e (inr h) = inr (subst (λ k. longest_source < k) e (omega (arith, h)))
 
 -- ---- what is answered whatever the bytes are
 

@@ -16,8 +16,8 @@ use Rattle.source_replays.specs.declared.replays.Outcome.{Outcome}
 use Rattle.source_replays.specs.declared.replays.Outcome.TheVariants as Outcomes
 use Rattle.source_replays.specs.Replays.{IsRefusedReplay, HasReplay, TellsRefusal, AsksForNone}
 use Rattle.source_replays.proofs.Alike.{none_is_both as no_replay}
-use Rattle.analyser.specs.declared.statuses.Status.{Status}
-use Rattle.analyser.specs.declared.statuses.Status.TheVariants.{NoAlarm, Alarms, Refused, Usage, ReadFault, WriteFault, NoMemory}
+use Rattle.program_streams.specs.declared.statuses.Status.{Status}
+use Rattle.program_streams.specs.declared.statuses.Status.TheVariants.{NoAlarm, Alarms, Refused, Usage, ReadFault, WriteFault, NoMemory}
 use Rattle.analyser.specs.Answers.{Reports, WritesReport, HasAnswer, HasSummary, IsGenerated, SaysUsage, CommandGives}
 use Rattle.analyser.specs.Answers.{IsReplayed, AsksForRun, replay_status}
 use Rattle.analyser.specs.Answers.{IsCommand, Reads, AnswersFor, Accepts, Refuses, Answers, TakesNoMore, Told}

@@ -1,8 +1,6 @@
--- Pieces that are written (Written); answers to bytes and texts that are sent (AnswerLemmas), and from the answer of a
--- command to that of words (CommandLemmas), which
--- asks for 1 to 16 workers (AskedWorkers); the lines of histories (HistoryLines); a source has one report (OneReport), in
--- which each error stands (Sound).
-pub mod Written
+-- Answers to bytes and texts that are sent (AnswerLemmas); from the answer of a command to that of words (CommandLemmas),
+-- which ask for 1 to 16 workers, or for none (AskedWorkers); the lines of histories (HistoryLines); a source has one
+-- report (OneReport), in which each error stands (Sound).
 pub mod AnswerLemmas
 pub mod CommandLemmas
 pub mod AskedWorkers

@@ -1,6 +1,6 @@
 -- What the program answers: which texts these words and bytes may give, with which status.
 use Rattle.std.specs.Prelude.{◌≡◌, ℕ, ◌<◌, ◌⊎◌, Bool, true, false, List, [], ◌∷◌, ◌++◌, length, Option, Some, None}
-use Rattle.std.specs.Prelude.{IfSome, Contains}
+use Rattle.std.specs.Prelude.{IfSome, Contains, nat_lt, ◌||◌}
 use Rattle.std.specs.Io.KnownBytes.{append_known, IsAtEnd}
 use Rattle.cmd_words.specs.declared.commands.AnalyseWords.{AnalyseWords}
 use Rattle.cmd_words.specs.declared.commands.Command.{Command}
@@ -28,9 +28,9 @@ use Rattle.program_solutions.specs.LeastReports.{IsLeastReport}
 use Rattle.source_replays.specs.declared.replays.Outcome.{Outcome}
 use Rattle.source_replays.specs.declared.replays.Outcome.TheVariants as Outcomes
 use Rattle.source_replays.specs.Replays.{IsReplayable, IsRefusedReplay, HasReplay}
-use Rattle.analyser.specs.declared.statuses.Status.{Status}
-use Rattle.analyser.specs.declared.statuses.Status.TheVariants.{NoAlarm, Alarms, Refused, Usage, ReadFault}
-use Rattle.analyser.specs.declared.statuses.Status.TheVariants.{WriteFault, NoMemory}
+use Rattle.program_streams.specs.declared.statuses.Status.{Status}
+use Rattle.program_streams.specs.declared.statuses.Status.TheVariants.{NoAlarm, Alarms, Refused, Usage, ReadFault}
+use Rattle.program_streams.specs.declared.statuses.Status.TheVariants.{WriteFault, NoMemory}
 
 -- ## Reports
 
@@ -149,6 +149,14 @@ IsCommand (Some (Analyse w)) = Unit {0}
 IsCommand (Some Replay) = Unit {0}
 IsCommand (Some (Generate count)) = Unit {0}
 IsCommand (Some (Demo w)) = Unit {0}
+
+-- whether the command asks for workers: for more than one, or for the history of one
+abbrev pub asks_workers : Option Command → Bool
+asks_workers None = false
+asks_workers (Some (Analyse w)) = nat_lt 1 w.workers || w.history
+asks_workers (Some Replay) = false
+asks_workers (Some (Generate count)) = false
+asks_workers (Some (Demo w)) = nat_lt 1 w.workers
 
 -- the command reads the source
 abbrev pub Reads : Option Command → Type 0

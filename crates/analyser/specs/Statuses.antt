@@ -1,18 +1,8 @@
--- How a call of the program ends.
-use Rattle.std.specs.Prelude.{◌≡◌, ℕ, ◌⊎◌}
-use Rattle.analyser.specs.declared.statuses.Status.{Status}
-use Rattle.analyser.specs.declared.statuses.Status.TheVariants.{NoAlarm, Alarms, Refused, Usage, ReadFault}
-use Rattle.analyser.specs.declared.statuses.Status.TheVariants.{WriteFault, NoMemory}
-
--- the number with which the program ends
-abbrev pub status_number : Status → ℕ
-status_number NoAlarm = 0
-status_number Alarms = 1
-status_number Refused = 2
-status_number Usage = 3
-status_number ReadFault = 4
-status_number WriteFault = 5
-status_number NoMemory = 6
+-- What the statuses come with.
+use Rattle.std.specs.Prelude.{◌≡◌, ◌⊎◌}
+use Rattle.program_streams.specs.declared.statuses.Status.{Status}
+use Rattle.program_streams.specs.declared.statuses.Status.TheVariants.{NoAlarm, Alarms, Refused, Usage, ReadFault}
+use Rattle.program_streams.specs.declared.statuses.Status.TheVariants.{WriteFault, NoMemory}
 
 -- the statuses that come with a whole text
 abbrev pub IsWhole : Status → Type 0

@@ -1,53 +1,29 @@
 //! The status and the text that a command answers with.
 
-ghost use Rattle.std.specs.Prelude.{◌≡◌, ◌≤◌, ◌++◌, IfOk, IsTrue, false, string_bytes};
+ghost use Rattle.std.specs.Prelude.{◌≡◌, ◌++◌, IfOk, false, string_bytes};
 ghost use Rattle.big_source.specs.GeneratedSources.{source_text, summary_text};
 ghost use Rattle.tm_terms.specs.Texts.{refusal_text};
-ghost use Rattle.thread_pass.specs.program_systems.ReadPrograms.{program_of};
 ghost use Rattle.analyser.specs.Answers.{HasAnswer, HasSummary, IsGenerated, IsReplayed, replay_status};
 ghost use Rattle.analyser.specs.Answers.{report_lines};
-ghost use Rattle.analyser.specs.reading.Replies.{AreLines, IsFound, IsSolved, TellsAlarms};
+ghost use Rattle.analyser.specs.reading.Replies.{IsFound, TellsAlarms};
 
-use crate::statuses::Status;
+use crate::solvers::{Manner, Solved, Solver};
 use big_source::{big_source, summary};
 use cmd_words::{AnalyseWords, DemoWords};
-use history_lines::history_lines;
-use program_solutions::least_report;
+use program_streams::Status;
 use report_json::report_json;
 use source_programs::source_program;
 use source_replays::{Outcome, replay};
 use std::alloc::Global as Heap;
-use std::sync::Wait;
-use std::thread::Threads;
-use store_core::StoreCore;
 use thread_pass::Analysis;
-use tm_io::Gate;
 use tm_lattice::NoMemory;
 use tm_terms::{Fail, Refusal, Report, plain as plain_text, refusal_line};
-use worker_solutions::{WorkedOut, report_by_workers};
 
 /// A status and the whole text that goes with it.
 #[derive(Drop)]
 pub struct Reply {
     pub status: Status,
     pub text: String,
-}
-
-/// How a program is to be solved.
-#[derive(Clone, Copy)]
-pub struct Manner {
-    /// How many workers there are, from 1 to 16.
-    pub workers: u32,
-    /// Whether their history is asked for.
-    pub history: bool,
-}
-
-/// The report of a program.
-#[derive(Drop)]
-pub struct Solved {
-    pub report: Report,
-    /// The lines of the history, none where it is not asked for.
-    pub history: String,
 }
 
 /// What is found of the bytes of a source.
@@ -59,75 +35,21 @@ pub enum Found {
     Refused(Refusal),
 }
 
-/// The lines of the history of a core, where they are asked for.
-fn lines_of(alloc: Heap, core: &StoreCore<Analysis>, history: bool) -> Result<String, NoMemory>
-    ensures { IfOk result (λ lines. AreLines history core.now.past (string_bytes lines)) }
-{
-    if history {
-        history_lines(alloc, core.history())
-    } else {
-        Ok(String::new(alloc))
-    }
-}
-
-/// Whether one worker works, whose history is not asked for.
-fn is_alone(manner: Manner) -> bool
-    ensures { IsTrue result → manner.history ≡ false }
-{
-    !manner.history && manner.workers == 1
-}
-
-/// What workers have worked out, with the lines of their history where they are asked for.
-fn told_of(alloc: Heap, worked: WorkedOut, history: bool) -> Result<Solved, NoMemory>
-    ensures report { IfOk result (λ solved. solved.report ≡ worked.report) }
-    ensures lines { IfOk result (λ solved. AreLines history worked.core.past (string_bytes solved.history)) }
-{
-    let WorkedOut { report, core } = worked;
-    let history = lines_of(alloc, &core, history)?;
-    Ok(Solved { report, history })
-}
-
-/// The report of a program. One worker whose history is not asked for passes the tasks in turn on the calling thread,
-/// which comes to an end; else workers share a store, and the gate is told of their passes.
-fn report_by<R: Threads + Wait + Sync, G: Gate>(
-    rt: &R,
-    alloc: Heap,
-    analysis: Analysis,
-    manner: Manner,
-    gate: &G,
-) -> Result<Solved, NoMemory>
-    requires some { 1 ≤ manner.workers }
-    requires most { manner.workers ≤ 16 }
-    ensures { IfOk result (IsSolved (program_of analysis) manner.workers manner.history) }
-{
-    if is_alone(manner) {
-        let report = least_report(alloc, &analysis)?;
-        return Ok(Solved {
-            report,
-            history: String::new(alloc),
-        });
-    }
-    let worked = report_by_workers(rt, alloc, analysis, manner.workers, gate)?;
-    told_of(alloc, worked, manner.history)
-}
-
 /// What is found of the bytes of a source, with these numbers given as thresholds.
-fn report_of<R: Threads + Wait + Sync, G: Gate>(
-    rt: &R,
+fn report_of<V: Solver>(
+    solver: &V,
     alloc: Heap,
     bytes: &[u8],
     given: &[u32],
     manner: Manner,
-    gate: &G,
 ) -> Result<Found, NoMemory>
-    requires some { 1 ≤ manner.workers }
-    requires most { manner.workers ≤ 16 }
+    requires { V.serves solver.now manner.workers manner.history }
     ensures { IfOk result (IsFound given.now manner.workers manner.history bytes.now) }
 {
     match source_program(alloc, bytes, given) {
         Ok(program) => {
             let analysis = Analysis::new(alloc, program)?;
-            let found = report_by(rt, alloc, analysis, manner, gate)?;
+            let found = solver.solve(alloc, analysis, manner)?;
             Ok(Found::Reported(found))
         }
         Err(Fail::Refused(refusal)) => Ok(Found::Refused(refusal)),
@@ -203,22 +125,20 @@ fn summary_reply(alloc: Heap, source: &[u8], report: &Report) -> Result<Reply, N
 }
 
 /// The answer of `analyse` to the bytes of a source.
-pub fn answer_to<R: Threads + Wait + Sync, G: Gate>(
-    rt: &R,
+pub fn answer_to<V: Solver>(
+    solver: &V,
     alloc: Heap,
     asked: &AnalyseWords,
     bytes: &[u8],
-    gate: &G,
 ) -> Result<Reply, NoMemory>
-    requires some { 1 ≤ asked.now.workers }
-    requires most { asked.now.workers ≤ 16 }
+    requires { V.serves solver.now asked.now.workers asked.now.history }
     ensures { IfOk result (λ reply. HasAnswer asked.now bytes.now reply.status (string_bytes reply.text)) }
 {
     let manner = Manner {
         workers: asked.workers,
         history: asked.history,
     };
-    match report_of(rt, alloc, bytes, asked.thresholds.as_slice(), manner, gate)? {
+    match report_of(solver, alloc, bytes, asked.thresholds.as_slice(), manner)? {
         Found::Reported(solved) => report_reply(alloc, solved, asked.json),
         Found::Refused(refusal) => refused(alloc, refusal),
     }
@@ -236,14 +156,8 @@ pub fn generated(alloc: Heap, count: u32) -> Result<Reply, NoMemory>
 }
 
 /// The answer of `demo`: what is told of the source with so many functions, and of its report.
-pub fn summarised<R: Threads + Wait + Sync, G: Gate>(
-    rt: &R,
-    alloc: Heap,
-    asked: DemoWords,
-    gate: &G,
-) -> Result<Reply, NoMemory>
-    requires some { 1 ≤ asked.workers }
-    requires most { asked.workers ≤ 16 }
+pub fn summarised<V: Solver>(solver: &V, alloc: Heap, asked: DemoWords) -> Result<Reply, NoMemory>
+    requires { V.serves solver.now asked.workers false }
     ensures { IfOk result (λ reply. HasSummary (source_text asked.count) reply.status (string_bytes reply.text)) }
 {
     let source = big_source(alloc, asked.count)?;
@@ -251,7 +165,7 @@ pub fn summarised<R: Threads + Wait + Sync, G: Gate>(
         workers: asked.workers,
         history: false,
     };
-    match report_of(rt, alloc, source.as_bytes(), &[], manner, gate)? {
+    match report_of(solver, alloc, source.as_bytes(), &[], manner)? {
         Found::Reported(solved) => summary_reply(alloc, source.as_bytes(), &solved.report),
         Found::Refused(refusal) => refused(alloc, refusal),
     }

@@ -1,6 +1,6 @@
 //! Words, sources and their answers: a table over one driver.
 
-use analyser::analyse;
+use analyser::{analyse, analyse_alone, asks_workers};
 use std::alloc::Global;
 use std::process::Abort;
 use std::sync::Wait;
@@ -138,24 +138,61 @@ static COMMANDS: [(&[&str], &[u8], u8, &[u8]); 33] = [
     (&["demo", "2"], b"", 1, b"source 547 bytes\nalarms 4\n"),
 ];
 
-/// The words have this answer.
-fn expect<R: Abort + Threads + Wait + Sync>(
-    rt: &R,
-    alloc: Global,
-    given: &[&str],
-    source: &[u8],
-    number: u8,
-    text: &[u8],
-) -> Result<(), Fail> {
+/// Words, and whether they ask for workers.
+static ASKING: [(&[&str], bool); 10] = [
+    (&[], false),
+    (&["analyse"], false),
+    (&["analyse", "--workers", "1", "--json"], false),
+    (&["analyse", "--workers", "17"], false),
+    (&["analyse", "--workers=2"], true),
+    (&["analyse", "--history"], true),
+    (&["replay"], false),
+    (&["generate", "2"], false),
+    (&["demo", "1"], false),
+    (&["demo", "--workers", "2", "1"], true),
+];
+
+/// Each word as a text of its own.
+fn owned(alloc: Global, given: &[&str]) -> Result<Vec<String>, Fail> {
     let mut words = Vec::new(alloc);
     for word in given {
         words.push(String::from_str(alloc, word)?)?;
     }
-    let mut source = SureSource::new(source.to_vec(alloc)?);
+    Ok(words)
+}
+
+/// The words have this answer, also on the calling thread alone where they ask for no workers.
+fn expect<R: Abort + Threads + Wait + Sync>(
+    rt: &R,
+    alloc: Global,
+    given: &[&str],
+    bytes: &[u8],
+    number: u8,
+    text: &[u8],
+) -> Result<(), Fail> {
+    let words = owned(alloc, given)?;
+    let mut source = SureSource::new(bytes.to_vec(alloc)?);
     let mut out = SureSink::new(alloc);
     let status = analyse(rt, alloc, &words, &mut source, &mut out, &OpenGate);
     assert_eq!(rt; out.taken(), text);
     assert_eq!(rt; status.number(), number);
+    if !asks_workers(alloc, &words)? {
+        let mut source = SureSource::new(bytes.to_vec(alloc)?);
+        let mut out = SureSink::new(alloc);
+        let status = analyse_alone(alloc, &words, &mut source, &mut out);
+        assert_eq!(rt; out.taken(), text);
+        assert_eq!(rt; status.number(), number);
+    }
+    Ok(())
+}
+
+#[test]
+fn asking(rt: HostRuntime) -> Result<(), Fail> {
+    let alloc = rt.alloc();
+    for (given, asks) in &ASKING {
+        let words = owned(alloc, given)?;
+        assert_eq!(rt; asks_workers(alloc, &words)?, *asks);
+    }
     Ok(())
 }
 

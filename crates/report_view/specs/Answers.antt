@@ -5,7 +5,7 @@ use Rattle.report_views.specs.declared.causes.Cause.{Cause}
 use Rattle.report_views.specs.declared.views.Form.{Form}
 use Rattle.report_views.specs.Causes.{cause_text, IsCause, longest_report, longest_text}
 use Rattle.report_views.specs.Views.{IsView}
-use Rattle.report_view.specs.Streams.{IsRead, TakesFrontOf}
+use Rattle.program_streams.specs.Streams.{IsRead, TakesFrontOf}
 
 -- By what two streams have left before and after a call: the report, and the text whose first file has this name.
 module _ (form : Form) (name : List ℕ) (report_left report_left' text_left text_left' : Option (List ℕ)) where

@@ -1,5 +1,4 @@
 pub mod Answers
 pub mod Statuses
-pub mod Streams
 pub mod Words
 pub mod reading

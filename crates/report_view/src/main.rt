@@ -1,20 +1,16 @@
 //! The program `report_view FORM TEXT NAME < REPORT`: it reads a report, as JSON, from standard input, and the text
 //! that it is of from the file TEXT, and writes the view of the report to standard output. FORM is `--lines`, `--sarif`
-//! or
-//! `--summary`; NAME is the name of the file from which the first line of the text comes, spelled as in a line mark.
+//! or `--summary`; NAME is the name of the file from which the first line of the text comes, spelled as in a line mark.
 //! Why a report is refused goes to standard error. Where the system does not give the program its words, it writes
 //! nothing and ends with status 7.
 #![tactic(auto)]
 
-mod input;
-mod output;
-mod statuses;
 mod top;
 mod words;
 
-use crate::statuses::Status;
 use crate::top::answer;
 use crate::words::{Asked, read_words};
+use program_streams::Status;
 use std::env;
 use std::fs::File;
 use std::process::ExitCode;

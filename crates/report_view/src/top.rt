@@ -6,12 +6,10 @@ ghost use Rattle.tm_io.specs.Faults.{Rose};
 ghost use Rattle.report_views.specs.Causes.{cause_text};
 ghost use Rattle.report_view.specs.Answers.{Shows, ShowsNoMore, Tells};
 ghost use Rattle.report_view.specs.Statuses.{shown_status, unread_status, unwritten_status};
-ghost use Rattle.report_view.specs.Streams.{TakesFrontOf};
+ghost use Rattle.program_streams.specs.Streams.{TakesFrontOf};
 
-use crate::input::{InputError, read_whole};
-use crate::output::write_all;
-use crate::statuses::Status;
 use crate::words::Asked;
+use program_streams::{InputError, Status, read_whole, write_whole};
 use report_views::{Cause, LONGEST_REPORT, LONGEST_TEXT, Reply, ViewFail, cause_line, view};
 use std::alloc::Global;
 use tm_io::{Sink, Source, Stop};
@@ -45,7 +43,7 @@ fn show<K: Sink>(out: &mut K, reply: &Reply) -> Status
     ensures write { result ≡ Status.WriteFault → Rose (K.faults out.old) (K.faults out.new) }
     ensures others { (result ≢ Status.Refused) × (result ≢ Status.Usage) × (result ≢ Status.ReadFault) }
 {
-    match write_all(out, &reply.text) {
+    match write_whole(out, &reply.text) {
         Ok(()) => {
             if reply.has_alarm {
                 Status::Alarms
@@ -65,7 +63,7 @@ fn tell<E: Sink>(alloc: Global, told: &mut E, cause: Cause) -> Status
     ensures other_faults { (result ≢ Status.Usage) × (result ≢ Status.ReadFault) }
 {
     match cause_line(alloc, cause) {
-        Ok(line) => match write_all(told, line.as_bytes()) {
+        Ok(line) => match write_whole(told, line.as_bytes()) {
             Ok(()) => Status::Refused,
             Err(stop) => unwritten(stop),
         },

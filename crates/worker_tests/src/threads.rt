@@ -2,72 +2,15 @@
 ghost use Rattle.std.specs.Prelude.{◌≤◌};
 
 use crate::toy::{Numbers, TwoTasks};
+use held_passes::HoldsTheFirst;
 use std::alloc::Global;
-use std::sync::atomic::{AtomicU64, Ordering};
 use std::sync::{Arc, Wait};
 use std::test::Fail;
 use std::thread::Threads;
 use store_core::{Event, StoreCore};
 use thread_workers::{SharedStore, solve, work};
-use tm_io::{Gate, OpenGate};
+use tm_io::OpenGate;
 use tm_lattice::NoMemory;
-
-// At most so many turns the first pass is held.
-const TURNS: u64 = 300_000_000;
-
-// Holds the first pass until a second has begun, and counts the passes of two workers for two tasks.
-#[derive(Drop)]
-struct HoldsTheFirst {
-    begun: AtomicU64,
-    begun_before_an_end: AtomicU64,
-    passes: [AtomicU64; 4],
-}
-
-impl HoldsTheFirst {
-    fn new() -> HoldsTheFirst {
-        HoldsTheFirst {
-            begun: AtomicU64::new(0),
-            begun_before_an_end: AtomicU64::new(0),
-            passes: [
-                AtomicU64::new(0),
-                AtomicU64::new(0),
-                AtomicU64::new(0),
-                AtomicU64::new(0),
-            ],
-        }
-    }
-}
-
-// Where the passes of a worker for a task are counted: past the end for any other worker or task.
-fn place_of(worker: u32, task: u32) -> usize {
-    if (worker < 2) & (task < 2) {
-        2 * worker as usize + task as usize
-    } else {
-        4
-    }
-}
-
-impl Gate for HoldsTheFirst {
-    fn began(&self, worker: u32, task: u32) {
-        if let Some(count) = self.passes.get(place_of(worker, task)) {
-            count.fetch_add(1, Ordering::SeqCst);
-        }
-        if self.begun.fetch_add(1, Ordering::SeqCst) == 0 {
-            for _ in 0..TURNS {
-                if self.begun.load(Ordering::SeqCst) > 1 {
-                    break;
-                }
-            }
-        }
-    }
-
-    fn ended(&self, _worker: u32, _task: u32) {
-        if self.begun_before_an_end.load(Ordering::SeqCst) == 0 {
-            self.begun_before_an_end
-                .store(self.begun.load(Ordering::SeqCst), Ordering::SeqCst);
-        }
-    }
-}
 
 // How many readings of a worker for a task stand in a history.
 fn readings(history: &[Event<TwoTasks>], which: u32, of: u32) -> u64 {
@@ -89,16 +32,13 @@ fn readings(history: &[Event<TwoTasks>], which: u32, of: u32) -> u64 {
 
 // Whether as many passes of a worker for a task began as the history has readings.
 fn is_counted(gate: &HoldsTheFirst, history: &[Event<TwoTasks>], worker: u32, task: u32) -> bool {
-    match gate.passes.get(place_of(worker, task)) {
-        Some(count) => count.load(Ordering::SeqCst) == readings(history, worker, task),
-        None => false,
-    }
+    gate.passes(worker, task) == Some(readings(history, worker, task))
 }
 
 #[test]
 fn two_passes_begin_before_the_first_ends(rt: HostRuntime) -> Result<(), Fail> {
     let alloc = rt.alloc();
-    let gate = HoldsTheFirst::new();
+    let gate = HoldsTheFirst::after(0);
     let core = solve(
         &rt,
         alloc,
@@ -106,11 +46,11 @@ fn two_passes_begin_before_the_first_ends(rt: HostRuntime) -> Result<(), Fail> {
         2,
         &gate,
     )?;
-    assert!(rt; gate.begun_before_an_end.load(Ordering::SeqCst) > 1);
+    assert!(rt; gate.begun_before_an_end() > 1);
     let history = core.history();
     assert!(rt; is_counted(&gate, history, 0, 0) & is_counted(&gate, history, 0, 1));
     assert!(rt; is_counted(&gate, history, 1, 0) & is_counted(&gate, history, 1, 1));
-    assert_eq!(rt; gate.begun.load(Ordering::SeqCst), history.len() as u64 / 2);
+    assert_eq!(rt; gate.begun(), history.len() as u64 / 2);
     Ok(())
 }
 
@@ -144,12 +84,11 @@ fn every_number_of_workers_ends_in_one_store(rt: HostRuntime) -> Result<(), Fail
 
 // How many passes a worker makes by itself on a core for two workers.
 fn passes_alone<R: Wait>(rt: &R, alloc: Global, worker: u32) -> Result<u64, NoMemory> {
-    let gate = HoldsTheFirst::new();
-    gate.begun.store(2, Ordering::SeqCst);
+    let gate = HoldsTheFirst::after(2);
     let core = StoreCore::open(alloc, Arc::new(alloc, TwoTasks { first: true })?, 2)?;
     let shared = SharedStore::new(core);
     work(rt, alloc, &shared, worker, &gate)?;
-    Ok(gate.begun.load(Ordering::SeqCst))
+    Ok(gate.begun())
 }
 
 #[test]

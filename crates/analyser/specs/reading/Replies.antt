@@ -1,7 +1,5 @@
 -- What is found of a source, and the status and the text that go with a report.
-use Rattle.std.specs.Prelude.{◌≡◌, ◌≤◌, ℕ, Bool, true, false, List, [], Option, Some, None, string_bytes}
-use Rattle.cmd_words.specs.declared.commands.Command.{Command}
-use Rattle.cmd_words.specs.declared.commands.Command.TheVariants.{Analyse, Replay, Generate, Demo}
+use Rattle.std.specs.Prelude.{◌≡◌, ℕ, Bool, true, false, List, [], string_bytes}
 use Rattle.store_core.specs.Histories.{Past}
 use Rattle.history_lines.specs.HistoryTexts.{history_text}
 use Rattle.tm_terms.specs.declared.alarms.Alarm.{Alarm}
@@ -9,21 +7,13 @@ use Rattle.interfere_set.specs.Stores.{Interferences}
 use Rattle.thread_pass.specs.program_equations.Programs.{ProgramBodies}
 use Rattle.program_solutions.specs.LeastReports.{IsLeastReport}
 use Rattle.source_programs.specs.Sources.{IsRefused}
-use Rattle.analyser.specs.declared.replies.Solved.{Solved}
+use Rattle.analyser.specs.declared.solvers.Solved.{Solved}
 use Rattle.analyser.specs.declared.replies.Found.{Found}
 use Rattle.analyser.specs.declared.replies.Found.TheVariants as Finds
-use Rattle.analyser.specs.declared.statuses.Status.{Status}
-use Rattle.analyser.specs.declared.statuses.Status.TheVariants.{NoAlarm, Alarms, Refused, Usage, ReadFault, WriteFault}
-use Rattle.analyser.specs.declared.statuses.Status.TheVariants.{NoMemory}
+use Rattle.program_streams.specs.declared.statuses.Status.{Status}
+use Rattle.program_streams.specs.declared.statuses.Status.TheVariants.{NoAlarm, Alarms, Refused, Usage, ReadFault}
+use Rattle.program_streams.specs.declared.statuses.Status.TheVariants.{WriteFault, NoMemory}
 use Rattle.analyser.specs.Answers.{HasAlarm, HistoryFor, Reports}
-
--- the numbers of workers that commands ask for
-abbrev pub AsksWorkers : Option Command → Type 0
-AsksWorkers None = Unit {0}
-AsksWorkers (Some (Analyse w)) = (1 ≤ w.workers) × (w.workers ≤ 16)
-AsksWorkers (Some Replay) = Unit {0}
-AsksWorkers (Some (Generate count)) = Unit {0}
-AsksWorkers (Some (Demo w)) = (1 ≤ w.workers) × (w.workers ≤ 16)
 
 -- the lines of a past, where they are asked for
 abbrev pub AreLines : Bool → Past Interferences → List ℕ → Type 0

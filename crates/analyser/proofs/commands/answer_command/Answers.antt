@@ -1,0 +1,91 @@
+use Rattle.std.proofs.Common.{◌∙◌, ap, subst, Some}
+use Rattle.big_source.specs.GeneratedSources.{source_text}
+use Rattle.analyser.specs.Answers.{CommandGives, HasAnswer, HasSummary, IsGenerated, IsReplayed, SaysUsage}
+use Rattle.analyser.specs.reading.Manners.{IsServed}
+use Rattle.analyser.proofs.CommandLemmas.{said_answers, said_takes, more_answers, more_takes}
+use Rattle.analyser.proofs.CommandLemmas.{usage_of_none, answer_of_replay, answer_of_analyse, answer_of_generate}
+use Rattle.analyser.proofs.CommandLemmas.{answer_of_demo, reads_none, reads_replay, reads_generate, reads_demo}
+use Rattle.analyser.proofs.CommandLemmas.{reads_analyse}
+use Rattle.analyser.proofs.commands.answer_command.Goals as goal
+
+pub returns-in-None-clause-headline : goal.returns-in-None-clause-headline
+returns-in-None-clause-headline g c h =
+    said_answers (SaysUsage) (CommandGives c.args.command) (usage_of_none c.args.command c.in-None.is) _ _ _ c.send_usage.result (c.send_usage.ensures.whole h)
+
+pub returns-in-None-clause-front : goal.returns-in-None-clause-front
+returns-in-None-clause-front g c =
+    said_takes (SaysUsage) (CommandGives c.args.command) (usage_of_none c.args.command c.in-None.is) _ _ _ c.send_usage.ensures.front
+
+pub returns-in-None-clause-all : goal.returns-in-None-clause-all
+returns-in-None-clause-all g c r w = absurd (reads_none c.args.command c.in-None.is r)
+
+pub returns-in-Some-Replay-clause-headline : goal.returns-in-Some-Replay-clause-headline
+returns-in-Some-Replay-clause-headline g c h =
+    more_answers IsReplayed (CommandGives c.args.command) (answer_of_replay c.args.command (c.in-Some-Replay.is ∙ ap Some c.in-Some-Replay.field-0-is)) _ _ _
+    c.replay_source.result (c.replay_source.ensures.whole h)
+
+pub returns-in-Some-Replay-clause-front : goal.returns-in-Some-Replay-clause-front
+returns-in-Some-Replay-clause-front g c =
+    more_takes IsReplayed (CommandGives c.args.command) (answer_of_replay c.args.command (c.in-Some-Replay.is ∙ ap Some c.in-Some-Replay.field-0-is)) _ _ _
+    c.replay_source.ensures.front
+
+pub returns-in-Some-Replay-clause-unread : goal.returns-in-Some-Replay-clause-unread
+returns-in-Some-Replay-clause-unread g c none = absurd (none (reads_replay c.args.command (c.in-Some-Replay.is ∙ ap Some c.in-Some-Replay.field-0-is)))
+
+pub returns-in-Some-Replay-clause-read : goal.returns-in-Some-Replay-clause-read
+returns-in-Some-Replay-clause-read g c e =
+    let fault = c.replay_source.ensures.read e in
+    (reads_replay c.args.command (c.in-Some-Replay.is ∙ ap Some c.in-Some-Replay.field-0-is), fault.0, fault.1)
+
+pub returns-in-Some-Generate-clause-headline : goal.returns-in-Some-Generate-clause-headline
+returns-in-Some-Generate-clause-headline g c h =
+    said_answers (IsGenerated c.in-Some-Generate.count) (CommandGives c.args.command) (answer_of_generate c.args.command c.in-Some-Generate.count (c.in-Some-Generate.is ∙ ap Some c.in-Some-Generate.field-0-is)) _ _ _ c.send_source.result (c.send_source.ensures.whole h)
+
+pub returns-in-Some-Generate-clause-front : goal.returns-in-Some-Generate-clause-front
+returns-in-Some-Generate-clause-front g c =
+    said_takes (IsGenerated c.in-Some-Generate.count) (CommandGives c.args.command) (answer_of_generate c.args.command c.in-Some-Generate.count (c.in-Some-Generate.is ∙ ap Some c.in-Some-Generate.field-0-is)) _ _ _ c.send_source.ensures.front
+
+pub returns-in-Some-Generate-clause-all : goal.returns-in-Some-Generate-clause-all
+returns-in-Some-Generate-clause-all g c r w = absurd (reads_generate c.args.command c.in-Some-Generate.count (c.in-Some-Generate.is ∙ ap Some c.in-Some-Generate.field-0-is) r)
+
+pub returns-in-Some-Demo-clause-headline : goal.returns-in-Some-Demo-clause-headline
+returns-in-Some-Demo-clause-headline g c h =
+    said_answers (HasSummary (source_text c.in-Some-Demo.asked.count)) (CommandGives c.args.command) (answer_of_demo c.args.command c.in-Some-Demo.asked (c.in-Some-Demo.is ∙ ap Some c.in-Some-Demo.field-0-is)) _ _ _ c.send_summary.result (c.send_summary.ensures.whole h)
+
+pub returns-in-Some-Demo-clause-front : goal.returns-in-Some-Demo-clause-front
+returns-in-Some-Demo-clause-front g c =
+    said_takes (HasSummary (source_text c.in-Some-Demo.asked.count)) (CommandGives c.args.command) (answer_of_demo c.args.command c.in-Some-Demo.asked (c.in-Some-Demo.is ∙ ap Some c.in-Some-Demo.field-0-is)) _ _ _ c.send_summary.ensures.front
+
+pub returns-in-Some-Demo-clause-all : goal.returns-in-Some-Demo-clause-all
+returns-in-Some-Demo-clause-all g c r w = absurd (reads_demo c.args.command c.in-Some-Demo.asked (c.in-Some-Demo.is ∙ ap Some c.in-Some-Demo.field-0-is) r)
+
+pub returns-in-Some-Analyse-clause-headline : goal.returns-in-Some-Analyse-clause-headline
+returns-in-Some-Analyse-clause-headline g c h =
+    more_answers (HasAnswer c.in-Some-Analyse.asked) (CommandGives c.args.command)
+    (answer_of_analyse c.args.command c.in-Some-Analyse.asked (c.in-Some-Analyse.is ∙ ap Some c.in-Some-Analyse.field-0-is)) _ _ _
+    c.analyse_source.result (c.analyse_source.ensures.whole h)
+
+pub returns-in-Some-Analyse-clause-front : goal.returns-in-Some-Analyse-clause-front
+returns-in-Some-Analyse-clause-front g c =
+    more_takes (HasAnswer c.in-Some-Analyse.asked) (CommandGives c.args.command)
+    (answer_of_analyse c.args.command c.in-Some-Analyse.asked (c.in-Some-Analyse.is ∙ ap Some c.in-Some-Analyse.field-0-is)) _ _ _
+    c.analyse_source.ensures.front
+
+pub returns-in-Some-Analyse-clause-unread : goal.returns-in-Some-Analyse-clause-unread
+returns-in-Some-Analyse-clause-unread g c none =
+    absurd (none (reads_analyse c.args.command c.in-Some-Analyse.asked (c.in-Some-Analyse.is ∙ ap Some c.in-Some-Analyse.field-0-is)))
+
+pub returns-in-Some-Analyse-clause-read : goal.returns-in-Some-Analyse-clause-read
+returns-in-Some-Analyse-clause-read g c e =
+    let fault = c.analyse_source.ensures.read e in
+    (reads_analyse c.args.command c.in-Some-Analyse.asked (c.in-Some-Analyse.is ∙ ap Some c.in-Some-Analyse.field-0-is), fault.0, fault.1)
+
+pub analyse_source-requires : goal.analyse_source-requires
+analyse_source-requires g c κs within =
+    subst (IsServed (g.V.Solver.serves c.args.solver.now)) (c.in-Some-Analyse.is ∙ ap Some c.in-Some-Analyse.field-0-is)
+    c.requires.served
+
+pub send_summary-requires : goal.send_summary-requires
+send_summary-requires g c κs within =
+    subst (IsServed (g.V.Solver.serves c.args.solver.now)) (c.in-Some-Demo.is ∙ ap Some c.in-Some-Demo.field-0-is)
+    c.requires.served

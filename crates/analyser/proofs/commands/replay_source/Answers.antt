@@ -1,0 +1,23 @@
+use Rattle.std.proofs.Common.{subst}
+use Rattle.std.specs.Prelude.{string_bytes}
+use Rattle.analyser.specs.Answers.{IsReplayed}
+use Rattle.analyser.proofs.AnswerLemmas.{known, longer_replayed, past_limit, sent_whole, sent_front}
+use Rattle.analyser.proofs.commands.replay_source.Goals as goal
+
+pub returns-in-Ok-replayed-clause-whole : goal.returns-in-Ok-replayed-clause-whole
+returns-in-Ok-replayed-clause-whole g c h =
+    let reply = c.in-Ok-replayed.reply in
+    sent_whole IsReplayed longer_replayed _ _ _ reply.status _ (string_bytes reply.text) c.as_bytes.result.now
+    (known IsReplayed longer_replayed _ c.read_whole.new.bytes.items _ _ _ c.in-Ok.ensures.read.taken
+    (past_limit _ _ _ c.read_whole.new.bytes.ok.0 c.in-Ok.ensures.read.whole)
+    (subst (λ b. IsReplayed b reply.status (string_bytes reply.text)) c.deref.ensures.value c.in-Ok-replayed.ensures))
+    c.as_bytes.ensures.value (c.send.ensures.whole h).0 (c.send.ensures.whole h).1
+
+pub returns-in-Ok-replayed-clause-front : goal.returns-in-Ok-replayed-clause-front
+returns-in-Ok-replayed-clause-front g c =
+    let reply = c.in-Ok-replayed.reply in
+    sent_front IsReplayed longer_replayed _ _ _ reply.status (string_bytes reply.text) c.as_bytes.result.now
+    (known IsReplayed longer_replayed _ c.read_whole.new.bytes.items _ _ _ c.in-Ok.ensures.read.taken
+    (past_limit _ _ _ c.read_whole.new.bytes.ok.0 c.in-Ok.ensures.read.whole)
+    (subst (λ b. IsReplayed b reply.status (string_bytes reply.text)) c.deref.ensures.value c.in-Ok-replayed.ensures))
+    c.as_bytes.ensures.value c.send.ensures.front

@@ -1,0 +1,2 @@
+-- Pieces that are written (Written).
+pub mod Written
