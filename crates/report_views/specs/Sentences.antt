@@ -23,5 +23,4 @@ help_text Index = codes "Test the subscript where no other task can change it be
 help_text Pointer = codes "Move the pointer within its object only, and set it before its use."
 help_text Deref = codes "Set the pointer before its use, test it against null, and let its object be alive."
 help_text Lock = codes "Lock and unlock each mutex in turn, once on each path."
-help_text Race = codes
-    "Access the object under a mutex that both tasks lock, or from tasks that cannot overtake each other."
+help_text Race = codes "Access the object under a mutex that both tasks lock."

@@ -52,7 +52,6 @@ pub fn help(class: Class) -> &'static str
         Class::Deref =>
             "Set the pointer before its use, test it against null, and let its object be alive.",
         Class::Lock => "Lock and unlock each mutex in turn, once on each path.",
-        Class::Race =>
-            "Access the object under a mutex that both tasks lock, or from tasks that cannot overtake each other.",
+        Class::Race => "Access the object under a mutex that both tasks lock.",
     }
 }

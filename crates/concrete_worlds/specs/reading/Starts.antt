@@ -12,7 +12,8 @@ use Rattle.concrete_worlds.specs.Lawful.{task_count, HasGraphs}
 pub record AreStarted (laid : LaidTree) (graphs : List Graph) (count : ℕ) (runs : List Run) : Type 0 where
   pub number : length runs ≡ count
   pub each : (task : ℕ) (run : Run) (graph : Graph) → task < length runs
-      → IsRunAfter laid (get_or graphs task graph).edges.items (get_or graphs task graph).nodes [] (get_or runs task run)
+      → IsRunAfter laid (get_or graphs task graph).edges.items (get_or graphs task graph).nodes []
+      (get_or runs task run)
 
 -- what each of these runs does next, before any answer
 abbrev pub BeginSo : LaidTree → List Run → Type 0
@@ -20,4 +21,5 @@ BeginSo laid runs = (task : ℕ) (run : Run) → task < length runs → (get_or 
 
 -- the runs of a world at its start: none, or those of all tasks
 abbrev pub MayStart : Laid → List Graph → List Run → Type 0
-MayStart laid graphs runs = (runs ≡ []) ⊎ (HasGraphs laid graphs × AreStarted (laid_tree laid) graphs (task_count laid) runs)
+MayStart laid graphs runs = (runs ≡ [])
+    ⊎ (HasGraphs laid graphs × AreStarted (laid_tree laid) graphs (task_count laid) runs)
