@@ -1,5 +1,5 @@
 -- Commands ask for 1 to 16 workers; and those that ask for no workers for one, whose history is not told.
-use Rattle.std.proofs.Common.{◌≡◌, ℕ, ◌≤◌, List, [], ◌∷◌, length, false, refl, arith}
+use Rattle.std.proofs.Common.{◌≡◌, ℕ, ◌≤◌, List, [], ◌∷◌, length, Bool, false, refl, arith}
 use Rattle.std.specs.Prelude.{◌==◌, ◌&&◌, nat_le, nat_lt, Option, Some, None, option_map}
 use Rattle.std.specs.Prelude.{option_and_then, codes}
 use Rattle.std.specs.List.{filter_map}
@@ -99,3 +99,12 @@ alone_served (Some (Analyse w)) few e =
 alone_served (Some Replay) few e = tt
 alone_served (Some (Generate count)) few e = tt
 alone_served (Some (Demo w)) few e = (only_one w.workers few.0 e, refl)
+
+-- what serves all manners of a kind serves a command that asks in such a manner
+pub served_by : (P Q : ℕ → Bool → Type 0) (c : Option Command) → ((workers : ℕ) (history : Bool) → P workers history → Q workers history)
+    → IsServed P c → IsServed Q c
+served_by P Q None each h = tt
+served_by P Q (Some (Analyse w)) each h = each w.workers w.history h
+served_by P Q (Some Replay) each h = tt
+served_by P Q (Some (Generate count)) each h = tt
+served_by P Q (Some (Demo w)) each h = each w.workers false h

@@ -2,7 +2,7 @@
 
 ghost use Rattle.std.specs.Prelude.{◌≡◌, ℕ, Bool, IfOk, IsTrue, string_bytes};
 ghost use Rattle.thread_pass.specs.program_systems.ReadPrograms.{program_of};
-ghost use Rattle.analyser.specs.reading.Manners.{IsAlone};
+ghost use Rattle.analyser.specs.reading.Manners.{AreFew, IsAlone};
 ghost use Rattle.analyser.specs.reading.Replies.{AreLines, IsSolved};
 
 use history_lines::history_lines;
@@ -64,14 +64,6 @@ impl Solver for Alone {
     }
 }
 
-/// From 1 to 16 workers, who share a store; the gate is told of their passes. One worker whose history is not asked for
-/// is the calling thread.
-#[derive(Clone, Copy)]
-pub(crate) struct Workers<'a, R: Threads + Wait + Sync, G: Gate> {
-    pub(crate) rt: &'a R,
-    pub(crate) gate: &'a G,
-}
-
 /// Whether one worker works, whose history is not asked for.
 fn is_alone(manner: Manner) -> bool
     ensures { IsTrue result → IsAlone manner.workers manner.history }
@@ -100,16 +92,42 @@ fn told_of(alloc: Heap, worked: WorkedOut, history: bool) -> Result<Solved, NoMe
     Ok(Solved { report, history })
 }
 
-impl<R: Threads + Wait + Sync, G: Gate> Solver for Workers<'_, R, G> {
-    ghost use Rattle.analyser.specs.reading.Manners.{AreFew};
+/// Workers, by a call that has them solve a program: so the bounds by which it may wait are its own, and a function over
+/// solvers has none.
+#[derive(Clone, Copy)]
+pub(crate) struct Workers<F> {
+    pub(crate) solve: F,
+}
 
-    ghost serves = { λ _. AreFew };
+impl<F: Fn(Analysis, u32, bool) -> Result<Solved, NoMemory>> Solver for Workers<F> {
+    ghost use Rattle.std.specs.Prelude.{IfOk};
+    ghost use Rattle.thread_pass.specs.program_systems.ReadPrograms.{ReadProgram, program_of};
+    ghost use Rattle.analyser.specs.reading.Replies.{IsSolved};
 
-    fn solve(&self, alloc: Heap, analysis: Analysis, manner: Manner) -> Result<Solved, NoMemory> {
-        if is_alone(manner) {
-            return Alone.solve(alloc, analysis, manner);
-        }
-        let worked = report_by_workers(self.rt, alloc, analysis, manner.workers, self.gate)?;
-        told_of(alloc, worked, manner.history)
+    ghost serves = { λ s workers history. (analysis : ReadProgram) → F.pre s.solve analysis workers history
+        × ((r : _) → F.post s.solve analysis workers history r
+        → IfOk r (IsSolved (program_of analysis) workers history)) };
+
+    fn solve(&self, _alloc: Heap, analysis: Analysis, manner: Manner) -> Result<Solved, NoMemory> {
+        (self.solve)(analysis, manner.workers, manner.history)
     }
+}
+
+/// The report of a program by 1 to 16 workers, who share a store; the gate is told of their passes. One worker whose
+/// history is not asked for is the calling thread.
+pub(crate) fn solved_by_workers<R: Threads + Wait + Sync, G: Gate>(
+    rt: &R,
+    alloc: Heap,
+    analysis: Analysis,
+    manner: Manner,
+    gate: &G,
+) -> Result<Solved, NoMemory>
+    requires { AreFew manner.workers manner.history }
+    ensures { IfOk result (IsSolved (program_of analysis) manner.workers manner.history) }
+{
+    if is_alone(manner) {
+        return Alone.solve(alloc, analysis, manner);
+    }
+    let worked = report_by_workers(rt, alloc, analysis, manner.workers, gate)?;
+    told_of(alloc, worked, manner.history)
 }

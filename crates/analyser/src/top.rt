@@ -6,15 +6,19 @@ ghost use Rattle.cmd_words.specs.Words.{command_of, texts_of};
 ghost use Rattle.tm_terms.specs.declared.refusals.Refusal.{Refusal as RefusalOf};
 ghost use Rattle.analyser.specs.Answers.{Accepts, Answers, AnswersFor, IsCommand, IsReadOut, MayGive, Reads, Refuses};
 ghost use Rattle.analyser.specs.Answers.{TakesNoMore, asks_workers};
+ghost use Rattle.thread_pass.specs.program_systems.ReadPrograms.{program_of};
 ghost use Rattle.analyser.specs.Statuses.{IsReported, IsSinkStop, IsStop, IsWhole};
+ghost use Rattle.analyser.specs.reading.Manners.{AreFew};
+ghost use Rattle.analyser.specs.reading.Replies.{IsSolved};
 
 use crate::commands::answer_words;
-use crate::solvers::{Alone, Workers};
+use crate::solvers::{Alone, Manner, Solved, Workers, solved_by_workers};
 use cmd_words::{Command, read_words};
 use program_streams::Status;
 use std::alloc::Global as Heap;
 use std::sync::Wait;
 use std::thread::Threads;
+use thread_pass::Analysis;
 use tm_io::{Gate, Sink, Source};
 use tm_lattice::NoMemory;
 
@@ -68,7 +72,11 @@ pub fn analyse<R: Threads + Wait + Sync, S: Source, K: Sink, G: Gate>(
         AnswersFor (command_of (texts_of words.now)) (S.left source.old) bytes →
         Refuses (command_of (texts_of words.now)) bytes r → (result ≡ Status.Refused) ⊎ IsStop result }
 {
-    answer_words(&Workers { rt, gate }, alloc, words, source, out)
+    let solve = |analysis: Analysis, workers: u32, history: bool| -> Result<Solved, NoMemory>
+        requires { AreFew workers history }
+        ensures { IfOk result (IsSolved (program_of analysis) workers history) }
+    { solved_by_workers(rt, alloc, analysis, Manner { workers, history }, gate) };
+    answer_words(&Workers { solve }, alloc, words, source, out)
 }
 
 /// Whether a command asks for workers.

@@ -81,11 +81,11 @@ returns-in-Some-Analyse-clause-read g c e =
     (reads_analyse c.args.command c.in-Some-Analyse.asked (c.in-Some-Analyse.is ∙ ap Some c.in-Some-Analyse.field-0-is), fault.0, fault.1)
 
 pub analyse_source-requires : goal.analyse_source-requires
-analyse_source-requires g c κs within =
+analyse_source-requires g c =
     subst (IsServed (g.V.Solver.serves c.args.solver.now)) (c.in-Some-Analyse.is ∙ ap Some c.in-Some-Analyse.field-0-is)
     c.requires.served
 
 pub send_summary-requires : goal.send_summary-requires
-send_summary-requires g c κs within =
+send_summary-requires g c =
     subst (IsServed (g.V.Solver.serves c.args.solver.now)) (c.in-Some-Demo.is ∙ ap Some c.in-Some-Demo.field-0-is)
     c.requires.served

@@ -3,9 +3,10 @@ use Rattle.analyser.specs.Answers.{Answers, CommandGives, Reads, TakesNoMore}
 use Rattle.analyser.specs.reading.Manners.{IsServed}
 use Rattle.analyser.proofs.commands.answer_words.Goals as goal
 
-pub answer_command-requires-clause-served : goal.answer_command-requires-clause-served
-answer_command-requires-clause-served g c κs within =
-    subst (IsServed (g.V.Solver.serves c.args.solver.now)) (sym c.in-Ok.ensures.command) c.requires.served
+pub answer_command-requires : goal.answer_command-requires
+answer_command-requires g c = record {
+  served = subst (IsServed (g.V.Solver.serves c.args.solver.now)) (sym c.in-Ok.ensures.command) c.requires.served;
+}
 
 pub returns-in-Ok-clause-headline : goal.returns-in-Ok-clause-headline
 returns-in-Ok-clause-headline g c h =

@@ -1,10 +1,20 @@
+use denote.Exit.{unseen}
+use denote.Param.Send.{Quiet-if, sendable}
+use mir.Syntax.{of_param}
 use Rattle.cmd_words.specs.Words.{command_of, texts_of}
-use Rattle.analyser.proofs.AskedWorkers.{few_served}
+use Rattle.analyser.proofs.AskedWorkers.{few_served, served_by}
+use Rattle.analyser.specs.reading.Manners.{AreFew}
 use Rattle.analyser.proofs.CommandLemmas.{no_usage_line, usage_line, accepted_reported, refused_refused}
 use Rattle.analyser.proofs.top.analyse.Goals as goal
 
-pub answer_words-requires-clause-served : goal.answer_words-requires-clause-served
-answer_words-requires-clause-served g c κs within = few_served (texts_of c.args.words.now)
+-- The solver is a call that may be made of all manners with few workers; it may send the gate to other threads, and
+-- share it and the handle with them, as the bounds say.
+pub answer_words-requires : goal.answer_words-requires
+answer_words-requires g c = record {
+  served = served_by AreFew _ (command_of (texts_of c.args.words.now))
+      (λ n b few analysis. ((few, (record { owned = c.type_bounds.send-G.owned; leaving = λ k. Quiet-if (k (of_param 1)) unseen unseen (λ x w. tt) (λ x w. tt) }, search (c.type_bounds.sync-R, sendable) depth 20, search (c.type_bounds.sync-G, sendable) depth 20)), λ r h. h))
+      (few_served (texts_of c.args.words.now));
+}
 
 pub returns-clause-words : goal.returns-clause-words
 returns-clause-words g c is e =

@@ -3,9 +3,10 @@ use Rattle.analyser.proofs.AskedWorkers.{alone_served, few_served}
 use Rattle.analyser.proofs.CommandLemmas.{no_usage_line, usage_line, accepted_reported, refused_refused}
 use Rattle.analyser.proofs.top.analyse_alone.Goals as goal
 
-pub answer_words-requires-clause-served : goal.answer_words-requires-clause-served
-answer_words-requires-clause-served g c κs within =
-    alone_served (command_of (texts_of c.args.words.now)) (few_served (texts_of c.args.words.now)) c.requires.alone
+pub answer_words-requires : goal.answer_words-requires
+answer_words-requires g c = record {
+  served = alone_served (command_of (texts_of c.args.words.now)) (few_served (texts_of c.args.words.now)) c.requires.alone;
+}
 
 pub returns-clause-words : goal.returns-clause-words
 returns-clause-words g c is e =
