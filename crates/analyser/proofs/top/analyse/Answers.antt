@@ -12,7 +12,7 @@ use Rattle.analyser.proofs.top.analyse.Goals as goal
 pub answer_words-requires : goal.answer_words-requires
 answer_words-requires g c = record {
   served = served_by AreFew _ (command_of (texts_of c.args.words.now))
-      (λ n b few analysis. ((few, (record { owned = c.type_bounds.send-G.owned; leaving = λ k. Quiet-if (k (of_param 1)) unseen unseen (λ x w. tt) (λ x w. tt) }, search (c.type_bounds.sync-R, sendable) depth 20, search (c.type_bounds.sync-G, sendable) depth 20)), λ r h. h))
+      (λ n b few analysis. ((few, (record { owned = c.type_bounds.send-G.owned; leaving = λ k. Quiet-if (k (of_param 1)) unseen unseen (λ x w. tt) (λ x w. tt) }, search (c.type_bounds.sync-R, sendable) depth 20, search (c.type_bounds.sync-G, sendable) depth 20)), λ r h. h.1))
       (few_served (texts_of c.args.words.now));
 }
 
