@@ -199,9 +199,9 @@ pub read_out : (left : Option (List ℕ)) (bytes : List ℕ) (left' : Option (Li
 read_out left bytes left' e k = subst (λ l. IsReadOut l left') (sym e) (read_out_by bytes left' k)
 
 -- what is read up to one byte more than a source may have is read to its end, or past the limit
-pub past_limit : (n m : ℕ) (left' : Option (List ℕ)) → n ≡ m → IsAtEnd left' ⊎ (longest_source + 1 ≤ n) → IsAtEnd left' ⊎ (longest_source < m)
-past_limit n m left' e (inl h) = inl h
-past_limit n m left' e (inr h) = inr (subst (λ k. longest_source < k) e (omega (arith, h)))
+pub past_limit : (n : ℕ) (left' : Option (List ℕ)) → IsAtEnd left' ⊎ (longest_source + 1 ≤ n) → IsAtEnd left' ⊎ (longest_source < n)
+past_limit n left' (inl h) = inl h
+past_limit n left' (inr h) = inr (omega (arith, h))
 
 -- ---- what is answered whatever the bytes are
 

@@ -10,7 +10,7 @@ returns-in-Ok-answer_to-clause-whole g c h =
     let reply = c.in-Ok-answer_to.reply in
     sent_whole (HasAnswer w) (longer_answered w) _ _ _ reply.status _ (string_bytes reply.text) c.as_bytes.result.now
     (known (HasAnswer w) (longer_answered w) _ c.read_whole.new.bytes.items _ _ _ c.in-Ok.ensures.read.taken
-    (past_limit _ _ _ c.read_whole.new.bytes.ok.0 c.in-Ok.ensures.read.whole)
+    (past_limit _ _ c.in-Ok.ensures.read.whole)
     (subst (λ b. HasAnswer w b reply.status (string_bytes reply.text)) c.deref.ensures.value c.in-Ok-answer_to.ensures))
     c.as_bytes.ensures.value (c.send.ensures.whole h).0 (c.send.ensures.whole h).1
 
@@ -20,6 +20,6 @@ returns-in-Ok-answer_to-clause-front g c =
     let reply = c.in-Ok-answer_to.reply in
     sent_front (HasAnswer w) (longer_answered w) _ _ _ reply.status (string_bytes reply.text) c.as_bytes.result.now
     (known (HasAnswer w) (longer_answered w) _ c.read_whole.new.bytes.items _ _ _ c.in-Ok.ensures.read.taken
-    (past_limit _ _ _ c.read_whole.new.bytes.ok.0 c.in-Ok.ensures.read.whole)
+    (past_limit _ _ c.in-Ok.ensures.read.whole)
     (subst (λ b. HasAnswer w b reply.status (string_bytes reply.text)) c.deref.ensures.value c.in-Ok-answer_to.ensures))
     c.as_bytes.ensures.value c.send.ensures.front

@@ -9,7 +9,7 @@ returns-in-Ok-replayed-clause-whole g c h =
     let reply = c.in-Ok-replayed.reply in
     sent_whole IsReplayed longer_replayed _ _ _ reply.status _ (string_bytes reply.text) c.as_bytes.result.now
     (known IsReplayed longer_replayed _ c.read_whole.new.bytes.items _ _ _ c.in-Ok.ensures.read.taken
-    (past_limit _ _ _ c.read_whole.new.bytes.ok.0 c.in-Ok.ensures.read.whole)
+    (past_limit _ _ c.in-Ok.ensures.read.whole)
     (subst (λ b. IsReplayed b reply.status (string_bytes reply.text)) c.deref.ensures.value c.in-Ok-replayed.ensures))
     c.as_bytes.ensures.value (c.send.ensures.whole h).0 (c.send.ensures.whole h).1
 
@@ -18,6 +18,6 @@ returns-in-Ok-replayed-clause-front g c =
     let reply = c.in-Ok-replayed.reply in
     sent_front IsReplayed longer_replayed _ _ _ reply.status (string_bytes reply.text) c.as_bytes.result.now
     (known IsReplayed longer_replayed _ c.read_whole.new.bytes.items _ _ _ c.in-Ok.ensures.read.taken
-    (past_limit _ _ _ c.read_whole.new.bytes.ok.0 c.in-Ok.ensures.read.whole)
+    (past_limit _ _ c.in-Ok.ensures.read.whole)
     (subst (λ b. IsReplayed b reply.status (string_bytes reply.text)) c.deref.ensures.value c.in-Ok-replayed.ensures))
     c.as_bytes.ensures.value c.send.ensures.front
