@@ -41,7 +41,7 @@ fn deep_calls(rt: HostRuntime) -> Result<(), Fail> {
     let mut source = SureSource::new(text.as_bytes().to_vec(alloc)?);
     let mut out = SureSink::new(alloc);
     let status = analyse(&rt, alloc, &words, &mut source, &mut out, &OpenGate);
-    assert_eq!(&rt; out.taken(), b"ran 2\n");
-    assert_eq!(&rt; status.number(), 0);
+    assert_eq!(rt; out.taken(), b"ran 2\n".as_slice());
+    assert_eq!(rt; status.number(), 0);
     Ok(())
 }
