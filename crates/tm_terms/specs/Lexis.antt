@@ -1,12 +1,13 @@
 -- What begins at a byte of a source (C99 6.4, cut to the profile), always the longest that does. A text is a list
 -- of bytes, and byte 0 stands for none past its end.
-use Rattle.std.specs.Prelude.{ℕ, ◌+◌, ◌-◌, ◌*◌, ◌^◌, ℤ, pos, Bool, true, false, not, ◌&&◌, ◌||◌, if◌then◌else◌}
+use Rattle.std.specs.Prelude.{ℕ, ◌+◌, ◌-◌, ◌*◌, ◌^◌, ℤ, pos, Bool, true, false, ◌&&◌, ◌||◌, if◌then◌else◌}
 use Rattle.std.specs.Prelude.{◌==◌, nat_lt, nat_le, List, [], ◌∷◌, length, take, drop, slice_index, Option, Some, None}
 use Rattle.std.specs.Prelude.{option_map, option_and_then, bytes_eq, codes, fold, find}
 use Rattle.std.specs.List.{prefix_len, list_all}
 use Rattle.std.specs.Char.{is_ascii_digit, is_ascii_alphabetic, is_ascii_alphanumeric, is_ascii_hexdigit}
 use Rattle.tm_cint.specs.Conversions.{converted_value}
 use Rattle.tm_cint.specs.declared.int_types.IntType.TheVariants.{Char}
+use Rattle.tm_terms.specs.Splices.{is_spliced, is_spliced_slash, leaves_open}
 use Rattle.tm_terms.specs.declared.tokens.IntConstant.{IntConstant}
 use Rattle.tm_terms.specs.declared.tokens.Longs.{Longs}
 use Rattle.tm_terms.specs.declared.tokens.Longs.TheVariants as longs
@@ -20,17 +21,7 @@ use Rattle.tm_terms.specs.declared.tokens.Word.TheVariants as word
 
 -- ## Bytes
 
--- space, tab, and bytes 10 to 13
-abbrev pub is_blank : ℕ → Bool
-is_blank b = b == 32 || (nat_le 9 b && nat_le b 13)
-
--- a byte of the same line
-abbrev pub is_in_line : ℕ → Bool
-is_in_line b = not (b == 10)
-
--- a blank of the same line
-abbrev pub is_blank_in_line : ℕ → Bool
-is_blank_in_line b = is_blank b && is_in_line b
+pub use Rattle.tm_terms.specs.Splices.{is_blank, is_in_line, is_blank_in_line}
 
 -- a letter or `_`
 abbrev pub is_name_start : ℕ → Bool
@@ -217,14 +208,22 @@ character text = option_and_then (quoted text) (character_in (drop 1 text))
 
 -- ## Comments and skipped lines (C99 6.4.9, 6.10)
 
--- the number of the byte behind the first `*/`, where the text begins at byte k
+-- the number of the byte behind the first `*/`, where the text begins at byte k; none where joined lines would end the
+-- comment before
 abbrev pub comment_end : ℕ → List ℕ → Option ℕ
 comment_end k [] = None
-comment_end k (b ∷ text) = if b == 42 && slice_index text 0 == 47 then Some (k + 2) else comment_end (k + 1) text
+comment_end k (b ∷ text) =
+    if b == 42 && slice_index text 0 == 47 then Some (k + 2)
+    else (if b == 42 && is_spliced_slash text then None else comment_end (k + 1) text)
 
--- a comment from `/*` to the first `*/` behind it; none where it does not end
+-- a comment from `/*` to the first `*/` behind it; none where it does not end, or where it would end elsewhere if lines
+-- were joined
 unfoldable pub comment : List ℕ → Option Piece
 comment text = option_and_then gap (comment_end 2 (drop 2 text))
+
+-- a comment from `//` up to the end of its line; none where a splice joins the next line to it
+abbrev pub line_comment : List ℕ → Option Piece
+line_comment text = if is_spliced text then None else gap (prefix_len is_in_line text)
 
 -- behind `#` and blanks of the line stands a decimal number, `line` or `pragma`
 abbrev pub is_skipped_word : List ℕ → Bool
@@ -232,11 +231,12 @@ is_skipped_word text =
     bytes_eq text (codes "line") || bytes_eq text (codes "pragma")
     || (nat_lt 0 (length text) && list_all is_ascii_digit text)
 
--- a line that begins with `#`, up to its end
+-- a line that begins with `#`, up to its end; none where it goes on in the next line, by a splice or by a comment
 unfoldable pub skipped_line : List ℕ → Option Piece
 skipped_line text =
     if is_skipped_word (front is_name_byte (behind is_blank_in_line (drop 1 text)))
-    then gap (prefix_len is_in_line text) else None
+    then (if is_spliced text || leaves_open (front is_in_line text) then None else gap (prefix_len is_in_line text))
+    else None
 
 -- ## Punctuators (C99 6.4.6)
 
@@ -286,8 +286,8 @@ sign_of text =
 -- ## What begins
 
 -- What begins a text that stands from byte `at` on, where `bare` says that only blanks stand before it on its line.
--- Nothing does at the end, at `/*` without a later `*/`, at a bad constant, at `#` on another line than a skipped
--- one, and at a byte of no other use.
+-- Nothing does at the end, at a comment that does not end or that joined lines would change, at a bad constant, at `#`
+-- on another line than a skipped one, and at a byte of no other use.
 unfoldable pub begins : ℕ → Bool → List ℕ → Option Piece
 begins at bare text =
     let a = slice_index text 0 in let b = slice_index text 1 in
@@ -298,5 +298,5 @@ begins at bare text =
     else (if a == 39 then character text
     else (if a == 35 then (if bare then skipped_line text else None)
     else (if a == 47 && b == 42 then comment text
-    else (if a == 47 && b == 47 then gap (prefix_len is_in_line text)
+    else (if a == 47 && b == 47 then line_comment text
     else sign_of text)))))))

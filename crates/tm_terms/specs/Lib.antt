@@ -8,4 +8,5 @@ pub mod Lexis
 pub mod Limits
 pub mod Names
 pub mod Spelling
+pub mod Splices
 pub mod Texts

@@ -1,0 +1,80 @@
+-- What joining lines would change. In C a backslash at the end of a line joins the next line to it, before comments are
+-- taken out (C99 5.1.1.2). The profile has no such splices: a comment, or a line that is skipped, which joining would
+-- change is no piece of the lexis.
+use Rattle.std.specs.Prelude.{ℕ, zero, suc, ◌+◌, ◌-◌, Bool, true, false, not, ◌&&◌, ◌||◌, if◌then◌else◌, ◌==◌}
+use Rattle.std.specs.Prelude.{nat_lt, nat_le, List, [], ◌∷◌, take, drop, slice_index, bytes_eq, codes}
+use Rattle.std.specs.List.{prefix_len}
+
+-- ## Bytes
+
+-- space, tab, and bytes 10 to 13
+abbrev pub is_blank : ℕ → Bool
+is_blank b = b == 32 || (nat_le 9 b && nat_le b 13)
+
+-- a byte of the same line
+abbrev pub is_in_line : ℕ → Bool
+is_in_line b = not (b == 10)
+
+-- a blank of the same line
+abbrev pub is_blank_in_line : ℕ → Bool
+is_blank_in_line b = is_blank b && is_in_line b
+
+-- ## Splices (C99 5.1.1.2, 5.2.1.1)
+
+-- how many bytes the backslash takes that begins a text, where one does: it is written so, or as the trigraph `??/`
+abbrev pub backslash : List ℕ → ℕ
+backslash text =
+    if slice_index text 0 == 92 then 1 else (if bytes_eq (take 3 text) (codes "??/") then 3 else 0)
+
+-- how many bytes the splice takes that begins a text, where one does: a backslash, blanks, and the end of the line
+abbrev pub splice : List ℕ → ℕ
+splice text = ended (backslash text) (prefix_len is_blank_in_line (drop (backslash text) text))
+  where
+    ended : ℕ → ℕ → ℕ
+    ended b n = if nat_lt 0 b && slice_index text (b + n) == 10 then b + n + 1 else 0
+
+-- what follows all splices that begin a text, behind the first k of its bytes
+abbrev pub unspliced : ℕ → List ℕ → List ℕ
+unspliced k [] = []
+unspliced (suc k) (b ∷ text) = unspliced k text
+unspliced zero (b ∷ text) = if splice (b ∷ text) == 0 then b ∷ text else unspliced (splice (b ∷ text) - 1) text
+
+-- one splice or more begins the text, and behind them stands `/`
+abbrev pub is_spliced_slash : List ℕ → Bool
+is_spliced_slash text = nat_lt 0 (splice text) && slice_index (unspliced 0 text) 0 == 47
+
+-- a splice stands on the first line of the text
+abbrev pub is_spliced : List ℕ → Bool
+is_spliced [] = false
+is_spliced (b ∷ text) = is_in_line b && (nat_lt 0 (splice (b ∷ text)) || is_spliced text)
+
+-- ## Comments on a line that is skipped
+
+-- where a byte of a line stands: in no string literal and no comment, in a literal (C99 6.4.5), or in a comment from
+-- `/*` on (C99 6.4.9)
+pub data Within : Type 0 where
+  Neither : Within
+  Literal : Within
+  Comment : Within
+
+-- two bytes begin the text
+abbrev pub begins_with : ℕ → ℕ → List ℕ → Bool
+begins_with a b text = slice_index text 0 == a && slice_index text 1 == b
+
+-- behind the first k bytes of a line stands a comment that does not end on it, where what follows them stands so
+abbrev pub leaves_open_from : ℕ → Within → List ℕ → Bool
+leaves_open_from k Neither [] = false
+leaves_open_from k Literal [] = false
+leaves_open_from k Comment [] = true
+leaves_open_from (suc k) at (b ∷ line) = leaves_open_from k at line
+leaves_open_from zero Neither (b ∷ line) =
+    if begins_with 47 47 (b ∷ line) then false
+    else (if begins_with 47 42 (b ∷ line) then leaves_open_from 1 Comment line
+    else leaves_open_from 0 (if b == 34 then Literal else Neither) line)
+leaves_open_from zero Literal (b ∷ line) = leaves_open_from (backslash (b ∷ line)) (if b == 34 then Neither else Literal) line
+leaves_open_from zero Comment (b ∷ line) =
+    if begins_with 42 47 (b ∷ line) then leaves_open_from 1 Neither line else leaves_open_from 0 Comment line
+
+-- a comment begins on the line that does not end on it
+abbrev pub leaves_open : List ℕ → Bool
+leaves_open line = leaves_open_from 0 Neither line
