@@ -220,7 +220,7 @@ class Run:
         """The most that a check of the crate took when it was last measured, of whatever text."""
         found, folder = 0, f"{STORE}/{name}"
         for key in os.listdir(folder) if os.path.isdir(folder) else []:
-            row = rtlib.text_of(f"{folder}/{key}/proof").split()
+            row = (rtlib.text_of(f"{folder}/{key}/proof") or "").split()
             found = max(found, int(row[2])) if len(row) == 3 else found
         return found or USUAL_MEMORY
 
@@ -329,7 +329,7 @@ def table(root, names):
     for crate in read_crates(root):
         if names and crate.name not in names:
             continue
-        row = [rtlib.text_of(crate.mark(part)).split() for part in ("proof", "tests", "edits")]
+        row = [(rtlib.text_of(crate.mark(part)) or "").split() for part in ("proof", "tests", "edits")]
         total += sum(int(it[0]) for it in row if it)
         lines = rtlib.text_of  # (lines of code, as `benches/gate.sh` counts them)
         code = sum(lines(f"{at}/{it}").count("\n") for at, _, files in os.walk(f"{crate.folder}/src") for it in files)

@@ -18,7 +18,6 @@ use Rattle.tm_terms.specs.declared.tokens.Sign.{Sign}
 use Rattle.tm_terms.specs.declared.tokens.Sign.TheVariants as sign
 use Rattle.tm_terms.specs.declared.tokens.Word.{Word}
 use Rattle.tm_terms.specs.declared.tokens.Word.TheVariants as word
-
 -- ## Bytes
 
 pub use Rattle.tm_terms.specs.Splices.{is_blank, is_in_line, is_blank_in_line}
