@@ -9,9 +9,9 @@ use Rattle.cmd_words.specs.declared.commands.DemoWords.{DemoWords}
 use Rattle.big_source.specs.GeneratedSources.{source_text}
 use Rattle.tm_terms.specs.declared.alarms.Alarm.{Alarm}
 use Rattle.tm_terms.specs.declared.refusals.Refusal.{Refusal}
-use Rattle.thread_pass.specs.program_equations.Programs.{ProgramBodies}
-use Rattle.source_programs.specs.Sources.{IsAccepted, IsRefused}
-use Rattle.source_programs.proofs.OneSource.{none_is_both}
+use Rattle.worker_solutions.specs.program_equations.Programs.{ProgramBodies}
+use Rattle.source_replays.specs.source_programs.Sources.{IsAccepted, IsRefused}
+use Rattle.source_replays.proofs.low.source_programs.OneSource.{none_is_both}
 use Rattle.source_replays.specs.declared.replays.Outcome.{Outcome}
 use Rattle.source_replays.specs.declared.replays.Outcome.TheVariants as Outcomes
 use Rattle.source_replays.specs.Replays.{IsRefusedReplay, HasReplay, TellsRefusal, AsksForNone}

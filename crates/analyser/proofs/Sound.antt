@@ -2,12 +2,12 @@
 use Rattle.std.proofs.Common.{◌≡◌, ◌∙◌, sym, ap, subst}
 use Rattle.std.specs.Prelude.{ℕ, ◌≤◌, ◌^◌, List, length}
 use Rattle.tm_terms.specs.declared.alarms.Alarm.{Alarm}
-use Rattle.thread_pass.specs.tm_laid.Layouts.{LaidTree}
-use Rattle.thread_pass.specs.program_equations.Programs.{ProgramBodies}
-use Rattle.thread_pass.specs.program_equations.Readings.{read_layout}
-use Rattle.program_solutions.specs.LeastReports.{IsLeastReport}
-use Rattle.source_programs.specs.Sources.{IsAccepted}
-use Rattle.source_programs.proofs.Accepted.{accepted_is_laid, accepted_is_program}
+use Rattle.worker_solutions.specs.tm_laid.Layouts.{LaidTree}
+use Rattle.worker_solutions.specs.program_equations.Programs.{ProgramBodies}
+use Rattle.worker_solutions.specs.program_equations.Readings.{read_layout}
+use Rattle.worker_solutions.specs.program_solutions.LeastReports.{IsLeastReport}
+use Rattle.source_replays.specs.source_programs.Sources.{IsAccepted}
+use Rattle.source_replays.proofs.low.source_programs.Accepted.{accepted_is_laid, accepted_is_program}
 use Rattle.sound_core.specs.Sound.{IsProgramFrom}
 use Rattle.sound_core.proofs.Alarmed.{errors_alarm}
 use Rattle.analyser.specs.Soundness.{ListsAll}

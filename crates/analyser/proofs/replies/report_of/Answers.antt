@@ -1,4 +1,4 @@
-use Rattle.thread_pass.specs.tm_laid.Layouts.{laid_tree}
+use Rattle.worker_solutions.specs.tm_laid.Layouts.{laid_tree}
 use Rattle.analyser.proofs.Sound.{few_objects, lists_all}
 use Rattle.analyser.proofs.replies.report_of.Goals as goal
 
