@@ -5,8 +5,8 @@ ghost use Rattle.tm_terms.specs.Spelling.{text_of};
 ghost use Rattle.tm_terms.specs.Texts.{refusal_text};
 ghost use Rattle.thread_pass.specs.program_systems.ReadPrograms.{program_of};
 ghost use Rattle.program_solutions.specs.LeastReports.{IsLeastPair};
-ghost use Rattle.analyser.specs.Findings.{HasFinding, waits_status};
-ghost use Rattle.analyser.specs.reading.Findings.{TellsOf, TellsRangesOf, TellsWaitsOf, bounds_line_of};
+ghost use Rattle.source_findings.specs.Findings.{HasFinding, waits_status};
+ghost use Rattle.source_findings.specs.reading.Tellings.{TellsOf, TellsRangesOf, TellsWaitsOf, bounds_line_of};
 
 use lock_waits::circular;
 use post_recheck::Solution;

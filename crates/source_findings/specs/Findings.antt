@@ -24,8 +24,8 @@ use Rattle.source_programs.specs.Sources.{IsAccepted, IsRefused}
 use Rattle.program_streams.specs.declared.statuses.Status.{Status}
 use Rattle.program_streams.specs.declared.statuses.Status.TheVariants.{NoAlarm, Alarms, Refused, Usage, ReadFault}
 use Rattle.program_streams.specs.declared.statuses.Status.TheVariants.{WriteFault, NoMemory}
-use Rattle.analyser.specs.declared.findings.Finding.{Finding}
-use Rattle.analyser.specs.declared.findings.Finding.TheVariants.{Waits, Ranges}
+use Rattle.source_findings.specs.declared.findings.Finding.{Finding}
+use Rattle.source_findings.specs.declared.findings.Finding.TheVariants.{Waits, Ranges}
 
 -- the least solution of the program of which the bytes are a source, with no numbers given as thresholds
 pub record Solves (bytes : List ℕ) : Type 0 where

@@ -15,9 +15,9 @@ use Rattle.value_ranges.specs.Ranges.{AreRanges}
 use Rattle.value_ranges.specs.Places.{AreDead}
 use Rattle.program_streams.specs.declared.statuses.Status.{Status}
 use Rattle.program_streams.specs.declared.statuses.Status.TheVariants.{NoAlarm}
-use Rattle.analyser.specs.Findings.{waits_status}
-use Rattle.analyser.specs.declared.findings.Finding.{Finding}
-use Rattle.analyser.specs.declared.findings.Finding.TheVariants.{Waits, Ranges}
+use Rattle.source_findings.specs.Findings.{waits_status}
+use Rattle.source_findings.specs.declared.findings.Finding.{Finding}
+use Rattle.source_findings.specs.declared.findings.Finding.TheVariants.{Waits, Ranges}
 
 pub record TellsWaitsOf (p : ProgramBodies) (pair : Pair) (status : Status) (text : List ℕ) : Type 0 where
   pub places : List Place
