@@ -10,7 +10,7 @@ use Rattle.source_replays.specs.source_programs.Sources.{IsAccepted}
 use Rattle.source_replays.proofs.low.source_programs.Accepted.{accepted_is_laid, accepted_is_program}
 use Rattle.sound_core.specs.Sound.{IsProgramFrom}
 use Rattle.sound_core.proofs.Alarmed.{errors_alarm}
-use Rattle.analyser.specs.Answers.{ListsAll}
+use Rattle.analyser.specs.Soundness.{ListsAll}
 
 module _ (given bytes : List ℕ) (p : ProgramBodies) (a : IsAccepted given bytes p) where
   comes_from : IsProgramFrom a.laid p

@@ -8,6 +8,7 @@
 #![tactic(auto)]
 
 mod commands;
+mod findings;
 pub mod laws;
 mod replies;
 mod solvers;
