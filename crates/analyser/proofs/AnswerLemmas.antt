@@ -19,9 +19,9 @@ use Rattle.program_streams.specs.declared.statuses.Status.TheVariants.{NoAlarm, 
 use Rattle.analyser.specs.Answers.{Reports, WritesReport, HistoryFor, HasAnswer, HasSummary, IsGenerated}
 use Rattle.analyser.specs.Answers.{IsReplayed, replay_status, IsReadOut, report_lines}
 use Rattle.analyser.specs.Taken.{Answers, TakesNoMore, Told}
-use Rattle.analyser.specs.Findings.{HasFinding, Solves}
-use Rattle.analyser.specs.declared.findings.Finding.{Finding}
-use Rattle.analyser.proofs.FoundLemmas.{solved_by}
+use Rattle.source_findings.specs.Findings.{HasFinding, Solves}
+use Rattle.source_findings.specs.declared.findings.Finding.{Finding}
+use Rattle.source_findings.proofs.Solved.{solved_by}
 use Rattle.analyser.specs.Statuses.{IsWhole}
 use Rattle.analyser.specs.reading.Replies.{TellsAlarms}
 use Rattle.analyser.specs.reading.Streams.{Says, SaysNoMore}

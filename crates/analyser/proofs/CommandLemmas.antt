@@ -22,10 +22,10 @@ use Rattle.analyser.specs.Answers.{Reports, WritesReport, HasAnswer, HasSummary,
 use Rattle.analyser.specs.Answers.{IsReplayed, AsksForRun, replay_status}
 use Rattle.analyser.specs.Answers.{IsCommand, Reads, AnswersFor, Accepts, Refuses}
 use Rattle.analyser.specs.Taken.{Answers, TakesNoMore, Told}
-use Rattle.analyser.specs.Findings.{HasFinding, Solves}
-use Rattle.analyser.specs.declared.findings.Finding.{Finding}
-use Rattle.analyser.specs.declared.findings.Finding.TheVariants as Findings
-use Rattle.analyser.proofs.FoundLemmas.{solved_by}
+use Rattle.source_findings.specs.Findings.{HasFinding, Solves}
+use Rattle.source_findings.specs.declared.findings.Finding.{Finding}
+use Rattle.source_findings.specs.declared.findings.Finding.TheVariants as Findings
+use Rattle.source_findings.proofs.Solved.{solved_by}
 use Rattle.analyser.specs.Statuses.{IsReported, IsSinkStop, IsStop, IsWhole}
 use Rattle.analyser.specs.reading.Streams.{Says, SaysFront, SaysNoMore}
 

@@ -2,9 +2,9 @@
 use Rattle.std.specs.Prelude.{◌≡◌, ℕ, ◌<◌, ◌⊎◌, Bool, true, false, List, [], ◌∷◌, ◌++◌, length, Option, Some, None}
 use Rattle.std.specs.Prelude.{IfSome, Contains, nat_lt, ◌||◌}
 use Rattle.std.specs.Io.KnownBytes.{IsAtEnd}
-use Rattle.analyser.specs.Findings.{HasFinding}
+use Rattle.source_findings.specs.Findings.{HasFinding}
 use Rattle.analyser.specs.Soundness.{ListsAll}
-use Rattle.analyser.specs.declared.findings.Finding.TheVariants as Findings
+use Rattle.source_findings.specs.declared.findings.Finding.TheVariants as Findings
 use Rattle.cmd_words.specs.declared.commands.AnalyseWords.{AnalyseWords}
 use Rattle.cmd_words.specs.declared.commands.Command.{Command}
 use Rattle.cmd_words.specs.declared.commands.Command.TheVariants.{Analyse, Replay, Generate, Demo, Waits, Ranges}

@@ -9,5 +9,5 @@
 mod reports;
 mod tables;
 
-pub use program_solutions::{Analysis, Solution, least_report, solution};
+pub use program_solutions::{Analysis, least_report};
 pub use reports::{WorkedOut, report_by_workers};

@@ -7,25 +7,25 @@ use Rattle.tm_terms.specs.declared.refusals.Refusal.{Refusal}
 use Rattle.tm_terms.specs.Spelling.{text_of}
 use Rattle.tm_terms.specs.Texts.{refusal_text}
 use Rattle.solution_lines.specs.SolutionTexts.{waits_text, range_line, dead_text}
-use Rattle.worker_solutions.specs.tm_laid.Layouts.{LaidTree}
+use Rattle.thread_pass.specs.tm_laid.Layouts.{LaidTree}
 use Rattle.sound_core.specs.concrete_steps.Worlds.{World, next_at}
 use Rattle.sound_core.specs.concrete_steps.Occurring.{IsReached}
-use Rattle.worker_solutions.specs.program_equations.Programs.{ProgramBodies}
-use Rattle.worker_solutions.specs.program_equations.Solutions.{tables_of}
-use Rattle.worker_solutions.specs.post_recheck.Pairs.{Pair}
-use Rattle.worker_solutions.specs.program_solutions.LeastReports.{IsLeastPair}
+use Rattle.thread_pass.specs.program_equations.Programs.{ProgramBodies}
+use Rattle.thread_pass.specs.program_equations.Solutions.{tables_of}
+use Rattle.program_solutions.specs.post_recheck.Pairs.{Pair}
+use Rattle.program_solutions.specs.LeastReports.{IsLeastPair}
 use Rattle.lock_waits.specs.Waits.{AreWaits}
 use Rattle.value_ranges.specs.declared.ranges.ObjectBounds.{ObjectBounds}
 use Rattle.value_ranges.specs.Ranges.{AreRanges}
 use Rattle.value_ranges.specs.Places.{AreDead}
 use Rattle.sound_core.specs.Rings.{IsRing, AllLockAt}
 use Rattle.sound_core.specs.Reached.{MayAct, HoldsNumber, IsBetween}
-use Rattle.source_replays.specs.source_programs.Sources.{IsAccepted, IsRefused}
+use Rattle.source_programs.specs.Sources.{IsAccepted, IsRefused}
 use Rattle.program_streams.specs.declared.statuses.Status.{Status}
 use Rattle.program_streams.specs.declared.statuses.Status.TheVariants.{NoAlarm, Alarms, Refused, Usage, ReadFault}
 use Rattle.program_streams.specs.declared.statuses.Status.TheVariants.{WriteFault, NoMemory}
-use Rattle.analyser.specs.declared.findings.Finding.{Finding}
-use Rattle.analyser.specs.declared.findings.Finding.TheVariants.{Waits, Ranges}
+use Rattle.source_findings.specs.declared.findings.Finding.{Finding}
+use Rattle.source_findings.specs.declared.findings.Finding.TheVariants.{Waits, Ranges}
 
 -- the least solution of the program of which the bytes are a source, with no numbers given as thresholds
 pub record Solves (bytes : List ℕ) : Type 0 where

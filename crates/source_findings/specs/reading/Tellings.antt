@@ -4,20 +4,20 @@ use Rattle.std.specs.List.{flat_map}
 use Rattle.tm_terms.specs.declared.places.Place.{Place}
 use Rattle.tm_terms.specs.Spelling.{text_of}
 use Rattle.solution_lines.specs.SolutionTexts.{waits_text, range_line, dead_text}
-use Rattle.worker_solutions.specs.tm_laid.Layouts.{no_object}
-use Rattle.worker_solutions.specs.tm_laid.declared.objects.LaidObject.{LaidObject}
-use Rattle.worker_solutions.specs.program_equations.Programs.{ProgramBodies}
-use Rattle.worker_solutions.specs.program_equations.Solutions.{tables_of}
-use Rattle.worker_solutions.specs.post_recheck.Pairs.{Pair}
+use Rattle.thread_pass.specs.tm_laid.Layouts.{no_object}
+use Rattle.thread_pass.specs.tm_laid.declared.objects.LaidObject.{LaidObject}
+use Rattle.thread_pass.specs.program_equations.Programs.{ProgramBodies}
+use Rattle.thread_pass.specs.program_equations.Solutions.{tables_of}
+use Rattle.program_solutions.specs.post_recheck.Pairs.{Pair}
 use Rattle.lock_waits.specs.Waits.{AreWaits}
 use Rattle.value_ranges.specs.declared.ranges.ObjectBounds.{ObjectBounds}
 use Rattle.value_ranges.specs.Ranges.{AreRanges}
 use Rattle.value_ranges.specs.Places.{AreDead}
 use Rattle.program_streams.specs.declared.statuses.Status.{Status}
 use Rattle.program_streams.specs.declared.statuses.Status.TheVariants.{NoAlarm}
-use Rattle.analyser.specs.Findings.{waits_status}
-use Rattle.analyser.specs.declared.findings.Finding.{Finding}
-use Rattle.analyser.specs.declared.findings.Finding.TheVariants.{Waits, Ranges}
+use Rattle.source_findings.specs.Findings.{waits_status}
+use Rattle.source_findings.specs.declared.findings.Finding.{Finding}
+use Rattle.source_findings.specs.declared.findings.Finding.TheVariants.{Waits, Ranges}
 
 pub record TellsWaitsOf (p : ProgramBodies) (pair : Pair) (status : Status) (text : List ℕ) : Type 0 where
   pub places : List Place
