@@ -2,9 +2,9 @@
 # A kit for `rt try` that compiles plainly. `unproved.sh` and `test` read this file.
 #
 # `rt try` compiles a program before anything is proved, but with instrumentation that makes it a hundred times slower,
-# and it keeps nothing. So it is called in a folder of links to the kit, in which `clang` and `ld.lld` are small
-# scripts: the one leaves out the instrumentation, and the other can keep what was linked. The kit itself stays as it
-# is.
+# and it keeps nothing. So it is called in a folder of links to the kit, in which `clang` and `ld.lld` are small scripts:
+# the one leaves out the instrumentation, and the other can link the program a second time, without the library of the
+# instrumentation, to keep it. The kit itself stays as it is.
 
 # A folder of links to all that stands in another.
 links() { # FROM TO
@@ -18,7 +18,7 @@ script() { # FILE, with its text on the standard input
     chmod +x "$1"
 }
 
-# Makes such a kit. It optimises where a level is given, and keeps what is linked as a file where one is given.
+# Makes such a kit. It optimises where a level is given, and keeps the program as a file where one is given.
 make_kit() { # KIT [LEVEL FILE]
     local kit level=${2--O0}
     kit=$(rt doc)
@@ -47,6 +47,15 @@ exec '$kit/toolchain/bin/clang' "\${words[@]}"
 END
     [ $# -lt 3 ] || script "$1/toolchain/bin/ld.lld" <<END
 '$kit/toolchain/bin/ld.lld' "\$@" || exit
-cp program '$3'
+words=() skips=no
+for it; do
+    case \$it in
+        --whole-archive) skips=yes ;;
+        --no-whole-archive) skips=no ;;
+        program) words+=('$3') ;;
+        *) [ \$skips = yes ] || words+=("\$it") ;;
+    esac
+done
+exec '$kit/toolchain/bin/ld.lld' "\${words[@]}"
 END
 }
