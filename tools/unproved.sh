@@ -9,7 +9,7 @@ here=$(dirname -- "$(readlink -f -- "${BASH_SOURCE[0]}")")
 # shellcheck source=tools/plain_kit.sh
 . "$here/plain_kit.sh"
 work=$(mktemp -d)
-trap 'rm -rf -- "$work"' EXIT
+trap 'kill $(jobs -p) 2>/dev/null; rm -rf -- "$work"' EXIT
 trap 'exit 130' INT TERM HUP
 
 # Builds one program. It is run on nothing, and what it answers to that does not matter.
@@ -22,7 +22,11 @@ build() { # NAME
     fi
 }
 
+status=0
+build analyse_main &
+first=$!
 build report_view &
-other=$!
-build analyse_main
-wait "$other"
+second=$!
+wait "$first" || status=1
+wait "$second" || status=1
+exit "$status"
