@@ -1,6 +1,6 @@
 #!/bin/sh
 # Bytes per second on sources that are nearly all lexis, beside `wc -c` on the same files.
-# usage: benches/lexer.sh PROGRAM WORD..    e.g. benches/lexer.sh crates/analyse_main/out/analyse_main analyse
+# usage: benches/lexer.sh PROGRAM WORD..    e.g. benches/lexer.sh "$(./analyse --program)" analyse
 set -eu
 [ $# -ge 1 ] || { sed -n 2,3p "$0"; exit 2; }
 folder=$(mktemp -d)
