@@ -2,9 +2,9 @@
 # A kit for `rt try` that compiles plainly. `unproved.sh` and `test` read this file.
 #
 # `rt try` compiles a program before anything is proved, but with instrumentation that makes it a hundred times slower,
-# and it keeps nothing. So it is called in a folder of links to the kit, in which `clang` and `ld.lld` are small scripts:
-# the one leaves out the instrumentation, and the other can link the program a second time, without the library of the
-# instrumentation, to keep it. The kit itself stays as it is.
+# and it keeps nothing. So it is called in a folder of links to the kit, in which the commands `clang` and `ld.lld` are
+# small scripts: the one leaves out the instrumentation, and the other can link the program a second time, without the
+# library of the instrumentation, to keep it. The kit itself stays as it is.
 
 # A folder of links to all that stands in another.
 links() { # FROM TO

@@ -55,7 +55,7 @@ stamp_of() { # SUM PROGRAM VIEWER
 
 # Writes the stamp of two programs; its fourth line names the kit.
 write_stamp() { # STAMP SUM PROGRAM VIEWER
-    { stamp_of "$2" "$3" "$4" && rt version; } >"$1.new" 2>/dev/null && mv -f -- "$1.new" "$1" 2>/dev/null
+    { stamp_of "$2" "$3" "$4" && rt version; } >"$1.$$" 2>/dev/null && mv -f -- "$1.$$" "$1" 2>/dev/null
 }
 
 # The kit by which programs were built, as their stamp tells, or else the kit that there is.
@@ -111,7 +111,7 @@ may_be_proved() {
 take_kept() {
     local beside=$top/crates/analyse_main/out aside=$top/crates/report_view/out
     local -a found
-    command -v rt python3 >/dev/null && may_be_proved || return 1
+    command -v rt python3 >/dev/null || return 1
     mapfile -t found < <(cd -- "$top" && python3 tools/prove.py --kept analyse_main report_view 2>/dev/null)
     if [ ${#found[@]} != 2 ]; then
         touch -c -- "$unproved/stamp" 2>/dev/null
@@ -121,11 +121,16 @@ take_kept() {
     stamp=
     program=${found[0]}
     viewer=${found[1]}
-    { mkdir -p -- "$beside" "$aside" &&
-        cp -- "$program" "$beside/analyse_main.new" && mv -f -- "$beside/analyse_main.new" "$beside/analyse_main" &&
-        cp -- "$viewer" "$aside/report_view.new" && mv -f -- "$aside/report_view.new" "$aside/report_view" &&
-        write_stamp "$beside/analyse_main.sum" "$sum" "$program" "$viewer"; } 2>/dev/null || return 0
-    take_beside
+    if { mkdir -p -- "$beside" "$aside" && copy "$program" "$beside" && copy "$viewer" "$aside"; } 2>/dev/null; then
+        write_stamp "$beside/analyse_main.sum" "$sum" "$program" "$viewer" && take_beside
+    fi
+    return 0
+}
+
+# Copies a program into a folder, in one step.
+copy() { # PROGRAM FOLDER
+    local to=$2/${1##*/}
+    cp -- "$1" "$to.$$" && mv -f -- "$to.$$" "$to"
 }
 
 take_beside() {
@@ -139,7 +144,7 @@ find_proved() {
         take proved "$top/installed" "$sum" "$top/analyse_main" "$top/report_view" ||
             fail 8 "what is installed in $top is not whole"
     else
-        take_beside || take_kept
+        take_beside || { may_be_proved && take_kept; }
     fi
 }
 
@@ -150,12 +155,14 @@ find_unproved() {
 # Proves and builds the programs by tools/prove.py, which tells its progress, and takes them.
 prove() {
     needs rt python3
+    { mkdir -p -- "$(store)" && [ -w "$(store)" ] && [ -w "$top/crates/analyse_main" ]; } 2>/dev/null ||
+        fail 8 "a proof writes into $(store) and into the crates below $top, and one of them cannot be written"
     (cd -- "$top" && exec python3 tools/prove.py analyse_main report_view </dev/null) >&2 || {
         # (the status where it was interrupted, which it has told)
         [ $? != 130 ] || exit 130
         fail 8 "the programs are not proved: a line above names the log of each crate that failed"
     }
-    find_proved || fail 8 "the programs are proved, and $(store) does not have them"
+    take_kept || fail 8 "the programs are proved, and $(store) does not have them"
 }
 
 # Builds the programs without their proofs, once for these sources, and takes them. Whoever comes second waits.
@@ -193,4 +200,10 @@ find_programs() { # KIND: any or unproved
     if [ "$1" = any ] && find_proved; then return; fi
     ! is_installed || fail 8 "only the proved programs are installed"
     find_unproved || build_unproved
+}
+
+# Says where the program is not proved.
+tell_proof() {
+    [ "$kind" = proved ] ||
+        say "UNPROVED: nothing shows that this report is sound; $0 --prove proves the program, in $(time_of_proof)"
 }

@@ -9,7 +9,7 @@ here=$(dirname -- "$(readlink -f -- "${BASH_SOURCE[0]}")")
 # shellcheck source=tools/plain_kit.sh
 . "$here/plain_kit.sh"
 work=$(mktemp -d)
-trap 'kill $(jobs -p) 2>/dev/null; rm -rf -- "$work"' EXIT
+trap 'kill $(jobs -p) 2>/dev/null || true; rm -rf -- "$work"' EXIT
 trap 'exit 130' INT TERM HUP
 
 # Builds one program. It is run on nothing, and what it answers to that does not matter.
