@@ -8,15 +8,20 @@ use Rattle.big_source.specs.GeneratedSources.{summary_text}
 use Rattle.tm_terms.specs.declared.alarms.Alarm.{Alarm}
 use Rattle.tm_terms.specs.declared.refusals.Refusal.{Refusal}
 use Rattle.tm_terms.specs.Texts.{refusal_text}
-use Rattle.source_programs.specs.Sources.{longest_source, IsRefused, too_long, not_lexed, not_parsed}
-use Rattle.source_programs.specs.Sources.{not_typed, not_laid, not_prepared}
+use Rattle.source_replays.specs.source_programs.LaidSources.{longest_source}
+use Rattle.source_replays.specs.source_programs.Sources.{IsRefused, too_long, not_lexed, not_parsed}
+use Rattle.source_replays.specs.source_programs.Sources.{not_typed, not_laid, not_prepared}
 use Rattle.source_replays.specs.declared.replays.Outcome.{Outcome}
 use Rattle.source_replays.specs.declared.replays.Outcome.TheVariants as Outcomes
 use Rattle.source_replays.proofs.Alike.{long_ones_are_alike}
 use Rattle.program_streams.specs.declared.statuses.Status.{Status}
 use Rattle.program_streams.specs.declared.statuses.Status.TheVariants.{NoAlarm, Alarms, Refused, Usage, ReadFault, WriteFault, NoMemory}
 use Rattle.analyser.specs.Answers.{Reports, WritesReport, HistoryFor, HasAnswer, HasSummary, IsGenerated}
-use Rattle.analyser.specs.Answers.{IsReplayed, replay_status, IsReadOut, Answers, TakesNoMore, Told, report_lines}
+use Rattle.analyser.specs.Answers.{IsReplayed, replay_status, IsReadOut, report_lines}
+use Rattle.analyser.specs.Taken.{Answers, TakesNoMore, Told}
+use Rattle.source_findings.specs.Findings.{HasFinding, Solves}
+use Rattle.source_findings.specs.declared.findings.Finding.{Finding}
+use Rattle.source_findings.proofs.Solved.{solved_by}
 use Rattle.analyser.specs.Statuses.{IsWhole}
 use Rattle.analyser.specs.reading.Replies.{TellsAlarms}
 use Rattle.analyser.specs.reading.Streams.{Says, SaysNoMore}
@@ -129,7 +134,35 @@ pub longer_replayed : (bytes more : List ℕ) → longest_source < length bytes 
 longer_replayed bytes more long status text h =
     record { outcome = h.outcome; comes = h.comes; has = long_ones_are_alike bytes more h.outcome text long h.has }
 
+-- the same of what a least solution tells: a source that is too long has none
+not_solved : (bytes : List ℕ) → longest_source < length bytes → Solves bytes → ⊥
+not_solved bytes long s =
+    let accepted = s.accepted in
+    let source = accepted.source in
+    let short : length bytes ≤ longest_source = source.short in
+    omega (arith, long, short)
+
+pub longer_found : (f : Finding) (bytes more : List ℕ) → longest_source < length bytes → (status : Status) (text : List ℕ)
+    → HasFinding f bytes status text → HasFinding f (bytes ++ more) status text
+longer_found f bytes more long NoAlarm text h = absurd (not_solved bytes long (solved_by f bytes NoAlarm text h))
+longer_found f bytes more long Alarms text h = absurd (not_solved bytes long (solved_by f bytes Alarms text h))
+longer_found f bytes more long Refused text h = (h.0, longer_refused bytes more h.0 long h.1, h.2)
+longer_found f bytes more long Usage text h = absurd h
+longer_found f bytes more long ReadFault text h = absurd h
+longer_found f bytes more long WriteFault text h = absurd h
+longer_found f bytes more long NoMemory text h = absurd h
+
 -- each comes with a whole text
+pub finding_is_whole : (f : Finding) (bytes : List ℕ) (status : Status) (text : List ℕ) → HasFinding f bytes status text
+    → IsWhole status
+finding_is_whole f bytes NoAlarm text h = tt
+finding_is_whole f bytes Alarms text h = tt
+finding_is_whole f bytes Refused text h = tt
+finding_is_whole f bytes Usage text h = absurd h
+finding_is_whole f bytes ReadFault text h = absurd h
+finding_is_whole f bytes WriteFault text h = absurd h
+finding_is_whole f bytes NoMemory text h = absurd h
+
 pub replay_is_whole : (bytes : List ℕ) (status : Status) (text : List ℕ) → IsReplayed bytes status text → IsWhole status
 replay_is_whole bytes status text h = subst IsWhole (sym h.comes) (whole h.outcome)
   where

@@ -7,9 +7,9 @@ use Rattle.std.specs.Str.{bytes_eq}
 use Rattle.std.proofs.lemmas.Bool.{and_parts, or_parts, leb-true, ltb-false, cond_both}
 use Rattle.cmd_words.specs.declared.arguments.Argument.{Argument}
 use Rattle.cmd_words.specs.declared.commands.Command.{Command}
-use Rattle.cmd_words.specs.declared.commands.Command.TheVariants.{Analyse, Replay, Generate, Demo}
+use Rattle.cmd_words.specs.declared.commands.Command.TheVariants.{Analyse, Replay, Generate, Demo, Waits, Ranges}
 use Rattle.cmd_words.specs.Words.{command_of, named_command, analyse_of, analyse_words, demo_of, demo_words, generate_of}
-use Rattle.cmd_words.specs.Words.{replay_of, arguments_of, workers_in, workers_by, from_one, size_in, workers_asked}
+use Rattle.cmd_words.specs.Words.{alone, arguments_of, workers_in, workers_by, from_one, size_in, workers_asked}
 use Rattle.cmd_words.specs.Words.{json_count, history_count}
 use Rattle.analyser.specs.Answers.{asks_workers as asks}
 use Rattle.analyser.specs.reading.Manners.{AreFew, IsAlone, IsServed}
@@ -69,19 +69,22 @@ behind : (f : List Argument → Option Command) → ((arguments : List Argument)
 behind f each None = tt
 behind f each (Some arguments) = each arguments
 
-replay_asks : (words : List (List ℕ)) → IsServed AreFew (replay_of words)
-replay_asks [] = tt
-replay_asks (word ∷ words) = tt
+alone_asks : (command : Command) → IsServed AreFew (Some command) → (words : List (List ℕ)) → IsServed AreFew (alone command words)
+alone_asks command h [] = h
+alone_asks command h (word ∷ words) = tt
 
 named_asks : (name : List ℕ) (words : List (List ℕ)) → IsServed AreFew (named_command name words)
 named_asks name words =
     cond_both (bytes_eq name (codes "analyse")) _ _ (IsServed AreFew)
     (λ e. behind analyse_of analyse_asks (arguments_of words))
-    (λ e. cond_both (bytes_eq name (codes "replay")) _ _ (IsServed AreFew) (λ e. replay_asks words)
+    (λ e. cond_both (bytes_eq name (codes "replay")) _ _ (IsServed AreFew) (λ e. alone_asks Replay tt words)
     (λ e. cond_both (bytes_eq name (codes "generate")) _ _ (IsServed AreFew)
     (λ e. behind generate_of generate_asks (arguments_of words))
     (λ e. cond_both (bytes_eq name (codes "demo")) _ _ (IsServed AreFew)
-    (λ e. behind demo_of demo_asks (arguments_of words)) (λ e. tt))))
+    (λ e. behind demo_of demo_asks (arguments_of words))
+    (λ e. cond_both (bytes_eq name (codes "waits")) _ _ (IsServed AreFew) (λ e. alone_asks Waits tt words)
+    (λ e. cond_both (bytes_eq name (codes "ranges")) _ _ (IsServed AreFew) (λ e. alone_asks Ranges tt words)
+    (λ e. tt))))))
 
 pub few_served : (words : List (List ℕ)) → IsServed AreFew (command_of words)
 few_served [] = tt
@@ -99,6 +102,8 @@ alone_served (Some (Analyse w)) few e =
 alone_served (Some Replay) few e = tt
 alone_served (Some (Generate count)) few e = tt
 alone_served (Some (Demo w)) few e = (only_one w.workers few.0 e, refl)
+alone_served (Some Waits) few e = tt
+alone_served (Some Ranges) few e = tt
 
 -- what serves all manners of a kind serves a command that asks in such a manner
 pub served_by : (P Q : ℕ → Bool → Type 0) (c : Option Command) → ((workers : ℕ) (history : Bool) → P workers history → Q workers history)
@@ -108,3 +113,5 @@ served_by P Q (Some (Analyse w)) each h = each w.workers w.history h
 served_by P Q (Some Replay) each h = tt
 served_by P Q (Some (Generate count)) each h = tt
 served_by P Q (Some (Demo w)) each h = each w.workers false h
+served_by P Q (Some Waits) each h = tt
+served_by P Q (Some Ranges) each h = tt

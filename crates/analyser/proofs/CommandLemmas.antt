@@ -4,14 +4,14 @@ use Rattle.std.specs.Io.KnownBytes.{append_known}
 use Rattle.std.specs.Prelude.{◌⊎◌, Option, Some, None}
 use Rattle.cmd_words.specs.declared.commands.AnalyseWords.{AnalyseWords}
 use Rattle.cmd_words.specs.declared.commands.Command.{Command}
-use Rattle.cmd_words.specs.declared.commands.Command.TheVariants.{Analyse, Replay, Generate, Demo}
+use Rattle.cmd_words.specs.declared.commands.Command.TheVariants.{Analyse, Replay, Generate, Demo, Waits, Ranges}
 use Rattle.cmd_words.specs.declared.commands.DemoWords.{DemoWords}
 use Rattle.big_source.specs.GeneratedSources.{source_text}
 use Rattle.tm_terms.specs.declared.alarms.Alarm.{Alarm}
 use Rattle.tm_terms.specs.declared.refusals.Refusal.{Refusal}
-use Rattle.thread_pass.specs.program_equations.Programs.{ProgramBodies}
-use Rattle.source_programs.specs.Sources.{IsAccepted, IsRefused}
-use Rattle.source_programs.proofs.OneSource.{none_is_both}
+use Rattle.worker_solutions.specs.program_equations.Programs.{ProgramBodies}
+use Rattle.source_replays.specs.source_programs.Sources.{IsAccepted, IsRefused}
+use Rattle.source_replays.proofs.low.source_programs.OneSource.{none_is_both}
 use Rattle.source_replays.specs.declared.replays.Outcome.{Outcome}
 use Rattle.source_replays.specs.declared.replays.Outcome.TheVariants as Outcomes
 use Rattle.source_replays.specs.Replays.{IsRefusedReplay, HasReplay, TellsRefusal, AsksForNone}
@@ -20,7 +20,12 @@ use Rattle.program_streams.specs.declared.statuses.Status.{Status}
 use Rattle.program_streams.specs.declared.statuses.Status.TheVariants.{NoAlarm, Alarms, Refused, Usage, ReadFault, WriteFault, NoMemory}
 use Rattle.analyser.specs.Answers.{Reports, WritesReport, HasAnswer, HasSummary, IsGenerated, SaysUsage, CommandGives}
 use Rattle.analyser.specs.Answers.{IsReplayed, AsksForRun, replay_status}
-use Rattle.analyser.specs.Answers.{IsCommand, Reads, AnswersFor, Accepts, Refuses, Answers, TakesNoMore, Told}
+use Rattle.analyser.specs.Answers.{IsCommand, Reads, AnswersFor, Accepts, Refuses}
+use Rattle.analyser.specs.Taken.{Answers, TakesNoMore, Told}
+use Rattle.source_findings.specs.Findings.{HasFinding, Solves}
+use Rattle.source_findings.specs.declared.findings.Finding.{Finding}
+use Rattle.source_findings.specs.declared.findings.Finding.TheVariants as Findings
+use Rattle.source_findings.proofs.Solved.{solved_by}
 use Rattle.analyser.specs.Statuses.{IsReported, IsSinkStop, IsStop, IsWhole}
 use Rattle.analyser.specs.reading.Streams.{Says, SaysFront, SaysNoMore}
 
@@ -111,6 +116,20 @@ pub answer_of_demo : (c : Option Command) (w : DemoWords) → c ≡ Some (Demo w
     (text : List ℕ) → HasSummary (source_text w.count) status text → CommandGives c bytes status text
 answer_of_demo c w e bytes status text h = subst (λ d. CommandGives d bytes status text) (sym e) h
 
+pub answer_of_waits : (c : Option Command) → c ≡ Some Waits → (bytes : List ℕ) (status : Status) (text : List ℕ)
+    → HasFinding Findings.Waits bytes status text → CommandGives c bytes status text
+answer_of_waits c e bytes status text h = subst (λ d. CommandGives d bytes status text) (sym e) h
+
+pub answer_of_ranges : (c : Option Command) → c ≡ Some Ranges → (bytes : List ℕ) (status : Status) (text : List ℕ)
+    → HasFinding Findings.Ranges bytes status text → CommandGives c bytes status text
+answer_of_ranges c e bytes status text h = subst (λ d. CommandGives d bytes status text) (sym e) h
+
+pub reads_waits : (c : Option Command) → c ≡ Some Waits → Reads c
+reads_waits c e = subst Reads (sym e) tt
+
+pub reads_ranges : (c : Option Command) → c ≡ Some Ranges → Reads c
+reads_ranges c e = subst Reads (sym e) tt
+
 pub reads_demo : (c : Option Command) (w : DemoWords) → c ≡ Some (Demo w) → Reads c → ⊥
 reads_demo c w e r = subst Reads e r
 
@@ -152,6 +171,8 @@ no_usage (Some (Analyse w)) is bytes text h = h
 no_usage (Some Replay) is bytes text h = never_usage h.outcome h.comes
 no_usage (Some (Generate count)) is bytes text h = usage_is_clean h.0
 no_usage (Some (Demo w)) is bytes text h = h
+no_usage (Some Waits) is bytes text h = h
+no_usage (Some Ranges) is bytes text h = h
 
 -- words that are no command are answered with the usage line
 only_usage : (c : Option Command) → (IsCommand c → ⊥) → (bytes : List ℕ) (status : Status) (text : List ℕ)
@@ -161,6 +182,8 @@ only_usage (Some (Analyse w)) none bytes status text h = absurd (none tt)
 only_usage (Some Replay) none bytes status text h = absurd (none tt)
 only_usage (Some (Generate count)) none bytes status text h = absurd (none tt)
 only_usage (Some (Demo w)) none bytes status text h = absurd (none tt)
+only_usage (Some Waits) none bytes status text h = absurd (none tt)
+only_usage (Some Ranges) none bytes status text h = absurd (none tt)
 
 -- what reads is a command
 reads_is : (c : Option Command) → Reads c → IsCommand c
@@ -169,6 +192,8 @@ reads_is (Some (Analyse w)) r = r
 reads_is (Some Replay) r = r
 reads_is (Some (Generate count)) r = absurd r
 reads_is (Some (Demo w)) r = absurd r
+reads_is (Some Waits) r = r
+reads_is (Some Ranges) r = r
 
 sink_stop : (status : Status) → IsStop status → (status ≡ ReadFault → ⊥) → IsSinkStop status
 sink_stop NoAlarm s other = absurd s
@@ -234,6 +259,30 @@ refusal_comes source refusal r ReadFault text h = absurd h
 refusal_comes source refusal r WriteFault text h = absurd h
 refusal_comes source refusal r NoMemory text h = absurd h
 
+-- the same of what a least solution tells
+finding_comes : (f : Finding) (bytes : List ℕ) (p : ProgramBodies) → IsAccepted [] bytes p → (status : Status)
+    (text : List ℕ) → HasFinding f bytes status text → IsReported status
+finding_comes f bytes p a NoAlarm text h = inl refl
+finding_comes f bytes p a Alarms text h = inr refl
+finding_comes f bytes p a Refused text h = absurd (none_is_both [] bytes p h.0 a h.1)
+finding_comes f bytes p a Usage text h = absurd h
+finding_comes f bytes p a ReadFault text h = absurd h
+finding_comes f bytes p a WriteFault text h = absurd h
+finding_comes f bytes p a NoMemory text h = absurd h
+
+none_solved : (bytes : List ℕ) (refusal : Refusal) → IsRefused bytes refusal → Solves bytes → ⊥
+none_solved bytes refusal r s = none_is_both [] bytes s.program refusal s.accepted r
+
+refused_finding : (f : Finding) (bytes : List ℕ) (refusal : Refusal) → IsRefused bytes refusal → (status : Status)
+    (text : List ℕ) → HasFinding f bytes status text → status ≡ Refused
+refused_finding f bytes refusal r NoAlarm text h = absurd (none_solved bytes refusal r (solved_by f bytes NoAlarm text h))
+refused_finding f bytes refusal r Alarms text h = absurd (none_solved bytes refusal r (solved_by f bytes Alarms text h))
+refused_finding f bytes refusal r Refused text h = refl
+refused_finding f bytes refusal r Usage text h = absurd h
+refused_finding f bytes refusal r ReadFault text h = absurd h
+refused_finding f bytes refusal r WriteFault text h = absurd h
+refused_finding f bytes refusal r NoMemory text h = absurd h
+
 -- the same of replays
 run_comes : (bytes : List ℕ) → AsksForRun bytes → (outcome : Outcome) (text : List ℕ) → HasReplay bytes outcome text
     → IsReported (replay_status outcome)
@@ -266,6 +315,12 @@ command_reports (Some Replay) left bytes known e a t status text h =
 command_reports (Some (Generate count)) left bytes known e a t status text h = absurd e
 command_reports (Some (Demo w)) left bytes known e a t status text h =
     summary_comes (source_text w.count) a.0 (subst (λ b. IsAccepted [] b a.0) e a.1) status text h
+command_reports (Some Waits) left bytes known e a t status text h =
+    let same : bytes ≡ known = told_bytes left bytes known e t in
+    finding_comes Findings.Waits known a.0 (subst (λ b. IsAccepted [] b a.0) same a.1) status text h
+command_reports (Some Ranges) left bytes known e a t status text h =
+    let same : bytes ≡ known = told_bytes left bytes known e t in
+    finding_comes Findings.Ranges known a.0 (subst (λ b. IsAccepted [] b a.0) same a.1) status text h
 
 command_refuses : (c : Option Command) (left : Option (List ℕ)) (bytes known : List ℕ) (refusal : Refusal)
     → AnswersFor c left bytes → Refuses c bytes refusal → Told left known → (status : Status) (text : List ℕ)
@@ -280,6 +335,12 @@ command_refuses (Some Replay) left bytes known refusal e r t status text h =
 command_refuses (Some (Generate count)) left bytes known refusal e r t status text h = absurd e
 command_refuses (Some (Demo w)) left bytes known refusal e r t status text h =
     refusal_comes (source_text w.count) refusal (subst (λ b. IsRefused b refusal) e r) status text h
+command_refuses (Some Waits) left bytes known refusal e r t status text h =
+    let same : bytes ≡ known = told_bytes left bytes known e t in
+    refused_finding Findings.Waits known refusal (subst (λ b. IsRefused b refusal) same r) status text h
+command_refuses (Some Ranges) left bytes known refusal e r t status text h =
+    let same : bytes ≡ known = told_bytes left bytes known e t in
+    refused_finding Findings.Ranges known refusal (subst (λ b. IsRefused b refusal) same r) status text h
 
 -- ## The clauses of the top call
 

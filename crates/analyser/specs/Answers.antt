@@ -1,10 +1,13 @@
 -- What the program answers: which texts these words and bytes may give, with which status.
 use Rattle.std.specs.Prelude.{◌≡◌, ℕ, ◌<◌, ◌⊎◌, Bool, true, false, List, [], ◌∷◌, ◌++◌, length, Option, Some, None}
 use Rattle.std.specs.Prelude.{IfSome, Contains, nat_lt, ◌||◌}
-use Rattle.std.specs.Io.KnownBytes.{append_known, IsAtEnd}
+use Rattle.std.specs.Io.KnownBytes.{IsAtEnd}
+use Rattle.source_findings.specs.Findings.{HasFinding}
+use Rattle.analyser.specs.Soundness.{ListsAll}
+use Rattle.source_findings.specs.declared.findings.Finding.TheVariants as Findings
 use Rattle.cmd_words.specs.declared.commands.AnalyseWords.{AnalyseWords}
 use Rattle.cmd_words.specs.declared.commands.Command.{Command}
-use Rattle.cmd_words.specs.declared.commands.Command.TheVariants.{Analyse, Replay, Generate, Demo}
+use Rattle.cmd_words.specs.declared.commands.Command.TheVariants.{Analyse, Replay, Generate, Demo, Waits, Ranges}
 use Rattle.cmd_words.specs.declared.commands.DemoWords.{DemoWords}
 use Rattle.cmd_words.specs.Words.{command_of}
 use Rattle.report_json.specs.JsonReports.{json_text}
@@ -18,13 +21,14 @@ use Rattle.tm_terms.specs.declared.alarms.Alarm.{Alarm}
 use Rattle.tm_terms.specs.declared.places.Place.{Place}
 use Rattle.tm_terms.specs.declared.refusals.Refusal.{Refusal}
 use Rattle.tm_terms.specs.Texts.{report_text, refusal_text, usage_text}
-use Rattle.thread_pass.specs.tm_laid.Layouts.{LaidTree}
+use Rattle.worker_solutions.specs.tm_laid.Layouts.{LaidTree}
 use Rattle.sound_core.specs.concrete_steps.Occurring.{Occurs}
-use Rattle.thread_pass.specs.program_equations.Programs.{ProgramBodies}
+use Rattle.worker_solutions.specs.program_equations.Programs.{ProgramBodies}
 use Rattle.interfere_set.specs.Stores.{Interferences}
 use Rattle.worker_solutions.specs.QuietHistories.{IsQuietHistory}
-use Rattle.source_programs.specs.Sources.{longest_source, IsAccepted, IsRefused}
-use Rattle.program_solutions.specs.LeastReports.{IsLeastReport}
+use Rattle.source_replays.specs.source_programs.LaidSources.{longest_source}
+use Rattle.source_replays.specs.source_programs.Sources.{IsAccepted, IsRefused}
+use Rattle.worker_solutions.specs.program_solutions.LeastReports.{IsLeastReport}
 use Rattle.source_replays.specs.declared.replays.Outcome.{Outcome}
 use Rattle.source_replays.specs.declared.replays.Outcome.TheVariants as Outcomes
 use Rattle.source_replays.specs.Replays.{IsReplayable, IsRefusedReplay, HasReplay}
@@ -33,12 +37,6 @@ use Rattle.program_streams.specs.declared.statuses.Status.TheVariants.{NoAlarm, 
 use Rattle.program_streams.specs.declared.statuses.Status.TheVariants.{WriteFault, NoMemory}
 
 -- ## Reports
-
--- each error that occurs in a run of the program that the scheduler allows, up to its first fault, stands in the report
--- at its place
-abbrev pub ListsAll : LaidTree → List Alarm → Type 0
-ListsAll laid report = (class : Class) (place : Place) → Occurs laid class place
-    → Contains report (record { place = place; class = class })
 
 -- with these numbers given as thresholds, the report of these bytes: that of the least solution of the program of which
 -- they are a source, in which each error that occurs is listed
@@ -137,6 +135,8 @@ CommandGives (Some (Analyse w)) bytes status text = HasAnswer w bytes status tex
 CommandGives (Some Replay) bytes status text = IsReplayed bytes status text
 CommandGives (Some (Generate count)) bytes status text = IsGenerated count status text
 CommandGives (Some (Demo w)) bytes status text = HasSummary (source_text w.count) status text
+CommandGives (Some Waits) bytes status text = HasFinding Findings.Waits bytes status text
+CommandGives (Some Ranges) bytes status text = HasFinding Findings.Ranges bytes status text
 
 -- the text that may come with a status, for these words and bytes
 abbrev pub MayGive : List (List ℕ) → List ℕ → Status → List ℕ → Type 0
@@ -149,6 +149,8 @@ IsCommand (Some (Analyse w)) = Unit {0}
 IsCommand (Some Replay) = Unit {0}
 IsCommand (Some (Generate count)) = Unit {0}
 IsCommand (Some (Demo w)) = Unit {0}
+IsCommand (Some Waits) = Unit {0}
+IsCommand (Some Ranges) = Unit {0}
 
 -- whether the command asks for workers: for more than one, or for the history of one
 abbrev pub asks_workers : Option Command → Bool
@@ -157,6 +159,8 @@ asks_workers (Some (Analyse w)) = nat_lt 1 w.workers || w.history
 asks_workers (Some Replay) = false
 asks_workers (Some (Generate count)) = false
 asks_workers (Some (Demo w)) = nat_lt 1 w.workers
+asks_workers (Some Waits) = false
+asks_workers (Some Ranges) = false
 
 -- the command reads the source
 abbrev pub Reads : Option Command → Type 0
@@ -165,6 +169,8 @@ Reads (Some (Analyse w)) = Unit {0}
 Reads (Some Replay) = Unit {0}
 Reads (Some (Generate count)) = ⊥
 Reads (Some (Demo w)) = ⊥
+Reads (Some Waits) = Unit {0}
+Reads (Some Ranges) = Unit {0}
 
 -- the bytes that a command answers for: all that the source has left, where it reads, or the generated text
 abbrev pub AnswersFor : Option Command → Option (List ℕ) → List ℕ → Type 0
@@ -173,6 +179,8 @@ AnswersFor (Some (Analyse w)) left bytes = left ≡ Some bytes
 AnswersFor (Some Replay) left bytes = left ≡ Some bytes
 AnswersFor (Some (Generate count)) left bytes = ⊥
 AnswersFor (Some (Demo w)) left bytes = bytes ≡ source_text w.count
+AnswersFor (Some Waits) left bytes = left ≡ Some bytes
+AnswersFor (Some Ranges) left bytes = left ≡ Some bytes
 
 -- a command accepts these bytes
 abbrev pub Accepts : Option Command → List ℕ → Type 0
@@ -181,6 +189,8 @@ Accepts (Some (Analyse w)) bytes = (p : ProgramBodies) × IsAccepted w.threshold
 Accepts (Some Replay) bytes = AsksForRun bytes
 Accepts (Some (Generate count)) bytes = ⊥
 Accepts (Some (Demo w)) bytes = (p : ProgramBodies) × IsAccepted [] bytes p
+Accepts (Some Waits) bytes = (p : ProgramBodies) × IsAccepted [] bytes p
+Accepts (Some Ranges) bytes = (p : ProgramBodies) × IsAccepted [] bytes p
 
 -- a command has a refusal of these bytes
 abbrev pub Refuses : Option Command → List ℕ → Refusal → Type 0
@@ -189,38 +199,10 @@ Refuses (Some (Analyse w)) bytes refusal = IsRefused bytes refusal
 Refuses (Some Replay) bytes refusal = IsRefusedReplay bytes refusal
 Refuses (Some (Generate count)) bytes refusal = ⊥
 Refuses (Some (Demo w)) bytes refusal = IsRefused bytes refusal
+Refuses (Some Waits) bytes refusal = IsRefused bytes refusal
+Refuses (Some Ranges) bytes refusal = IsRefused bytes refusal
 
--- ## What is read and taken
-
--- the source tells that it has these bytes left, or it tells nothing
-abbrev pub Told : Option (List ℕ) → List ℕ → Type 0
-Told left bytes = IfSome left (λ known. known ≡ bytes)
-
--- What these bytes may be answered with: a status, and a text.
-module _ (May : List ℕ → Status → List ℕ → Type 0) (left taken taken' : Option (List ℕ)) where
-  -- the sink has taken the whole of a text that may come with the status, for the bytes of the source
-  pub record Answers (status : Status) : Type 0 where
-    pub bytes : List ℕ
-    pub told : Told left bytes
-    pub text : List ℕ
-    pub may : May bytes status text
-    pub appended : taken' ≡ append_known taken text
-
-  -- the sink has taken a front of a text that may come with some status
-  pub record TakesFront : Type 0 where
-    pub bytes : List ℕ
-    pub told : Told left bytes
-    pub status : Status
-    pub text : List ℕ
-    pub may : May bytes status text
-    pub front : List ℕ
-    pub rest : List ℕ
-    pub split : text ≡ front ++ rest
-    pub appended : taken' ≡ append_known taken front
-
-  -- the sink has taken nothing, or a front of such a text
-  abbrev pub TakesNoMore : Type 0
-  TakesNoMore = (taken' ≡ taken) ⊎ TakesFront
+-- ## What is read
 
 -- the source was read to its end, or past the limit
 abbrev pub IsReadOut : Option (List ℕ) → Option (List ℕ) → Type 0

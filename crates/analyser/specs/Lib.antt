@@ -1,4 +1,8 @@
-pub mod Laws
-pub mod Statuses
+-- Which answers words and bytes may get (Answers), what they promise of runs (Soundness), what a sink takes of
+-- them (Taken), which statuses they come with (Statuses), and that a report is one (Laws).
 pub mod Answers
+pub mod Laws
+pub mod Soundness
+pub mod Statuses
+pub mod Taken
 pub mod reading

@@ -5,8 +5,11 @@ ghost use Rattle.std.specs.Io.KnownBytes.{append_known};
 ghost use Rattle.tm_io.specs.Faults.{Rose};
 ghost use Rattle.cmd_words.specs.Words.{command_of, texts_of};
 ghost use Rattle.big_source.specs.GeneratedSources.{source_text};
-ghost use Rattle.analyser.specs.Answers.{Answers, CommandGives, HasAnswer, HasSummary, IsGenerated, IsReadOut};
-ghost use Rattle.analyser.specs.Answers.{IsReplayed, MayGive, Reads, SaysUsage, TakesNoMore};
+ghost use Rattle.analyser.specs.Answers.{CommandGives, HasAnswer, HasSummary, IsGenerated, IsReadOut};
+ghost use Rattle.analyser.specs.Taken.{Answers};
+ghost use Rattle.analyser.specs.Answers.{IsReplayed, MayGive, Reads, SaysUsage};
+ghost use Rattle.analyser.specs.Taken.{TakesNoMore};
+ghost use Rattle.source_findings.specs.Findings.{HasFinding};
 ghost use Rattle.analyser.specs.Statuses.{IsWhole};
 ghost use Rattle.analyser.specs.reading.Manners.{IsServed};
 ghost use Rattle.analyser.specs.reading.Streams.{Says, SaysNoMore};
@@ -16,6 +19,7 @@ use crate::replies::{answer_to, generated, replayed, summarised};
 use crate::solvers::Solver;
 use cmd_words::{AnalyseWords, Command, DemoWords, read_words};
 use program_streams::{InputError, Status, read_whole, write_whole};
+use source_findings::{Finding, finding_of};
 use std::alloc::Global as Heap;
 use tm_io::{Sink, Source, Stop};
 use tm_lattice::NoMemory;
@@ -142,6 +146,36 @@ fn replay_source<S: Source, K: Sink>(alloc: Heap, source: &mut S, out: &mut K) -
     }
 }
 
+/// The commands `waits` and `ranges`: reads the source to its end, or past the limit, and writes what its least solution
+/// tells, or its refusal.
+fn solve_source<S: Source, K: Sink>(
+    alloc: Heap,
+    finding: Finding,
+    source: &mut S,
+    out: &mut K,
+) -> Status
+    ensures whole { IsWhole result →
+        Answers (HasFinding finding) (S.left source.old) (K.taken out.old) (K.taken out.new) result }
+    ensures front { TakesNoMore (HasFinding finding) (S.left source.old) (K.taken out.old) (K.taken out.new) }
+    ensures all { IsWhole result → IsReadOut (S.left source.old) (S.left source.new) }
+    ensures read { result ≡ Status.ReadFault →
+        Rose (S.faults source.old) (S.faults source.new) × (K.taken out.new ≡ K.taken out.old) }
+    ensures write { result ≡ Status.WriteFault → Rose (K.faults out.old) (K.faults out.new) }
+    ensures source_faults { result ≢ Status.ReadFault → S.faults source.new ≡ S.faults source.old }
+    ensures sink_faults { result ≢ Status.WriteFault → K.faults out.new ≡ K.faults out.old }
+{
+    let mut bytes = Vec::new(alloc);
+    match read_whole(source, &mut bytes, MOST) {
+        Ok(()) => {}
+        Err(InputError::Failed) => return Status::ReadFault,
+        Err(InputError::NoMemory) => return Status::NoMemory,
+    }
+    match finding_of(alloc, finding, &bytes) {
+        Ok(reply) => send(out, &reply.text, reply.status),
+        Err(NoMemory) => Status::NoMemory,
+    }
+}
+
 /// Answers a command and a source, or words that are no command.
 fn answer_command<V: Solver, S: Source, K: Sink>(
     solver: &V,
@@ -168,6 +202,8 @@ fn answer_command<V: Solver, S: Source, K: Sink>(
         Some(Command::Replay) => replay_source(alloc, source, out),
         Some(Command::Generate(count)) => send_source(alloc, count, out),
         Some(Command::Demo(asked)) => send_summary(solver, alloc, asked, out),
+        Some(Command::Waits) => solve_source(alloc, Finding::Waits, source, out),
+        Some(Command::Ranges) => solve_source(alloc, Finding::Ranges, source, out),
     }
 }
 

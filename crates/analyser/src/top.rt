@@ -4,9 +4,12 @@ ghost use Rattle.std.specs.Prelude.{◌≡◌, ◌≢◌, ◌⊎◌, ℕ, List, 
 ghost use Rattle.tm_io.specs.Faults.{Rose};
 ghost use Rattle.cmd_words.specs.Words.{command_of, texts_of};
 ghost use Rattle.tm_terms.specs.declared.refusals.Refusal.{Refusal as RefusalOf};
-ghost use Rattle.analyser.specs.Answers.{Accepts, Answers, AnswersFor, IsCommand, IsReadOut, MayGive, Reads, Refuses};
-ghost use Rattle.analyser.specs.Answers.{TakesNoMore, asks_workers};
-ghost use Rattle.thread_pass.specs.program_systems.ReadPrograms.{program_of};
+ghost use Rattle.analyser.specs.Answers.{Accepts, AnswersFor, IsCommand, IsReadOut, MayGive, Reads, Refuses};
+ghost use Rattle.analyser.specs.Taken.{Answers};
+ghost use Rattle.analyser.specs.Answers.{asks_workers};
+ghost use Rattle.analyser.specs.Taken.{TakesNoMore};
+ghost use Rattle.worker_solutions.specs.program_systems.ReadPrograms.{program_of};
+ghost use Rattle.analyser.specs.Soundness.{AsksForReport, IsSound};
 ghost use Rattle.analyser.specs.Statuses.{IsReported, IsSinkStop, IsStop, IsWhole};
 ghost use Rattle.analyser.specs.reading.Manners.{AreFew};
 ghost use Rattle.analyser.specs.reading.Replies.{IsSolved};
@@ -18,9 +21,9 @@ use program_streams::Status;
 use std::alloc::Global as Heap;
 use std::sync::Wait;
 use std::thread::Threads;
-use thread_pass::Analysis;
 use tm_io::{Gate, Sink, Source};
 use tm_lattice::NoMemory;
+use worker_solutions::Analysis;
 
 /// Answers words and a source: the words are those of the command without the program's name; a command that reads the
 /// source reads it to its end or past the limit; and the text that goes with the status is written whole. The text is
@@ -44,6 +47,11 @@ pub fn analyse<R: Threads + Wait + Sync, S: Source, K: Sink, G: Gate>(
     // 2: the line of the source's refusal. Status 3: the usage line. The other commands: the whole text that theirs is.
     ensures headline { IsWhole result →
         Answers (MayGive (texts_of words.now)) (S.left source.old) (K.taken out.old) (K.taken out.new) result }
+
+    // What soundness says of `analyse`, in terms of the source and its runs alone: nothing that its definitions cite
+    // speaks of the analysis. It follows from the first clause.
+    ensures sound { IsReported result → AsksForReport words.now →
+        Answers IsSound (S.left source.old) (K.taken out.old) (K.taken out.new) result }
 
     // Whatever comes, the sink has taken nothing, or a front of a text that these words and bytes may give.
     ensures front { TakesNoMore (MayGive (texts_of words.now)) (S.left source.old) (K.taken out.old) (K.taken out.new) }
@@ -113,6 +121,8 @@ pub fn analyse_alone<S: Source, K: Sink>(
     // The clauses are those of `analyse`, above.
     ensures headline { IsWhole result →
         Answers (MayGive (texts_of words.now)) (S.left source.old) (K.taken out.old) (K.taken out.new) result }
+    ensures sound { IsReported result → AsksForReport words.now →
+        Answers IsSound (S.left source.old) (K.taken out.old) (K.taken out.new) result }
     ensures front { TakesNoMore (MayGive (texts_of words.now)) (S.left source.old) (K.taken out.old) (K.taken out.new) }
     ensures all { Reads (command_of (texts_of words.now)) → IsWhole result →
         IsReadOut (S.left source.old) (S.left source.new) }

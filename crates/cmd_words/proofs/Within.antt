@@ -5,8 +5,8 @@ use Rattle.std.specs.List.{filter_map}
 use Rattle.std.specs.Str.{bytes_eq}
 use Rattle.cmd_words.specs.declared.arguments.Argument.{Argument}
 use Rattle.cmd_words.specs.declared.commands.Command.{Command}
-use Rattle.cmd_words.specs.declared.commands.Command.TheVariants.{Generate}
-use Rattle.cmd_words.specs.Words.{IsWithin, analyse_of, analyse_words, arguments_of, demo_of, demo_words, from_one, generate_of, named_command, numbers_in, replay_of, size_by, size_in, workers_asked, workers_by, workers_in}
+use Rattle.cmd_words.specs.declared.commands.Command.TheVariants.{Replay, Generate, Waits, Ranges}
+use Rattle.cmd_words.specs.Words.{IsWithin, analyse_of, analyse_words, arguments_of, demo_of, demo_words, from_one, generate_of, named_command, numbers_in, alone, size_by, size_in, workers_asked, workers_by, workers_in}
 
 from_one_within : (most n : ℕ) → IfSome (from_one most n) (λ m. (1 ≤ m) × (m ≤ most))
 from_one_within most n = elim (leb_tells 1 n) [
@@ -67,26 +67,23 @@ read_within : (f : List Argument → Option Command) → ((arguments : List Argu
 read_within f all None = tt
 read_within f all (Some arguments) = all arguments
 
-replay_within : (words : List (List ℕ)) → IfSome (replay_of words) IsWithin
-replay_within [] = tt
-replay_within (word ∷ words) = tt
+alone_within : (command : Command) → IsWithin command → (words : List (List ℕ)) → IfSome (alone command words) IsWithin
+alone_within command h [] = h
+alone_within command h (word ∷ words) = tt
 
-chosen_within : (a b c d : Bool) (first second third fourth : Option Command) → IfSome first IsWithin
-    → IfSome second IsWithin → IfSome third IsWithin → IfSome fourth IsWithin
-    → IfSome (cond a first (cond b second (cond c third (cond d fourth None)))) IsWithin
-chosen_within true b c d first second third fourth h k l m = h
-chosen_within false true c d first second third fourth h k l m = k
-chosen_within false false true d first second third fourth h k l m = l
-chosen_within false false false true first second third fourth h k l m = m
-chosen_within false false false false first second third fourth h k l m = tt
+chosen_within : (b : Bool) (command others : Option Command) → IfSome command IsWithin → IfSome others IsWithin
+    → IfSome (cond b command others) IsWithin
+chosen_within true command others h k = h
+chosen_within false command others h k = k
 
 named_within : (name : List ℕ) (words : List (List ℕ)) → IfSome (named_command name words) IsWithin
 named_within name words =
-    chosen_within (bytes_eq name (codes "analyse")) (bytes_eq name (codes "replay")) (bytes_eq name (codes "generate"))
-    (bytes_eq name (codes "demo")) (option_and_then analyse_of (arguments_of words)) (replay_of words)
-    (option_and_then generate_of (arguments_of words)) (option_and_then demo_of (arguments_of words))
-    (read_within analyse_of analyse_within (arguments_of words)) (replay_within words)
-    (read_within generate_of generate_within (arguments_of words)) (read_within demo_of demo_within (arguments_of words))
+    chosen_within (bytes_eq name (codes "analyse")) _ _ (read_within analyse_of analyse_within (arguments_of words))
+    (chosen_within (bytes_eq name (codes "replay")) _ _ (alone_within Replay tt words)
+    (chosen_within (bytes_eq name (codes "generate")) _ _ (read_within generate_of generate_within (arguments_of words))
+    (chosen_within (bytes_eq name (codes "demo")) _ _ (read_within demo_of demo_within (arguments_of words))
+    (chosen_within (bytes_eq name (codes "waits")) _ _ (alone_within Waits tt words)
+    (chosen_within (bytes_eq name (codes "ranges")) _ None (alone_within Ranges tt words) tt)))))
 
 pub is_within : (name : List ℕ) (words : List (List ℕ)) (command : Option Command) → command ≡ named_command name words
     → IfSome command IsWithin

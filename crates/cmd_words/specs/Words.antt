@@ -3,6 +3,8 @@
 --
 --     analyse   --workers N or --workers=N, --json, --history, each once at most; any numbers; in any order
 --     replay    nothing more
+--     waits     nothing more
+--     ranges    nothing more
 --     generate  one number from 1 to 400
 --     demo      --workers N or --workers=N once at most; one number from 1 to 400; in any order
 --
@@ -17,7 +19,7 @@ use Rattle.std.specs.declared.alloc.Global.{Global as Heap}
 use Rattle.cmd_words.specs.declared.arguments.Argument.{Argument}
 use Rattle.cmd_words.specs.declared.arguments.Argument.TheVariants.{Workers, Json, History, Number}
 use Rattle.cmd_words.specs.declared.commands.Command.{Command}
-use Rattle.cmd_words.specs.declared.commands.Command.TheVariants.{Analyse, Replay, Generate, Demo}
+use Rattle.cmd_words.specs.declared.commands.Command.TheVariants.{Analyse, Replay, Generate, Demo, Waits, Ranges}
 use Rattle.cmd_words.specs.Numbers.{number_of}
 
 -- the words as lists of bytes
@@ -147,9 +149,10 @@ analyse_of arguments =
     if nat_le (json_count arguments) 1 && nat_le (history_count arguments) 1
     then option_map (analyse_words arguments) (workers_in arguments) else None
 
-abbrev pub replay_of : List (List ℕ) → Option Command
-replay_of [] = Some Replay
-replay_of (word ∷ words) = None
+-- a command that takes no further words
+abbrev pub alone : Command → List (List ℕ) → Option Command
+alone command [] = Some command
+alone command (word ∷ words) = None
 
 abbrev pub generate_of : List Argument → Option Command
 generate_of arguments = if length arguments == 1 then option_map Generate (size_in arguments) else None
@@ -167,9 +170,11 @@ demo_of arguments =
 abbrev pub named_command : List ℕ → List (List ℕ) → Option Command
 named_command name words =
     if bytes_eq name (codes "analyse") then option_and_then analyse_of (arguments_of words)
-    else if bytes_eq name (codes "replay") then replay_of words
+    else if bytes_eq name (codes "replay") then alone Replay words
     else if bytes_eq name (codes "generate") then option_and_then generate_of (arguments_of words)
     else if bytes_eq name (codes "demo") then option_and_then demo_of (arguments_of words)
+    else if bytes_eq name (codes "waits") then alone Waits words
+    else if bytes_eq name (codes "ranges") then alone Ranges words
     else None
 
 -- the command that words are, if they are one
@@ -183,3 +188,5 @@ IsWithin (Analyse asked) = (1 ≤ asked.workers) × (asked.workers ≤ 16)
 IsWithin Replay = Unit {0}
 IsWithin (Generate count) = (1 ≤ count) × (count ≤ 400)
 IsWithin (Demo asked) = ((1 ≤ asked.workers) × (asked.workers ≤ 16)) × ((1 ≤ asked.count) × (asked.count ≤ 400))
+IsWithin Waits = Unit {0}
+IsWithin Ranges = Unit {0}

@@ -67,4 +67,8 @@ pub enum Command {
     Generate(u32),
     /// The analysis of a generated source, in two lines.
     Demo(DemoWords),
+    /// The places of locks of a source at which tasks may wait for each other in a circle.
+    Waits,
+    /// The least and the greatest number of each object of a source, and its dead places.
+    Ranges,
 }

@@ -2,7 +2,7 @@
 
 ghost use Rattle.std.specs.Prelude.{◌≡◌, IfOk, IfSome, length, option_and_then};
 ghost use Rattle.cmd_words.specs.Words.{IsWithin, analyse_of, arguments_of, command_of, demo_of, from_one, generate_of};
-ghost use Rattle.cmd_words.specs.Words.{named_command, replay_of, size_by, size_in, texts_of, workers_by, workers_in};
+ghost use Rattle.cmd_words.specs.Words.{alone, named_command, size_by, size_in, texts_of, workers_by, workers_in};
 
 use crate::arguments::{
     Argument, history_count, json_count, numbers_in, read_arguments, workers_asked,
@@ -125,12 +125,12 @@ fn read_analyse(alloc: Global, words: &[String]) -> Result<Option<Command>, NoMe
     }
 }
 
-/// The words behind `replay`.
-fn read_replay(words: &[String]) -> Option<Command>
-    ensures { result ≡ replay_of (texts_of words.now) }
+/// A command that takes no further words.
+fn alone(command: Command, words: &[String]) -> Option<Command>
+    ensures { result ≡ alone command (texts_of words.now) }
 {
     if words.is_empty() {
-        Some(Command::Replay)
+        Some(command)
     } else {
         None
     }
@@ -163,11 +163,15 @@ fn read_named(alloc: Global, name: &str, words: &[String]) -> Result<Option<Comm
     if name == "analyse" {
         read_analyse(alloc, words)
     } else if name == "replay" {
-        Ok(read_replay(words))
+        Ok(alone(Command::Replay, words))
     } else if name == "generate" {
         read_generate(alloc, words)
     } else if name == "demo" {
         read_demo(alloc, words)
+    } else if name == "waits" {
+        Ok(alone(Command::Waits, words))
+    } else if name == "ranges" {
+        Ok(alone(Command::Ranges, words))
     } else {
         Ok(None)
     }

@@ -4,7 +4,8 @@ use Rattle.program_graphs.specs.lowering_laws.LaidFiles.{IsLaidFile}
 use Rattle.thresholds.specs.Thresholds.{numbers_of}
 use Rattle.program_laws.specs.program_equations.Programs.{ProgramBodies, IsProgram}
 use Rattle.program_laws.proofs.LaidPrograms.{program_kept}
-use Rattle.source_programs.specs.Sources.{main_in, IsAccepted}
+use Rattle.source_programs.specs.LaidSources.{main_in}
+use Rattle.source_programs.specs.Sources.{IsAccepted}
 
 pub accepted_is_laid : (given bytes : List ℕ) (p : ProgramBodies) (a : IsAccepted given bytes p) → IsLaidFile a.laid
 accepted_is_laid given bytes p a =

@@ -25,7 +25,8 @@ use Rattle.program_laws.specs.program_equations.Programs.{ProgramBodies, body_at
 use Rattle.c_lexer.proofs.AnswerLemmas.{one_answer as one_lexing}
 use Rattle.c_parser.proofs.FileComplete.{file_complete}
 use Rattle.c_typing.proofs.low.typing_laws.OneAnswer.{one_answer as one_typing}
-use Rattle.source_programs.specs.Sources.{longest_source, main_in, TypesAs, IsLaidSource, IsAccepted, source_limit}
+use Rattle.source_programs.specs.LaidSources.{longest_source, main_in, TypesAs, IsLaidSource}
+use Rattle.source_programs.specs.Sources.{IsAccepted, source_limit}
 use Rattle.source_programs.specs.Sources.{IsRefused, too_long, not_lexed, not_parsed, not_typed, not_laid, not_prepared}
 use Rattle.source_programs.specs.Laws.{NoneIsBoth, OneProgram, AreSyntaxErrors, OneRefusal}
 use Rattle.configured_laws.proofs.Lists.{ascending_are_one}

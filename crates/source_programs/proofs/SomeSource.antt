@@ -17,7 +17,8 @@ use Rattle.program_laws.specs.program_equations.Programs.{ProgramBodies}
 use Rattle.c_lexer.proofs.TotalLemmas.{some_answer as some_lexing}
 use Rattle.c_parser.proofs.FileAnswers.{answered as some_file}
 use Rattle.c_typing.proofs.low.typing_laws.SomeAnswer.{some_answer as some_typing}
-use Rattle.source_programs.specs.Sources.{longest_source, main_in, TypesAs, IsLaidSource, IsAccepted, source_limit}
+use Rattle.source_programs.specs.LaidSources.{longest_source, main_in, TypesAs, IsLaidSource}
+use Rattle.source_programs.specs.Sources.{IsAccepted, source_limit}
 use Rattle.source_programs.specs.Sources.{IsRefused, too_long, not_lexed, not_parsed, not_typed, not_laid, not_prepared}
 use Rattle.source_programs.specs.Laws.{AreInReach, HasProgram, SomeSource}
 use Rattle.source_programs.proofs.SomeThresholds.{some_thresholds}

@@ -30,7 +30,8 @@ use Rattle.mutex_configs.specs.declared.programs.Program.{Program}
 use Rattle.program_graphs.specs.Prepared.{answer_of, IsPrepared}
 use Rattle.thresholds.specs.Thresholds.{numbers_of, AreThresholds}
 use Rattle.program_laws.specs.program_equations.Programs.{ProgramBodies, IsProgramOf}
-use Rattle.source_programs.specs.Sources.{longest_source, main_in, TypesAs, IsLaidSource, IsAccepted, IsRefused}
+use Rattle.source_programs.specs.LaidSources.{longest_source, main_in, TypesAs, IsLaidSource}
+use Rattle.source_programs.specs.Sources.{IsAccepted, IsRefused}
 use Rattle.source_programs.specs.Sources.{IfRefused, source_limit}
 use Rattle.source_programs.specs.Sources.{too_long, not_lexed, not_parsed, not_typed, not_laid, not_prepared}
 

@@ -9,7 +9,8 @@ use Rattle.mutex_configs.specs.declared.nodes.ConfiguredGraph.{ConfiguredGraph}
 use Rattle.thresholds.specs.strided_dom.Progression.{IsInReach}
 use Rattle.program_graphs.specs.Prepared.{Graphed, IsPrepared}
 use Rattle.program_laws.specs.program_equations.Programs.{ProgramBodies, IsProgramOf}
-use Rattle.source_programs.specs.Sources.{IsLaidSource, IsAccepted, IsRefused}
+use Rattle.source_programs.specs.LaidSources.{IsLaidSource}
+use Rattle.source_programs.specs.Sources.{IsAccepted, IsRefused}
 
 -- a layout, graphs, their configured graphs and thresholds are those of one program
 abbrev pub ProgramsAreOne : Type 0

@@ -1,7 +1,7 @@
 //! The name that is spelled `main`.
 
 ghost use Rattle.std.specs.Prelude.{◌≡◌, drop, take};
-ghost use Rattle.source_programs.specs.Sources.{is_main, main_in};
+ghost use Rattle.source_programs.specs.LaidSources.{is_main, main_in};
 
 use tm_terms::{Name, Shape, Token};
 

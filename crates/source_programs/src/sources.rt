@@ -10,7 +10,8 @@ ghost use Rattle.program_graphs.specs.Prepared.{answer_of, IsPrepared};
 ghost use Rattle.thresholds.specs.Thresholds.{numbers_of, AreThresholds};
 ghost use Rattle.program_laws.specs.program_equations.Programs.{ProgramBodies, IsProgramOf};
 ghost use Rattle.program_laws.specs.program_systems.Analysable.{IsAnalysable};
-ghost use Rattle.source_programs.specs.Sources.{longest_source, IsAccepted, IsLaidSource, source_limit, IsRefused};
+ghost use Rattle.source_programs.specs.LaidSources.{longest_source, IsLaidSource};
+ghost use Rattle.source_programs.specs.Sources.{IsAccepted, source_limit, IsRefused};
 ghost use Rattle.source_programs.specs.Sources.{IfRefused};
 
 use crate::mains::main_in;

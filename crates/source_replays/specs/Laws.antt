@@ -2,7 +2,7 @@
 use Rattle.std.specs.Prelude.{ℕ, ◌<◌, List, ◌++◌, length}
 use Rattle.tm_terms.specs.declared.refusals.Refusal.{Refusal}
 use Rattle.tm_laid.specs.Layouts.{LaidTree}
-use Rattle.source_programs.specs.Sources.{longest_source}
+use Rattle.source_programs.specs.LaidSources.{longest_source}
 use Rattle.source_replays.specs.declared.replays.Outcome.{Outcome}
 use Rattle.source_replays.specs.Replays.{IsReplayable, IsRefusedReplay, HasReplay}
 

@@ -50,31 +50,35 @@ is_spliced (b ∷ text) = is_in_line b && (nat_lt 0 (splice (b ∷ text)) || is_
 
 -- ## Comments on a line that is skipped
 
--- where a byte of a line stands: in no string literal and no comment, in a literal (C99 6.4.5), or in a comment from
--- `/*` on (C99 6.4.9)
+-- where a byte of a line stands: in neither, in a character constant or a string literal that ends at a byte equal to the
+-- one that began it (C99 6.4.4.4, 6.4.5), or in a comment from `/*` on (C99 6.4.9)
 pub data Within : Type 0 where
   Neither : Within
-  Literal : Within
+  Quoted : ℕ → Within
   Comment : Within
 
 -- two bytes begin the text
 abbrev pub begins_with : ℕ → ℕ → List ℕ → Bool
 begins_with a b text = slice_index text 0 == a && slice_index text 1 == b
 
--- behind the first k bytes of a line stands a comment that does not end on it, where what follows them stands so
-abbrev pub leaves_open_from : ℕ → Within → List ℕ → Bool
-leaves_open_from k Neither [] = false
-leaves_open_from k Literal [] = false
-leaves_open_from k Comment [] = true
-leaves_open_from (suc k) at (b ∷ line) = leaves_open_from k at line
-leaves_open_from zero Neither (b ∷ line) =
+-- Behind the first k bytes of a line stands a comment that does not end on it, where what follows them stands so. The
+-- flag says whether `'` begins a character constant.
+abbrev pub leaves_open_from : Bool → ℕ → Within → List ℕ → Bool
+leaves_open_from paired k Neither [] = false
+leaves_open_from paired k (Quoted q) [] = false
+leaves_open_from paired k Comment [] = true
+leaves_open_from paired (suc k) at (b ∷ line) = leaves_open_from paired k at line
+leaves_open_from paired zero Neither (b ∷ line) =
     if begins_with 47 47 (b ∷ line) then false
-    else (if begins_with 47 42 (b ∷ line) then leaves_open_from 1 Comment line
-    else leaves_open_from 0 (if b == 34 then Literal else Neither) line)
-leaves_open_from zero Literal (b ∷ line) = leaves_open_from (backslash (b ∷ line)) (if b == 34 then Neither else Literal) line
-leaves_open_from zero Comment (b ∷ line) =
-    if begins_with 42 47 (b ∷ line) then leaves_open_from 1 Neither line else leaves_open_from 0 Comment line
+    else (if begins_with 47 42 (b ∷ line) then leaves_open_from paired 1 Comment line
+    else leaves_open_from paired 0 (if b == 34 || (paired && b == 39) then Quoted b else Neither) line)
+leaves_open_from paired zero (Quoted q) (b ∷ line) =
+    leaves_open_from paired (backslash (b ∷ line)) (if b == q then Neither else Quoted q) line
+leaves_open_from paired zero Comment (b ∷ line) =
+    if begins_with 42 47 (b ∷ line) then leaves_open_from paired 1 Neither line
+    else leaves_open_from paired 0 Comment line
 
--- a comment begins on the line that does not end on it
+-- A comment begins on the line that does not end on it, whether or not `'` begins a character constant there: one that is
+-- alone, as in `don't`, has no meaning in C (C99 6.4p3).
 abbrev pub leaves_open : List ℕ → Bool
-leaves_open line = leaves_open_from 0 Neither line
+leaves_open line = leaves_open_from false 0 Neither line || leaves_open_from true 0 Neither line

@@ -6,7 +6,7 @@ use std::process::Abort;
 use std::test::Fail;
 
 // Words with a comma between each and the next, and the command in one line.
-static WORDS: [(&str, &str); 70] = [
+static WORDS: [(&str, &str); 73] = [
     // No command.
     ("", "usage"),
     (",analyse", "usage"),
@@ -16,8 +16,6 @@ static WORDS: [(&str, &str); 70] = [
     ("--json,analyse", "usage"),
     ("certify", "usage"),
     ("check", "usage"),
-    ("waits", "usage"),
-    ("ranges", "usage"),
     ("--help", "usage"),
     ("--version", "usage"),
     ("--", "usage"),
@@ -84,6 +82,11 @@ static WORDS: [(&str, &str); 70] = [
     ("replay,1", "usage"),
     ("generate,400", "generate 400"),
     ("demo,5", "demo 1 5"),
+    ("waits", "waits"),
+    ("waits,--", "usage"),
+    ("waits,--json", "usage"),
+    ("ranges", "ranges"),
+    ("ranges,17", "usage"),
 ];
 
 // The commands with a number.
@@ -151,6 +154,8 @@ fn line_of(alloc: Global, command: Option<Command>) -> Result<String, Fail> {
             let count = asked.count;
             Ok(format!(in alloc; "demo {workers} {count}")?)
         }
+        Some(Command::Waits) => Ok(String::from_str(alloc, "waits")?),
+        Some(Command::Ranges) => Ok(String::from_str(alloc, "ranges")?),
         None => Ok(String::from_str(alloc, "usage")?),
     }
 }

@@ -1,7 +1,7 @@
 -- In which manners commands ask for reports: for how many workers, and with their history or without.
 use Rattle.std.specs.Prelude.{◌≡◌, ◌≤◌, ℕ, Bool, false, Option, Some, None}
 use Rattle.cmd_words.specs.declared.commands.Command.{Command}
-use Rattle.cmd_words.specs.declared.commands.Command.TheVariants.{Analyse, Replay, Generate, Demo}
+use Rattle.cmd_words.specs.declared.commands.Command.TheVariants.{Analyse, Replay, Generate, Demo, Waits, Ranges}
 
 -- one worker, whose history is not asked for
 abbrev pub IsAlone : ℕ → Bool → Type 0
@@ -18,3 +18,5 @@ IsServed serves (Some (Analyse w)) = serves w.workers w.history
 IsServed serves (Some Replay) = Unit {0}
 IsServed serves (Some (Generate count)) = Unit {0}
 IsServed serves (Some (Demo w)) = serves w.workers false
+IsServed serves (Some Waits) = Unit {0}
+IsServed serves (Some Ranges) = Unit {0}

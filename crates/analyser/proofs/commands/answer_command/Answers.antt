@@ -1,11 +1,13 @@
 use Rattle.std.proofs.Common.{◌∙◌, ap, subst, Some}
 use Rattle.big_source.specs.GeneratedSources.{source_text}
 use Rattle.analyser.specs.Answers.{CommandGives, HasAnswer, HasSummary, IsGenerated, IsReplayed, SaysUsage}
+use Rattle.source_findings.specs.Findings.{HasFinding}
+use Rattle.source_findings.specs.declared.findings.Finding.TheVariants as Findings
 use Rattle.analyser.specs.reading.Manners.{IsServed}
 use Rattle.analyser.proofs.CommandLemmas.{said_answers, said_takes, more_answers, more_takes}
 use Rattle.analyser.proofs.CommandLemmas.{usage_of_none, answer_of_replay, answer_of_analyse, answer_of_generate}
 use Rattle.analyser.proofs.CommandLemmas.{answer_of_demo, reads_none, reads_replay, reads_generate, reads_demo}
-use Rattle.analyser.proofs.CommandLemmas.{reads_analyse}
+use Rattle.analyser.proofs.CommandLemmas.{reads_analyse, answer_of_waits, answer_of_ranges, reads_waits, reads_ranges}
 use Rattle.analyser.proofs.commands.answer_command.Goals as goal
 
 pub returns-in-None-clause-headline : goal.returns-in-None-clause-headline
@@ -36,6 +38,42 @@ pub returns-in-Some-Replay-clause-read : goal.returns-in-Some-Replay-clause-read
 returns-in-Some-Replay-clause-read g c e =
     let fault = c.replay_source.ensures.read e in
     (reads_replay c.args.command (c.in-Some-Replay.is ∙ ap Some c.in-Some-Replay.field-0-is), fault.0, fault.1)
+
+pub returns-in-Some-Waits-clause-headline : goal.returns-in-Some-Waits-clause-headline
+returns-in-Some-Waits-clause-headline g c h =
+    more_answers (HasFinding Findings.Waits) (CommandGives c.args.command) (answer_of_waits c.args.command (c.in-Some-Waits.is ∙ ap Some c.in-Some-Waits.field-0-is)) _ _ _
+    c.solve_source.result (c.solve_source.ensures.whole h)
+
+pub returns-in-Some-Waits-clause-front : goal.returns-in-Some-Waits-clause-front
+returns-in-Some-Waits-clause-front g c =
+    more_takes (HasFinding Findings.Waits) (CommandGives c.args.command) (answer_of_waits c.args.command (c.in-Some-Waits.is ∙ ap Some c.in-Some-Waits.field-0-is)) _ _ _
+    c.solve_source.ensures.front
+
+pub returns-in-Some-Waits-clause-unread : goal.returns-in-Some-Waits-clause-unread
+returns-in-Some-Waits-clause-unread g c none = absurd (none (reads_waits c.args.command (c.in-Some-Waits.is ∙ ap Some c.in-Some-Waits.field-0-is)))
+
+pub returns-in-Some-Waits-clause-read : goal.returns-in-Some-Waits-clause-read
+returns-in-Some-Waits-clause-read g c e =
+    let fault = c.solve_source.ensures.read e in
+    (reads_waits c.args.command (c.in-Some-Waits.is ∙ ap Some c.in-Some-Waits.field-0-is), fault.0, fault.1)
+
+pub returns-in-Some-Ranges-clause-headline : goal.returns-in-Some-Ranges-clause-headline
+returns-in-Some-Ranges-clause-headline g c h =
+    more_answers (HasFinding Findings.Ranges) (CommandGives c.args.command) (answer_of_ranges c.args.command (c.in-Some-Ranges.is ∙ ap Some c.in-Some-Ranges.field-0-is)) _ _ _
+    c.solve_source.result (c.solve_source.ensures.whole h)
+
+pub returns-in-Some-Ranges-clause-front : goal.returns-in-Some-Ranges-clause-front
+returns-in-Some-Ranges-clause-front g c =
+    more_takes (HasFinding Findings.Ranges) (CommandGives c.args.command) (answer_of_ranges c.args.command (c.in-Some-Ranges.is ∙ ap Some c.in-Some-Ranges.field-0-is)) _ _ _
+    c.solve_source.ensures.front
+
+pub returns-in-Some-Ranges-clause-unread : goal.returns-in-Some-Ranges-clause-unread
+returns-in-Some-Ranges-clause-unread g c none = absurd (none (reads_ranges c.args.command (c.in-Some-Ranges.is ∙ ap Some c.in-Some-Ranges.field-0-is)))
+
+pub returns-in-Some-Ranges-clause-read : goal.returns-in-Some-Ranges-clause-read
+returns-in-Some-Ranges-clause-read g c e =
+    let fault = c.solve_source.ensures.read e in
+    (reads_ranges c.args.command (c.in-Some-Ranges.is ∙ ap Some c.in-Some-Ranges.field-0-is), fault.0, fault.1)
 
 pub returns-in-Some-Generate-clause-headline : goal.returns-in-Some-Generate-clause-headline
 returns-in-Some-Generate-clause-headline g c h =

@@ -4,6 +4,7 @@ use mir.Syntax.{of_param}
 use Rattle.cmd_words.specs.Words.{command_of, texts_of}
 use Rattle.analyser.proofs.AskedWorkers.{few_served, served_by}
 use Rattle.analyser.specs.reading.Manners.{AreFew}
+use Rattle.analyser.proofs.SoundAnswers.{sound_answers, reported_is_whole}
 use Rattle.analyser.proofs.CommandLemmas.{no_usage_line, usage_line, accepted_reported, refused_refused}
 use Rattle.analyser.proofs.top.analyse.Goals as goal
 
@@ -15,6 +16,11 @@ answer_words-requires g c = record {
       (λ n b few analysis. ((few, (record { owned = c.type_bounds.send-G.owned; leaving = λ k. Quiet-if (k (of_param 1)) unseen unseen (λ x w. tt) (λ x w. tt) }, search (c.type_bounds.sync-R, sendable) depth 20, search (c.type_bounds.sync-G, sendable) depth 20)), λ r h. h.1))
       (few_served (texts_of c.args.words.now));
 }
+
+pub returns-clause-sound : goal.returns-clause-sound
+returns-clause-sound g c reported asks =
+    sound_answers c.args.words.now _ _ _ c.answer_words.result reported asks
+    (c.answer_words.ensures.headline (reported_is_whole c.answer_words.result reported))
 
 pub returns-clause-words : goal.returns-clause-words
 returns-clause-words g c is e =

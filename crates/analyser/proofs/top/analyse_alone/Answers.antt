@@ -1,5 +1,6 @@
 use Rattle.cmd_words.specs.Words.{command_of, texts_of}
 use Rattle.analyser.proofs.AskedWorkers.{alone_served, few_served}
+use Rattle.analyser.proofs.SoundAnswers.{sound_answers, reported_is_whole}
 use Rattle.analyser.proofs.CommandLemmas.{no_usage_line, usage_line, accepted_reported, refused_refused}
 use Rattle.analyser.proofs.top.analyse_alone.Goals as goal
 
@@ -7,6 +8,11 @@ pub answer_words-requires : goal.answer_words-requires
 answer_words-requires g c = record {
   served = alone_served (command_of (texts_of c.args.words.now)) (few_served (texts_of c.args.words.now)) c.requires.alone;
 }
+
+pub returns-clause-sound : goal.returns-clause-sound
+returns-clause-sound g c reported asks =
+    sound_answers c.args.words.now _ _ _ c.answer_words.result reported asks
+    (c.answer_words.ensures.headline (reported_is_whole c.answer_words.result reported))
 
 pub returns-clause-words : goal.returns-clause-words
 returns-clause-words g c is e =

@@ -1,5 +1,5 @@
 use Rattle.std.proofs.Common.{◌≡◌, drop}
-use Rattle.source_programs.specs.Sources.{main_in}
+use Rattle.source_programs.specs.LaidSources.{main_in}
 use Rattle.source_programs.proofs.mains.main_in.Given as goal
 
 -- no token before is a name that is spelled so

@@ -4,8 +4,9 @@ use Rattle.tm_terms.specs.declared.refusals.Refusal.{Refusal}
 use Rattle.tm_laid.specs.Layouts.{laid_tree}
 use Rattle.flow_graph.specs.declared.graphs.Graph.{Graph}
 use Rattle.concrete_worlds.specs.Lawful.{HasGraphs}
-use Rattle.program_graphs.specs.Prepared.{Graphed}
-use Rattle.source_programs.specs.Sources.{longest_source, source_limit, IsLaidSource, IsRefused}
+use Rattle.source_programs.specs.program_graphs.Prepared.{Graphed}
+use Rattle.source_programs.specs.LaidSources.{longest_source, IsLaidSource}
+use Rattle.source_programs.specs.Sources.{source_limit, IsRefused}
 use Rattle.source_replays.specs.Replays.{all_too_long, source_refused}
 use Rattle.source_replays.specs.reading.Replies.{IsRefusalLine}
 use Rattle.source_replays.proofs.Answered.{has_graphs, has_worlds, refusal_answers, one_ok}

@@ -1,0 +1,2 @@
+-- The texts of `waits` and `ranges` (SolutionTexts).
+pub mod SolutionTexts
