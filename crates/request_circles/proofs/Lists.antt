@@ -3,7 +3,7 @@ use Rattle.std.proofs.Common.{◌≡◌, ◌⊎◌, ℕ, zero, suc, ◌<◌, ref
 use Rattle.std.proofs.Common.{length, get_or, arith}
 use Rattle.std.specs.Prelude.{Contains}
 use Rattle.tm_terms.specs.declared.places.Place.{Place}
-use Rattle.request_circles.specs.Requests.{PlaceBefore, ArePlacesInOrder}
+use Rattle.place_lists.specs.Order.{PlaceBefore, AreInOrder}
 
 either : {A B C : Type 0} → (A → C) → (B → C) → A ⊎ B → C
 either f g (inl a) = f a
@@ -32,18 +32,18 @@ never_before : (a : Place) → PlaceBefore a a → ⊥
 never_before a (inl l) = absurd (omega (arith, l))
 never_before a (inr (e, l)) = absurd (omega (arith, l))
 
-tail_ordered : (a : Place) (rest : List Place) → ArePlacesInOrder (a ∷ rest) → ArePlacesInOrder rest
+tail_ordered : (a : Place) (rest : List Place) → AreInOrder (a ∷ rest) → AreInOrder rest
 tail_ordered a [] s = tt
 tail_ordered a (b ∷ rest) s = s.1
 
 -- the first comes before the others
-first_before : (a b : Place) (rest : List Place) → ArePlacesInOrder (a ∷ rest) → Contains rest b → PlaceBefore a b
+first_before : (a b : Place) (rest : List Place) → AreInOrder (a ∷ rest) → Contains rest b → PlaceBefore a b
 first_before a b [] s h = absurd (none b h)
 first_before a b (c ∷ rest) s h =
     either (λ e. subst (PlaceBefore a) e s.0) (λ more. before_trans a c b s.0 (first_before c b rest s.1 more))
     (cases c b rest h)
 
-same_first : (a b : Place) (one other : List Place) → ArePlacesInOrder (a ∷ one) → ArePlacesInOrder (b ∷ other)
+same_first : (a b : Place) (one other : List Place) → AreInOrder (a ∷ one) → AreInOrder (b ∷ other)
     → Contains (b ∷ other) a → Contains (a ∷ one) b → a ≡ b
 same_first a b one other s t h k =
     either (λ e. sym e)
@@ -52,13 +52,13 @@ same_first a b one other s t h k =
     (before_trans a b a (first_before a b one s below) (first_before b a other t above)))) (cases a b one k))
     (cases b a other h)
 
-rest_of : (a b x : Place) (one other : List Place) → a ≡ b → ArePlacesInOrder (a ∷ one)
+rest_of : (a b x : Place) (one other : List Place) → a ≡ b → AreInOrder (a ∷ one)
     → ((y : Place) → Contains (a ∷ one) y → Contains (b ∷ other) y) → Contains one x → Contains other x
 rest_of a b x one other e s f h =
     either (λ same. absurd (never_before a (subst (PlaceBefore a) (sym (e ∙ same)) (first_before a x one s h))))
     (λ more. more) (cases b x other (f x (later a x one h)))
 
-pub equal_lists : (one other : List Place) → ArePlacesInOrder one → ArePlacesInOrder other
+pub equal_lists : (one other : List Place) → AreInOrder one → AreInOrder other
     → ((x : Place) → Contains one x → Contains other x) → ((x : Place) → Contains other x → Contains one x)
     → one ≡ other
 equal_lists [] [] s t f g = refl

@@ -79,7 +79,3 @@ not_marked b marks k same e = elim (cases_Bool (get_or marks k false)) [
 pub no_more : (b : Bool) → not b ≡ true → b ≡ true → ⊥
 no_more true e h = cc
 no_more false e h = cc
-
-pub so_it_is : (b : Bool) → not b ≡ false → b ≡ true
-so_it_is true e = refl
-so_it_is false e = absurd cc

@@ -134,10 +134,13 @@ module _ (requests : List Request) (left : List Bool) (ahead : Bool) (from : ℕ
       | inl o ↦ still k (s.known k (Contains-append_left ws (n ∷ []) k o))
       | inr p ↦ inr (v.next k p)
     ];
-    closed = λ k h. elim h [ inl e ↦ closes k (s.closed k (inl e)) | inr m ↦ elim (v.only k m) [
-      | inl o ↦ closes k (s.closed k (inr o))
-      | inr p ↦ inl p.1
-    ] ];
+    closed = λ k h. elim h [
+      | inl e ↦ closes k (s.closed k (inl e))
+      | inr m ↦ elim (v.only k m) [
+        | inl o ↦ closes k (s.closed k (inr o))
+        | inr p ↦ inl p.1
+      ]
+    ];
   }
     where
       over : (k : ℕ) → Step n k → (n ≡ from) ⊎ IsMarked old n → Chain Step from k
