@@ -59,11 +59,7 @@ fn request_of(parts: TaskParts<'_>, copy: usize) -> Option<Request>
 }
 
 // Adds the request of a copy.
-fn add_copy(
-    parts: TaskParts<'_>,
-    copy: usize,
-    requests: &mut Vec<Request>,
-) -> Result<(), NoMemory>
+fn add_copy(parts: TaskParts<'_>, copy: usize, requests: &mut Vec<Request>) -> Result<(), NoMemory>
     requires parts { AreInRange parts }
     requires copy { copy < length parts.copies.now }
     ensures { OnOk result ((r : ARequest) → Contains requests.new.items r
@@ -77,10 +73,7 @@ fn add_copy(
 }
 
 // Adds the requests of all copies.
-pub(crate) fn add_copies(
-    parts: TaskParts<'_>,
-    requests: &mut Vec<Request>,
-) -> Result<(), NoMemory>
+pub(crate) fn add_copies(parts: TaskParts<'_>, requests: &mut Vec<Request>) -> Result<(), NoMemory>
     requires { AreInRange parts }
     ensures { OnOk result ((r : ARequest) → Contains requests.new.items r
         ↔ (Contains requests.old.items r ⊎ IsAskedBelow parts.entry.number parts.entry.edges.now

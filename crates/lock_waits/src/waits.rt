@@ -16,11 +16,7 @@ use tm_terms::Place;
 
 /// The places of locks at which tasks may wait for each other in a ring, as the tables of a program's bodies tell: those
 /// of circular requests, in order and without repeats.
-pub fn circular(
-    alloc: Global,
-    program: &Program,
-    tables: &[Table],
-) -> Result<Vec<Place>, NoMemory>
+pub fn circular(alloc: Global, program: &Program, tables: &[Table]) -> Result<Vec<Place>, NoMemory>
     requires analysable { IsAnalysable program.now }
     requires tables { HaveTables program.now (lists_of tables.now) }
     ensures { IfOk result (λ places. (facts : AllFacts) → AreProgramFacts program.now facts

@@ -1,5 +1,4 @@
 -- Chains: joined, turned round, and around a circle.
-use Rattle.std.proofs.Common.{◌≡◌, ℕ}
 use Rattle.tm_soundness.specs.Known.{Chain, one_step, more_steps}
 
 pub joined : {A : Type 0} (R : A → A → Type 0) (a b c : A) → Chain R a b → Chain R b c → Chain R a c

@@ -1,5 +1,5 @@
 -- A request is circular exactly where it is reached from itself over those that are left.
-use Rattle.std.proofs.Common.{◌≡◌, ◌⊎◌, ℕ, ◌<◌, refl, sym, subst, ◌∙◌, inl, inr, Bool, true, false, List, length, set}
+use Rattle.std.proofs.Common.{◌⊎◌, ℕ, ◌<◌, refl, sym, subst, ◌∙◌, inl, inr, Bool, true, false, List, length, set}
 use Rattle.std.proofs.lemmas.Bool.{cases_eq}
 use Rattle.std.proofs.lemmas.List.{length-set}
 use Rattle.tm_soundness.specs.Known.{Chain, one_step, more_steps}

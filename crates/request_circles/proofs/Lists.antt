@@ -1,6 +1,6 @@
 -- Lists of places in order are equal where they have the same places.
-use Rattle.std.proofs.Common.{◌≡◌, ◌⊎◌, ℕ, zero, suc, ◌<◌, refl, ap, sym, subst, ◌∙◌, inl, inr, List, [], ◌∷◌}
-use Rattle.std.proofs.Common.{length, get_or, arith}
+use Rattle.std.proofs.Common.{◌≡◌, ◌⊎◌, zero, suc, refl, sym, subst, ◌∙◌, inl, inr, List, [], ◌∷◌}
+use Rattle.std.proofs.Common.{arith}
 use Rattle.std.specs.Prelude.{Contains}
 use Rattle.tm_terms.specs.declared.places.Place.{Place}
 use Rattle.place_lists.specs.Order.{PlaceBefore, AreInOrder}

@@ -1,8 +1,6 @@
 -- Requests of a list and their numbers: a request is circular exactly where its number is.
-use Rattle.std.proofs.Common.{◌≡◌, ◌↔◌, ◌⊎◌, ℕ, ◌+◌, ◌<◌, refl, ap, sym, subst, ◌∙◌, inl, inr, Bool, true, List, length}
-use Rattle.std.proofs.Common.{get_or, arith}
+use Rattle.std.proofs.Common.{◌≡◌, ◌↔◌, ℕ, ◌<◌, ap, sym, subst, ◌∙◌, Bool, true, List, length}
 use Rattle.std.specs.Prelude.{Contains}
-use Rattle.std.proofs.lemmas.Bool.{cases_eq}
 use Rattle.std.proofs.lemmas.List.{get_or_default}
 use Rattle.tm_terms.specs.declared.places.Place.{Place}
 use Rattle.tm_soundness.specs.Known.{Chain, one_step, more_steps}
@@ -10,7 +8,6 @@ use Rattle.request_circles.specs.declared.requests.Request.{Request}
 use Rattle.request_circles.specs.Requests.{LeadsTo, Leads, IsCircular, IsCircularPlace}
 use Rattle.request_circles.specs.reading.Steps.{no_request, request_at, IsMarked, IsStep, IsOnCircle}
 use Rattle.request_circles.specs.reading.Circles.{IsPlaceOf}
-use Rattle.request_circles.proofs.Circling.{circle_within}
 
 -- the request with a number
 pub record IsNumbered (requests : List Request) (r : Request) : Type 0 where

@@ -1,6 +1,5 @@
 -- Where there are the same requests, the same places are listed; and they are one list.
 use Rattle.std.proofs.Common.{◌≡◌, ◌↔◌, List}
-use Rattle.std.specs.Prelude.{Contains}
 use Rattle.tm_terms.specs.declared.places.Place.{Place}
 use Rattle.request_circles.specs.declared.requests.Request.{Request}
 use Rattle.request_circles.specs.Requests.{Leads, IsCircularPlace, AreCircularPlaces}

@@ -1,5 +1,5 @@
 -- A circular request leads to a circular one, and one leads to it.
-use Rattle.std.proofs.Common.{◌≡◌, ◌⊎◌, ℕ, ◌+◌, ◌<◌, ◌≤◌, refl, sym, subst, ◌∙◌, inl, inr, Bool, true, false, List, length}
+use Rattle.std.proofs.Common.{◌≡◌, ℕ, refl, subst, ◌∙◌, inl, inr, Bool, true, false, List}
 use Rattle.std.proofs.Common.{set, arith}
 use Rattle.std.proofs.lemmas.Bool.{cases_eq}
 use Rattle.std.proofs.lemmas.List.{length-set}
@@ -9,7 +9,7 @@ use Rattle.tm_soundness.specs.Known.{Chain}
 use Rattle.request_circles.specs.declared.requests.Request.{Request}
 use Rattle.request_circles.specs.Requests.{LeadsTo}
 use Rattle.request_circles.specs.reading.Steps.{request_at, IsMarked, IsStep, IsOnCircle, AreLeft}
-use Rattle.request_circles.specs.reading.Trims.{marked, HasStep, IsLoose, IsTrimmed}
+use Rattle.request_circles.specs.reading.Trims.{HasStep, IsLoose, IsTrimmed}
 use Rattle.request_circles.proofs.Chains.{turned, next}
 use Rattle.request_circles.proofs.Marks.{dropped_other, count_dropped}
 
@@ -43,12 +43,15 @@ module _ (requests : List Request) where
     -- none leads to one that holds nothing
     pub loose_empty : (k : ℕ) → IsMarked left k → (let r = request_at requests k in r.held ≡ 0)
         → IsLoose requests left k
-    loose_empty k m empty = loose k m (λ a b.
-    let h : IsStep requests false k b.to = (let s = b.step in s.step) in
-    let joins : LeadsTo (request_at requests b.to) (request_at requests k) = h.joins in
-    let r = request_at requests b.to in
-    let none : bit_at 0 r.mutex ≡ 1 = subst (λ l. bit_at l r.mutex ≡ 1) empty joins.holds in
-    let zero = bit_at-zero r.mutex in omega (arith, none, zero))
+    loose_empty k m empty = loose k m (λ a b. never b)
+      where
+        never : HasStep requests left false k → ⊥
+        never b =
+            let r = request_at requests b.to in
+            let h : IsStep requests false k b.to = (let s = b.step in s.step) in
+            let joins : LeadsTo r (request_at requests k) = h.joins in
+            let none : bit_at 0 r.mutex ≡ 1 = subst (λ l. bit_at l r.mutex ≡ 1) empty joins.holds in
+            let zero = bit_at-zero r.mutex in omega (arith, none, zero)
 
   -- nothing is taken away
   pub not_trimmed : (left : List Bool) → AreLeft requests left → IsTrimmed requests left left false

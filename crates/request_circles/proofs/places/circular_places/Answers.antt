@@ -1,4 +1,4 @@
-use Rattle.std.proofs.Common.{◌≡◌, ◌↔◌}
+use Rattle.std.proofs.Common.{◌↔◌}
 use Rattle.std.specs.Prelude.{Contains}
 use Rattle.tm_terms.specs.declared.places.Place.{Place as APlace}
 use Rattle.place_lists.specs.Order.{AreInOrder}

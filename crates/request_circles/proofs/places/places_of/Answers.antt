@@ -1,6 +1,5 @@
 use Rattle.std.proofs.Common.{◌≡◌, ◌↔◌, ◌+◌, refl, sym, subst, length, ◌∙◌, true, false, arith}
 use Rattle.std.specs.Prelude.{Contains}
-use Rattle.std.specs.declared.vec.Vec.{Vec}
 use Rattle.request_circles.proofs.Ordered.{IsPlaceBelow, place_pushed, place_left, place_end}
 use Rattle.request_circles.proofs.places.places_of.Goals as goal
 use Rattle.request_circles.proofs.places.places_of.Goals.{then-has+in_ok-push_place, else-has}

@@ -1,4 +1,4 @@
-use Rattle.std.proofs.Common.{◌≡◌, ◌++◌, ◌∷◌, [], set, sym, subst, true, arith}
+use Rattle.std.proofs.Common.{◌≡◌, set, sym, subst, true}
 use Rattle.request_circles.specs.reading.Searches.{HasVisited}
 use Rattle.request_circles.proofs.Marks.{not_marked}
 use Rattle.request_circles.proofs.Searching.{visits_new}

@@ -1,13 +1,13 @@
-use Rattle.std.proofs.Common.{◌≡◌, sym, ◌∙◌, Bool, true, false}
+use Rattle.std.proofs.Common.{◌≡◌, sym, ◌∙◌, true, false}
 use Rattle.request_circles.proofs.Marks.{no_more}
 use Rattle.request_circles.proofs.Trimming.{loose, loose_empty}
 use Rattle.request_circles.proofs.trims.is_loose.Goals as goal
 use Rattle.request_circles.proofs.trims.is_loose.Goals.{then-has_step, else-has_step}
 
-pub returns-then-held-eq0 : goal.returns-then-held-eq0
-returns-then-held-eq0 c = λ t.
+pub returns-then-requests-number-eq0 : goal.returns-then-requests-number-eq0
+returns-then-requests-number-eq0 c = λ t.
     loose_empty c.args.requests.now c.args.left.now.marks.items c.requires.left c.args.number
-    (c.has.ensures.0 c.if-not-has.false) c.if-held-eq0.true
+    (c.has.ensures.0 c.if-not-has.false) c.if-requests-number-eq0.true
 
 pub returns : goal.returns
 returns c = λ t.

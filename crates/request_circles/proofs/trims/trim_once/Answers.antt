@@ -1,4 +1,4 @@
-use Rattle.std.proofs.Common.{◌≡◌, sym, subst, Bool, true, List}
+use Rattle.std.proofs.Common.{sym, subst, Bool, true, List}
 use Rattle.request_circles.specs.declared.numbers.Numbers.{Numbers}
 use Rattle.request_circles.specs.reading.Trims.{IsTrimmed}
 use Rattle.request_circles.proofs.Trimming.{trimmed_more}
