@@ -1,6 +1,6 @@
 -- What is read of the task with a number.
-use Rattle.std.proofs.Common.{◌≡◌, ◌↔◌, ◌⊎◌, ℕ, ◌<◌, ◌≤◌, ◌^◌, ap, sym, subst, ◌∙◌, List, length, get_or, Option, Some, None}
-use Rattle.std.proofs.Common.{arith}
+use Rattle.std.proofs.Common.{◌≡◌, ◌↔◌, ◌⊎◌, ℕ, ◌<◌, ◌≤◌, ◌^◌, ap, sym, subst, ◌∙◌, List, length}
+use Rattle.std.proofs.Common.{get_or, Option, None, arith}
 use Rattle.std.proofs.lemmas.List.{get_or_default}
 use Rattle.flow_graph.specs.declared.graphs.Edge.{Edge}
 use Rattle.flow_graph.specs.declared.graphs.Graph.{Graph}

@@ -14,8 +14,8 @@ use std::alloc::Global;
 use tm_lattice::NoMemory;
 use tm_terms::Place;
 
-/// The places of locks at which tasks may wait for each other in a ring, as the tables of a program's bodies tell: those
-/// of circular requests, in order and without repeats.
+/// The places of locks at which tasks may wait for each other in a ring, as the tables of a program's bodies tell:
+/// those of circular requests, in order and without repeats.
 pub fn circular(alloc: Global, program: &Program, tables: &[Table]) -> Result<Vec<Place>, NoMemory>
     requires analysable { IsAnalysable program.now }
     requires tables { HaveTables program.now (lists_of tables.now) }

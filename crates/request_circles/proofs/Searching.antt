@@ -118,7 +118,8 @@ module _ (requests : List Request) (left : List Bool) (ahead : Bool) (from : ℕ
       | inr e ↦ inl (sym e)
     ];
     closed = λ k h. elim h [
-      | inl e ↦ inl (subst (λ ws. Contains ws k) (sym is) (subst (λ j. Contains (from ∷ []) j) (sym e) (Contains-push [] from)))
+      | inl e ↦ inl (subst (λ ws. Contains ws k) (sym is)
+          (subst (λ j. Contains (from ∷ []) j) (sym e) (Contains-push [] from)))
       | inr m ↦ absurd (none k m)
     ];
   }

@@ -1,7 +1,7 @@
 -- Rings of tasks that wait for each other, and the places at which they do.
 --
--- The task a locks m and then n, the task b locks n and then m. Where a holds m and is blocked at n, and b holds n and is
--- blocked at m, the ring is a, b: a waits for b, and b for a. Each is about to act at its second lock.
+-- The task a locks m and then n, the task b locks n and then m. Where a holds m and is blocked at n, and b holds n and
+-- is blocked at m, the ring is a, b: a waits for b, and b for a. Each is about to act at its second lock.
 use Rattle.std.specs.Prelude.{◌≡◌, ℕ, List, [], ◌∷◌, Contains}
 use Rattle.sound_tables.specs.tm_terms.declared.places.Place.{Place}
 use Rattle.sound_tables.specs.tm_laid.Layouts.{LaidTree}

@@ -72,8 +72,8 @@ pub fn contents_are_told()
         → IsPair p tables store → (w : World) → IsReached laid w → HoldsAllTold p tables store w }
 {}
 
-/// Whatever ring of tasks there is in a world that a run reaches, the place of the lock at which each of them is blocked
-/// is one of the waits of every solution.
+/// Whatever ring of tasks there is in a world that a run reaches, the place of the lock at which each of them is
+/// blocked is one of the waits of every solution.
 pub fn rings_are_listed()
     ensures { (laid : LaidTree) (p : ProgramBodies) → IsProgramFrom laid p → (is : IsProgram p)
         → length laid.objects ≤ 2 ^ 32 → (tables : List (List (Option State))) (store : Interferences)

@@ -10,7 +10,8 @@ loop-number-preserved c = λ q.
     let numbers = c.args.numbers.now.marks.items in
     let n = c.loop-number.number in
     elim c.if-has.branch [
-      | then-has+in_ok-push_place w ↦ subst (λ v. Contains v.items q ↔ IsPlaceBelow requests numbers (n + 1) q) (sym w.places-is)
+      | then-has+in_ok-push_place w ↦ subst (λ v. Contains v.items q ↔ IsPlaceBelow requests numbers (n + 1) q)
+          (sym w.places-is)
           (place_pushed requests numbers n q _ (Contains c.loop-number.places.items q)
           (Contains w.push_place.new.places.items q) (c.has.ensures.0 w.if-has.true) refl
           (w.in_ok-push_place.ensures q) (c.loop-number.invariant q))

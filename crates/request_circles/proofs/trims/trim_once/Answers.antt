@@ -12,12 +12,14 @@ loop-number-preserved c =
     let left = c.loop-number.left.marks.items in
     let k = c.loop-number.number in
     elim c.if-is_loose.branch [
-      | then-is_loose w ↦ subst (λ (b : Bool). IsTrimmed requests first c.if-is_loose.left.marks.items b) (sym w.trimmed-is)
+      | then-is_loose w ↦ subst (λ (b : Bool). IsTrimmed requests first c.if-is_loose.left.marks.items b)
+          (sym w.trimmed-is)
           (subst (λ (n : Numbers). IsTrimmed requests first n.marks.items true) (sym w.left-is)
           (subst (λ (ms : List Bool). IsTrimmed requests first ms true) (sym w.put.ensures)
           (trimmed_more requests first left c.loop-number.trimmed k c.loop-number.invariant
           (c.is_loose.ensures w.if-is_loose.true))))
-      | else-is_loose w ↦ subst (λ (b : Bool). IsTrimmed requests first c.if-is_loose.left.marks.items b) (sym w.trimmed-is)
+      | else-is_loose w ↦ subst (λ (b : Bool). IsTrimmed requests first c.if-is_loose.left.marks.items b)
+          (sym w.trimmed-is)
           (subst (λ (n : Numbers). IsTrimmed requests first n.marks.items c.loop-number.trimmed) (sym w.left-is)
           c.loop-number.invariant)
     ]
