@@ -2,10 +2,10 @@
  *
  *     gcc -m32 -std=c11 -ffreestanding -fsyntax-only vectors/integers.c
  *
- * It prints nothing where all hold. 32-bit x86 has the data model of the analyser: char signed with 8
- * bits, short 16, int and long 32, long long 64, a signed conversion that wraps, and a right shift of a
- * negative value that rounds down. What C99 leaves undefined (a division by zero, a bad shift) stands in
- * the test alone, from the standard's text. */
+ * It prints nothing where all hold. What stands here, 32-bit x86 has as the analyser does: char signed
+ * with 8 bits, short 16, int and long 32, long long 64, a signed conversion that wraps, and a right shift
+ * of a negative value that rounds down. data_model.c asks for alignment and enumerations too. What C99
+ * leaves undefined (a division by zero, a bad shift) stands in the test alone, from the standard's text. */
 
 #define PROMOTES(a, t) _Static_assert(_Generic(+(a)0, t: 1, default: 0), #a)
 #define USUAL(a, b, t) _Static_assert(_Generic((a)0 + (b)0, t: 1, default: 0), #a " with " #b)

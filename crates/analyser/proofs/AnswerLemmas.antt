@@ -8,9 +8,9 @@ use Rattle.big_source.specs.GeneratedSources.{summary_text}
 use Rattle.tm_terms.specs.declared.alarms.Alarm.{Alarm}
 use Rattle.tm_terms.specs.declared.refusals.Refusal.{Refusal}
 use Rattle.tm_terms.specs.Texts.{refusal_text}
-use Rattle.source_programs.specs.LaidSources.{longest_source}
-use Rattle.source_programs.specs.Sources.{IsRefused, too_long, not_lexed, not_parsed}
-use Rattle.source_programs.specs.Sources.{not_typed, not_laid, not_prepared}
+use Rattle.source_replays.specs.source_programs.LaidSources.{longest_source}
+use Rattle.source_replays.specs.source_programs.Sources.{IsRefused, too_long, not_lexed, not_parsed}
+use Rattle.source_replays.specs.source_programs.Sources.{not_typed, not_laid, not_prepared}
 use Rattle.source_replays.specs.declared.replays.Outcome.{Outcome}
 use Rattle.source_replays.specs.declared.replays.Outcome.TheVariants as Outcomes
 use Rattle.source_replays.proofs.Alike.{long_ones_are_alike}
@@ -19,9 +19,9 @@ use Rattle.program_streams.specs.declared.statuses.Status.TheVariants.{NoAlarm, 
 use Rattle.analyser.specs.Answers.{Reports, WritesReport, HistoryFor, HasAnswer, HasSummary, IsGenerated}
 use Rattle.analyser.specs.Answers.{IsReplayed, replay_status, IsReadOut, report_lines}
 use Rattle.analyser.specs.Taken.{Answers, TakesNoMore, Told}
-use Rattle.analyser.specs.Findings.{HasFinding, Solves}
-use Rattle.analyser.specs.declared.findings.Finding.{Finding}
-use Rattle.analyser.proofs.FoundLemmas.{solved_by}
+use Rattle.source_findings.specs.Findings.{HasFinding, Solves}
+use Rattle.source_findings.specs.declared.findings.Finding.{Finding}
+use Rattle.source_findings.proofs.Solved.{solved_by}
 use Rattle.analyser.specs.Statuses.{IsWhole}
 use Rattle.analyser.specs.reading.Replies.{TellsAlarms}
 use Rattle.analyser.specs.reading.Streams.{Says, SaysNoMore}

@@ -9,9 +9,9 @@ use Rattle.cmd_words.specs.declared.commands.DemoWords.{DemoWords}
 use Rattle.big_source.specs.GeneratedSources.{source_text}
 use Rattle.tm_terms.specs.declared.alarms.Alarm.{Alarm}
 use Rattle.tm_terms.specs.declared.refusals.Refusal.{Refusal}
-use Rattle.thread_pass.specs.program_equations.Programs.{ProgramBodies}
-use Rattle.source_programs.specs.Sources.{IsAccepted, IsRefused}
-use Rattle.source_programs.proofs.OneSource.{none_is_both}
+use Rattle.worker_solutions.specs.program_equations.Programs.{ProgramBodies}
+use Rattle.source_replays.specs.source_programs.Sources.{IsAccepted, IsRefused}
+use Rattle.source_replays.proofs.low.source_programs.OneSource.{none_is_both}
 use Rattle.source_replays.specs.declared.replays.Outcome.{Outcome}
 use Rattle.source_replays.specs.declared.replays.Outcome.TheVariants as Outcomes
 use Rattle.source_replays.specs.Replays.{IsRefusedReplay, HasReplay, TellsRefusal, AsksForNone}
@@ -22,10 +22,10 @@ use Rattle.analyser.specs.Answers.{Reports, WritesReport, HasAnswer, HasSummary,
 use Rattle.analyser.specs.Answers.{IsReplayed, AsksForRun, replay_status}
 use Rattle.analyser.specs.Answers.{IsCommand, Reads, AnswersFor, Accepts, Refuses}
 use Rattle.analyser.specs.Taken.{Answers, TakesNoMore, Told}
-use Rattle.analyser.specs.Findings.{HasFinding, Solves}
-use Rattle.analyser.specs.declared.findings.Finding.{Finding}
-use Rattle.analyser.specs.declared.findings.Finding.TheVariants as Findings
-use Rattle.analyser.proofs.FoundLemmas.{solved_by}
+use Rattle.source_findings.specs.Findings.{HasFinding, Solves}
+use Rattle.source_findings.specs.declared.findings.Finding.{Finding}
+use Rattle.source_findings.specs.declared.findings.Finding.TheVariants as Findings
+use Rattle.source_findings.proofs.Solved.{solved_by}
 use Rattle.analyser.specs.Statuses.{IsReported, IsSinkStop, IsStop, IsWhole}
 use Rattle.analyser.specs.reading.Streams.{Says, SaysFront, SaysNoMore}
 

@@ -3,7 +3,7 @@ use Rattle.std.proofs.Common.{◌≡◌, ℕ, List, [], Bool, true, false, sym, 
 use Rattle.history_lines.specs.HistoryTexts.{history_text}
 use Rattle.store_core.specs.Histories.{Past}
 use Rattle.interfere_set.specs.Stores.{Interferences}
-use Rattle.thread_pass.specs.program_equations.Programs.{ProgramBodies}
+use Rattle.worker_solutions.specs.program_equations.Programs.{ProgramBodies}
 use Rattle.worker_solutions.specs.QuietHistories.{IsQuietHistory}
 use Rattle.analyser.specs.Answers.{HistoryFor}
 use Rattle.analyser.specs.reading.Replies.{AreLines}

@@ -1,11 +1,10 @@
 -- Answers to bytes and texts that are sent (AnswerLemmas); from the answer of a command to that of words (CommandLemmas),
--- which ask for 1 to 16 workers, or for none (AskedWorkers); the lines of histories (HistoryLines); what least solutions
--- tell (FoundLemmas); a source has one report (OneReport), in which each error stands (Sound), and that is what the
--- answer to `analyse` promises of runs (SoundAnswers).
+-- which ask for 1 to 16 workers, or for none (AskedWorkers); the lines of histories (HistoryLines); a source has one
+-- report (OneReport), in which each error stands (Sound), and that is what the answer to `analyse` promises of runs
+-- (SoundAnswers).
 pub mod AnswerLemmas
 pub mod CommandLemmas
 pub mod AskedWorkers
-pub mod FoundLemmas
 pub mod HistoryLines
 pub mod OneReport
 pub mod Sound

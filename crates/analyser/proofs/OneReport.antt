@@ -1,10 +1,10 @@
 -- A source has one report.
 use Rattle.std.proofs.Common.{subst}
-use Rattle.thread_pass.specs.program_equations.Programs.{ProgramBodies}
-use Rattle.program_solutions.specs.LeastReports.{IsLeastReport}
-use Rattle.program_solutions.proofs.OneReport.{one_least_report}
-use Rattle.source_programs.proofs.Accepted.{accepted_is_program}
-use Rattle.source_programs.proofs.OneSource.{one_program}
+use Rattle.worker_solutions.specs.program_equations.Programs.{ProgramBodies}
+use Rattle.worker_solutions.specs.program_solutions.LeastReports.{IsLeastReport}
+use Rattle.worker_solutions.proofs.low.program_solutions.OneReport.{one_least_report}
+use Rattle.source_replays.proofs.low.source_programs.Accepted.{accepted_is_program}
+use Rattle.source_replays.proofs.low.source_programs.OneSource.{one_program}
 use Rattle.analyser.specs.Laws.{OneReport}
 
 pub one_report : OneReport

@@ -2,9 +2,9 @@
 use Rattle.std.specs.Prelude.{◌≡◌, ℕ, ◌<◌, ◌⊎◌, Bool, true, false, List, [], ◌∷◌, ◌++◌, length, Option, Some, None}
 use Rattle.std.specs.Prelude.{IfSome, Contains, nat_lt, ◌||◌}
 use Rattle.std.specs.Io.KnownBytes.{IsAtEnd}
-use Rattle.analyser.specs.Findings.{HasFinding}
+use Rattle.source_findings.specs.Findings.{HasFinding}
 use Rattle.analyser.specs.Soundness.{ListsAll}
-use Rattle.analyser.specs.declared.findings.Finding.TheVariants as Findings
+use Rattle.source_findings.specs.declared.findings.Finding.TheVariants as Findings
 use Rattle.cmd_words.specs.declared.commands.AnalyseWords.{AnalyseWords}
 use Rattle.cmd_words.specs.declared.commands.Command.{Command}
 use Rattle.cmd_words.specs.declared.commands.Command.TheVariants.{Analyse, Replay, Generate, Demo, Waits, Ranges}
@@ -21,14 +21,14 @@ use Rattle.tm_terms.specs.declared.alarms.Alarm.{Alarm}
 use Rattle.tm_terms.specs.declared.places.Place.{Place}
 use Rattle.tm_terms.specs.declared.refusals.Refusal.{Refusal}
 use Rattle.tm_terms.specs.Texts.{report_text, refusal_text, usage_text}
-use Rattle.thread_pass.specs.tm_laid.Layouts.{LaidTree}
-use Rattle.sound_core.specs.concrete_steps.Occurring.{Occurs}
-use Rattle.thread_pass.specs.program_equations.Programs.{ProgramBodies}
+use Rattle.worker_solutions.specs.tm_laid.Layouts.{LaidTree}
+use Rattle.concrete_steps.specs.Occurring.{Occurs}
+use Rattle.worker_solutions.specs.program_equations.Programs.{ProgramBodies}
 use Rattle.interfere_set.specs.Stores.{Interferences}
 use Rattle.worker_solutions.specs.QuietHistories.{IsQuietHistory}
-use Rattle.source_programs.specs.LaidSources.{longest_source}
-use Rattle.source_programs.specs.Sources.{IsAccepted, IsRefused}
-use Rattle.program_solutions.specs.LeastReports.{IsLeastReport}
+use Rattle.source_replays.specs.source_programs.LaidSources.{longest_source}
+use Rattle.source_replays.specs.source_programs.Sources.{IsAccepted, IsRefused}
+use Rattle.worker_solutions.specs.program_solutions.LeastReports.{IsLeastReport}
 use Rattle.source_replays.specs.declared.replays.Outcome.{Outcome}
 use Rattle.source_replays.specs.declared.replays.Outcome.TheVariants as Outcomes
 use Rattle.source_replays.specs.Replays.{IsReplayable, IsRefusedReplay, HasReplay}

@@ -1,7 +1,6 @@
--- Which answers words and bytes may get (Answers, Findings), what they promise of runs (Soundness), what a sink takes of
+-- Which answers words and bytes may get (Answers), what they promise of runs (Soundness), what a sink takes of
 -- them (Taken), which statuses they come with (Statuses), and that a report is one (Laws).
 pub mod Answers
-pub mod Findings
 pub mod Laws
 pub mod Soundness
 pub mod Statuses

@@ -10,9 +10,9 @@ use Rattle.tm_terms.specs.tm_cint.declared.Class.{Class}
 use Rattle.tm_terms.specs.declared.alarms.Alarm.{Alarm}
 use Rattle.tm_terms.specs.declared.places.Place.{Place}
 use Rattle.tm_terms.specs.Texts.{report_text}
-use Rattle.tm_laid.specs.Layouts.{LaidTree}
+use Rattle.worker_solutions.specs.tm_laid.Layouts.{LaidTree}
 use Rattle.concrete_steps.specs.Occurring.{Occurs}
-use Rattle.source_programs.specs.LaidSources.{IsLaidSource}
+use Rattle.source_replays.specs.source_programs.LaidSources.{IsLaidSource}
 use Rattle.program_streams.specs.declared.statuses.Status.{Status}
 use Rattle.program_streams.specs.declared.statuses.Status.TheVariants.{NoAlarm}
 

@@ -1,4 +1,3 @@
-pub mod Findings
 -- What the code computes: no clause of a public call names it.
 pub mod Manners
 pub mod Replies

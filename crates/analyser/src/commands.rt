@@ -9,17 +9,17 @@ ghost use Rattle.analyser.specs.Answers.{CommandGives, HasAnswer, HasSummary, Is
 ghost use Rattle.analyser.specs.Taken.{Answers};
 ghost use Rattle.analyser.specs.Answers.{IsReplayed, MayGive, Reads, SaysUsage};
 ghost use Rattle.analyser.specs.Taken.{TakesNoMore};
-ghost use Rattle.analyser.specs.Findings.{HasFinding};
+ghost use Rattle.source_findings.specs.Findings.{HasFinding};
 ghost use Rattle.analyser.specs.Statuses.{IsWhole};
 ghost use Rattle.analyser.specs.reading.Manners.{IsServed};
 ghost use Rattle.analyser.specs.reading.Streams.{Says, SaysNoMore};
 ghost use Rattle.program_streams.specs.Streams.{TakesFrontOf};
 
-use crate::findings::{Finding, finding_of};
 use crate::replies::{answer_to, generated, replayed, summarised};
 use crate::solvers::Solver;
 use cmd_words::{AnalyseWords, Command, DemoWords, read_words};
 use program_streams::{InputError, Status, read_whole, write_whole};
+use source_findings::{Finding, finding_of};
 use std::alloc::Global as Heap;
 use tm_io::{Sink, Source, Stop};
 use tm_lattice::NoMemory;

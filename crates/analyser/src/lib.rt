@@ -8,7 +8,6 @@
 #![tactic(auto)]
 
 mod commands;
-mod findings;
 pub mod laws;
 mod replies;
 mod solvers;

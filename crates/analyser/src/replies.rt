@@ -12,12 +12,11 @@ use big_source::{big_source, summary};
 use cmd_words::{AnalyseWords, DemoWords};
 use program_streams::Status;
 use report_json::report_json;
-use source_programs::source_program;
-use source_replays::{Outcome, replay};
+use source_replays::{Outcome, replay, source_program};
 use std::alloc::Global as Heap;
-use thread_pass::Analysis;
 use tm_lattice::NoMemory;
 use tm_terms::{Fail, Refusal, Report, plain as plain_text, refusal_line};
+use worker_solutions::Analysis;
 
 /// A status and the whole text that goes with it.
 #[derive(Drop)]

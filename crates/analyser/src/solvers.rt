@@ -1,21 +1,19 @@
 //! How a program is solved: on the calling thread, or by workers.
 
 ghost use Rattle.std.specs.Prelude.{◌≡◌, ℕ, Bool, IfOk, IsTrue, string_bytes};
-ghost use Rattle.thread_pass.specs.program_systems.ReadPrograms.{program_of};
+ghost use Rattle.worker_solutions.specs.program_systems.ReadPrograms.{program_of};
 ghost use Rattle.analyser.specs.reading.Manners.{AreFew, IsAlone};
 ghost use Rattle.analyser.specs.reading.Replies.{AreLines, IsSolved};
 
 use history_lines::history_lines;
-use program_solutions::least_report;
 use std::alloc::Global as Heap;
 use std::sync::Wait;
 use std::thread::Threads;
 use store_core::StoreCore;
-use thread_pass::Analysis;
 use tm_io::Gate;
 use tm_lattice::NoMemory;
 use tm_terms::Report;
-use worker_solutions::{WorkedOut, report_by_workers};
+use worker_solutions::{Analysis, WorkedOut, least_report, report_by_workers};
 
 /// How a program is to be solved.
 #[derive(Clone, Copy)]
@@ -101,7 +99,7 @@ pub(crate) struct Workers<F> {
 
 impl<F: Fn(Analysis, u32, bool) -> Result<Solved, NoMemory>> Solver for Workers<F> {
     ghost use Rattle.std.specs.Prelude.{IfOk};
-    ghost use Rattle.thread_pass.specs.program_systems.ReadPrograms.{ReadProgram, program_of};
+    ghost use Rattle.worker_solutions.specs.program_systems.ReadPrograms.{ReadProgram, program_of};
     ghost use Rattle.analyser.specs.reading.Replies.{IsSolved};
 
     ghost serves = { λ s workers history. (analysis : ReadProgram) → F.pre s.solve analysis workers history

@@ -8,7 +8,7 @@ ghost use Rattle.analyser.specs.Answers.{Accepts, AnswersFor, IsCommand, IsReadO
 ghost use Rattle.analyser.specs.Taken.{Answers};
 ghost use Rattle.analyser.specs.Answers.{asks_workers};
 ghost use Rattle.analyser.specs.Taken.{TakesNoMore};
-ghost use Rattle.thread_pass.specs.program_systems.ReadPrograms.{program_of};
+ghost use Rattle.worker_solutions.specs.program_systems.ReadPrograms.{program_of};
 ghost use Rattle.analyser.specs.Soundness.{AsksForReport, IsSound};
 ghost use Rattle.analyser.specs.Statuses.{IsReported, IsSinkStop, IsStop, IsWhole};
 ghost use Rattle.analyser.specs.reading.Manners.{AreFew};
@@ -21,9 +21,9 @@ use program_streams::Status;
 use std::alloc::Global as Heap;
 use std::sync::Wait;
 use std::thread::Threads;
-use thread_pass::Analysis;
 use tm_io::{Gate, Sink, Source};
 use tm_lattice::NoMemory;
+use worker_solutions::Analysis;
 
 /// Answers words and a source: the words are those of the command without the program's name; a command that reads the
 /// source reads it to its end or past the limit; and the text that goes with the status is written whole. The text is

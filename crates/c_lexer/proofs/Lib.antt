@@ -1,5 +1,6 @@
 pub mod DigitLemmas
 pub mod GapLemmas
+pub mod SpliceLemmas
 pub mod WordLemmas
 pub mod KeptLemmas
 pub mod NameLemmas

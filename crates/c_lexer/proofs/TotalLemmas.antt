@@ -7,7 +7,8 @@ use Rattle.std.proofs.Math.Bool.{and-false}
 use Rattle.std.proofs.lemmas.Bool.{cases_lt, eqb-true}
 use Rattle.std.proofs.lemmas.List.{get_or_past, length-drop}
 use Rattle.std.proofs.lemmas.List.Sums.{prefix_len-le-length}
-use Rattle.tm_terms.specs.Lexis.{is_blank, is_in_line, is_blank_in_line, behind, token, char_value, is_name_start, is_name_byte, is_number_byte, gap, word_piece, constant_of, front, number_piece, quoted, character_in, character, comment_end, comment, is_skipped_word, skipped_line, long_signs, double_signs, sign_in, longest_sign, sign_of, begins}
+use Rattle.tm_terms.specs.Lexis.{behind, token, char_value, is_name_start, is_name_byte, is_number_byte, gap, word_piece, constant_of, front, number_piece, quoted, character_in, character, comment_end, comment, line_comment, is_skipped_word, skipped_line, long_signs, double_signs, sign_in, longest_sign, sign_of, begins}
+use Rattle.tm_terms.specs.Splices.{is_blank, is_in_line, is_blank_in_line, is_spliced, is_spliced_slash, leaves_open}
 use Rattle.tm_terms.specs.Spelling.{Reading, at_start, read_past, next_reading, reading, with_first_names, Lexes, stops, spells, lexical, checked}
 use Rattle.tm_terms.specs.declared.refusals.Refusal.{Refusal}
 use Rattle.tm_terms.specs.declared.tokens.Piece.{Piece}
@@ -77,9 +78,19 @@ unfolding character
 character_fits text = chained text (quoted text) (character_in (drop 1 text)) (λ c _.
     either text (eqb (get_or text (c.1 + 1) 0) 39) (token (shape.Character (char_value c.0)) (c.1 + 2)) None (λ h. (omega arith, omega (arith, inside text (c.1 + 1) 39 (omega arith) h))) (λ _. tt))
 
+line_fits : (text : List ℕ) (b : ℕ) → 0 < length text → eqb (get_or text 0 0) b ≡ true → is_in_line b ≡ true → Fits text (gap (prefix_len is_in_line text))
+line_fits text b some h line = run_fits is_in_line text some (in_line (get_or text 0 0) b h line)
+
+line_comment_fits : (text : List ℕ) → 0 < length text → eqb (get_or text 0 0) 47 ≡ true → Fits text (line_comment text)
+line_comment_fits text some h = either text (is_spliced text) None (gap (prefix_len is_in_line text)) (λ _. tt) (λ _. line_fits text 47 some h refl)
+
 skipped_fits : (text : List ℕ) → 0 < length text → eqb (get_or text 0 0) 35 ≡ true → Fits text (skipped_line text)
 unfolding skipped_line
-skipped_fits text some h = either text (is_skipped_word (front is_name_byte (behind is_blank_in_line (drop 1 text)))) (gap (prefix_len is_in_line text)) None (λ _. run_fits is_in_line text some (in_line (get_or text 0 0) 35 h refl)) (λ _. tt)
+skipped_fits text some h =
+    let goes_on = is_spliced text || leaves_open (front is_in_line text) in
+    let line = gap (prefix_len is_in_line text) in
+    either text (is_skipped_word (front is_name_byte (behind is_blank_in_line (drop 1 text)))) (cond goes_on None line) None
+    (λ _. either text goes_on None line (λ _. tt) (λ _. line_fits text 35 some h refl)) (λ _. tt)
 
 right_of : (a b : Bool) → (a && b) ≡ true → b ≡ true
 right_of true b h = h
@@ -91,15 +102,17 @@ left_of false b h = cc
 
 comment_end_within : (k : ℕ) (text : List ℕ) (n : ℕ) → comment_end k text ≡ Some n → (k ≤ n) × (n ≤ k + length text)
 comment_end_within k [] n h = cc
-comment_end_within k (b ∷ text) n h = by_case (eqb b 42 && eqb (get_or text 0 0) 47) (λ t. ends t) h (comment_end_within (k + 1) text n)
+comment_end_within k (b ∷ text) n h =
+    by_case (eqb b 42 && eqb (get_or text 0 0) 47) (eqb b 42 && is_spliced_slash text) (λ t. ends t) h (comment_end_within (k + 1) text n)
   where
     ends : (eqb b 42 && eqb (get_or text 0 0) 47) ≡ true → 1 ≤ length text
     ends t = inside text 0 47 (omega arith) (right_of (eqb b 42) (eqb (get_or text 0 0) 47) t)
 
-    by_case : (t : Bool) → (t ≡ true → 1 ≤ length text) → cond t (Some (k + 2)) (comment_end (k + 1) text) ≡ Some n
+    by_case : (t hidden : Bool) → (t ≡ true → 1 ≤ length text) → cond t (Some (k + 2)) (cond hidden None (comment_end (k + 1) text)) ≡ Some n
         → (comment_end (k + 1) text ≡ Some n → (k + 1 ≤ n) × (n ≤ k + 1 + length text)) → (k ≤ n) × (n ≤ k + suc (length text))
-    by_case true short e rest = let same : k + 2 ≡ n = cc in let one = short refl in (omega arith, omega arith)
-    by_case false short e rest = let later = rest e in (omega arith, omega arith)
+    by_case true hidden short e rest = let same : k + 2 ≡ n = cc in let one = short refl in (omega arith, omega arith)
+    by_case false true short e rest = cc
+    by_case false false short e rest = let later = rest e in (omega arith, omega arith)
 
 comment_fits : (text : List ℕ) → eqb (get_or text 1 0) 42 ≡ true → Fits text (comment text)
 unfolding comment
@@ -161,14 +174,14 @@ unfolding begins
 begins_fits at bare text =
     let a = get_or text 0 0 in let b = get_or text 1 0 in
     choices text (eqb (length text) 0) (is_blank a) (is_name_start a) (is_ascii_digit a) (eqb a 39) (eqb a 35) (eqb a 47 && eqb b 42) (eqb a 47 && eqb b 47)
-    (gap 1) (word_piece at text) (number_piece text) (character text) (cond bare (skipped_line text) None) (comment text) (gap (prefix_len is_in_line text)) (sign_of text)
+    (gap 1) (word_piece at text) (number_piece text) (character text) (cond bare (skipped_line text) None) (comment text) (line_comment text) (sign_of text)
     (λ n _. (omega arith, some_byte text n))
     (λ n h. word_fits at text (some_byte text n) h)
     (λ n h. number_fits text (some_byte text n) h)
     (character_fits text)
     (λ n h. either text bare (skipped_line text) None (λ _. skipped_fits text (some_byte text n) h) (λ _. tt))
     (λ h. comment_fits text (right_of (eqb a 47) (eqb b 42) h))
-    (λ n h. run_fits is_in_line text (some_byte text n) (in_line a 47 (left_of (eqb a 47) (eqb b 47) h) refl))
+    (λ n h. line_comment_fits text (some_byte text n) (left_of (eqb a 47) (eqb b 47) h))
     (λ n. sign_fits text (some_byte text n))
 
 -- ## Each source has an answer

@@ -1,9 +1,10 @@
 ghost use Rattle.std.specs.Prelude.{◌≡◌, ◌+◌, ◌<◌, ◌≤◌, length, slice_index, IfSome, None};
 ghost use Rattle.std.specs.List.{list_all};
 ghost use Rattle.std.specs.Char.{is_ascii_digit};
-ghost use Rattle.tm_terms.specs.Lexis.{comment, comment_end, is_skipped_word, skipped_line};
+ghost use Rattle.tm_terms.specs.Lexis.{comment, comment_end, is_skipped_word, line_comment, skipped_line};
 
 use crate::runs::{Run, behind, byte_at, front, run_length};
+use crate::splices::{is_spliced, is_spliced_slash, leaves_open};
 use tm_terms::Piece;
 
 // A gap of so many bytes.
@@ -16,7 +17,8 @@ fn gap(length: usize) -> Piece
     }
 }
 
-// Where the first `*/` of a text ends, with its bytes counted from `start`.
+// Where the first `*/` of a text ends, with its bytes counted from `start`; nothing where joined lines would end the
+// comment before.
 fn comment_end(text: &[u8], start: usize) -> Option<usize>
     requires { start ≤ 2 }
     ensures value { result ≡ comment_end start text.now }
@@ -26,11 +28,14 @@ fn comment_end(text: &[u8], start: usize) -> Option<usize>
         if text[i] == b'*' && byte_at(text, i + 1) == b'/' {
             return Some(start + i + 2);
         }
+        if text[i] == b'*' && is_spliced_slash(behind(text, i + 1)) {
+            return None;
+        }
     }
     None
 }
 
-/// The comment of the form `/* .. */` that begins the text, if it ends.
+/// The comment of the form `/* .. */` that begins the text, if it ends, and ends where it did if lines were joined.
 #[tactic(auto, unfolding(tm_terms::specs::Lexis::comment))]
 pub fn comment(text: &[u8]) -> Option<Piece>
     ensures value { result ≡ comment text.now }
@@ -41,6 +46,18 @@ pub fn comment(text: &[u8]) -> Option<Piece>
     }
     let end = comment_end(&text[2..], 2)?;
     Some(gap(end))
+}
+
+/// The comment that `//` begins, if no splice joins the next line to it.
+pub fn line_comment(text: &[u8]) -> Option<Piece>
+    ensures value { result ≡ line_comment text.now }
+    ensures within { IfSome result (λ p. p.length ≤ length text.now) }
+    ensures some { slice_index text.now 0 ≡ 47 → IfSome result (λ p. 0 < p.length) }
+{
+    if is_spliced(text) {
+        return None;
+    }
+    Some(gap(run_length(text, Run::Line)))
 }
 
 fn are_digits(word: &[u8]) -> bool
@@ -57,7 +74,7 @@ fn is_skipped_word(word: &[u8]) -> bool
         || (!word.is_empty() && are_digits(word))
 }
 
-/// The line that `#` begins, if it is skipped.
+/// The line that `#` begins, if it is skipped, and goes on in the next line by no splice and no comment.
 #[tactic(auto, unfolding(tm_terms::specs::Lexis::skipped_line))]
 pub fn skipped_line(text: &[u8]) -> Option<Piece>
     ensures value { result ≡ skipped_line text.now }
@@ -67,9 +84,12 @@ pub fn skipped_line(text: &[u8]) -> Option<Piece>
     let rest = behind(text, 1);
     let rest = behind(rest, run_length(rest, Run::Blanks));
     let word = front(rest, run_length(rest, Run::Name));
-    if is_skipped_word(word) {
-        Some(gap(run_length(text, Run::Line)))
-    } else {
-        None
+    if !is_skipped_word(word) {
+        return None;
     }
+    let length = run_length(text, Run::Line);
+    if is_spliced(text) || leaves_open(front(text, length)) {
+        return None;
+    }
+    Some(gap(length))
 }

@@ -15,6 +15,7 @@ mod places;
 mod readings;
 mod runs;
 mod signs;
+mod splices;
 mod words;
 
 pub use lexing::lex;

@@ -5,7 +5,7 @@ ghost use Rattle.tm_terms.specs.declared.refusals.Limit.TheVariants as Limits;
 
 use crate::characters::character;
 use crate::constants::constant_of;
-use crate::gaps::{comment, skipped_line};
+use crate::gaps::{comment, line_comment, skipped_line};
 use crate::runs::{Run, byte_at, front, is_blank, is_name_start, run_length};
 use crate::signs::sign_of;
 use crate::words::word_of;
@@ -85,10 +85,7 @@ pub fn begins(at: u32, bare: bool, text: &[u8]) -> Option<Piece>
     } else if first == b'/' && second == b'*' {
         comment(text)
     } else if first == b'/' && second == b'/' {
-        Some(Piece {
-            shape: None,
-            length: run_length(text, Run::Line),
-        })
+        line_comment(text)
     } else {
         sign_of(text)
     }

@@ -1,6 +1,7 @@
 ghost use Rattle.std.specs.Prelude.{◌≡◌, ◌<◌, ◌≤◌, true, length, take, drop, slice_index};
 ghost use Rattle.std.specs.List.{prefix_len};
-ghost use Rattle.tm_terms.specs.Lexis.{digit_value, is_blank, is_digit_in, is_name_byte, is_name_start};
+ghost use Rattle.tm_terms.specs.Lexis.{digit_value, is_digit_in, is_name_byte, is_name_start};
+ghost use Rattle.tm_terms.specs.Splices.{is_blank};
 ghost use Rattle.c_lexer.specs.reading.Runs.{belongs};
 
 /// A kind of run of bytes.

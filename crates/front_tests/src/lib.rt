@@ -13,4 +13,6 @@ mod lines;
 #[cfg(test)]
 mod sources;
 #[cfg(test)]
+mod splices;
+#[cfg(test)]
 mod tokens;

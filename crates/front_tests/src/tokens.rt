@@ -122,8 +122,8 @@ static TAKEN: [(&[u8], &[Token]); 38] = [
             sign!(2, 6, Semicolon),
         ],
     ),
-    (b"  #\t line 3 /*\n\nb", &[name!(3, 1, 16, 1)]),
-    (b"#pragma x\\\na", &[name!(2, 1, 11, 1)]),
+    (b"  #\t line 3 /**/\n\nb", &[name!(3, 1, 18, 1)]),
+    (b"#pragma x\\ a\nb", &[name!(2, 1, 13, 1)]),
     (b"#line", &[]),
     (b"# 1.5\na", &[name!(2, 1, 6, 1)]),
     (

@@ -92,7 +92,7 @@ module _ (laid : LaidTree) (path : ℕ) (w : Context) (defined : ℕ → Bool) (
     valued k (a_constant t z p) h m = tt
     valued k (a_folded z e) h m = (valued (a_number Ints.Int) e h.2 m, gives (a_number Ints.Int) e h.2 m)
     valued k (a_null p) h m = tt
-    valued k (a_load s v l) h m = valued_at h.0 l h.3 m
+    valued k (a_load s v l) h m = valued_at h.0 l h.3 m.1
     valued k (an_address l p) h m = valued_at h.0 l h.2 m
     valued k (a_structure l) h m = valued_at h.0 l h.2 m
     valued k (the_same e p) h m = valued k e h m

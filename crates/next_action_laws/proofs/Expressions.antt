@@ -212,7 +212,7 @@ module _ (laid : LaidTree) (body : ℕ) (a : Answer) (path : ℕ) (locals : List
         used m a_pointer how how' true p (of_kind m k a_pointer how how' h u) (APointer Pointers.Null) (null_is laid)
     expr_keeps m k (a_load s b l) h q how how' u =
         let u' = of_kind m k (kind_of_scalar s) how how' h.2 u in
-        address_keeps m h.0 l h.3 q _ _ (λ o j place.
+        address_keeps m h.0 l h.3 q.1 _ _ (λ o j place.
         loads m o j h.0 s b (lvalue_place l) _ _ place h.1
         (λ v x. used m (kind_of_scalar s) how how' (is_pointer_scalar s) (lvalue_place l) u' v x))
     expr_keeps m k (an_address l p) h q how how' u =

@@ -295,7 +295,7 @@ length_section laid None = refl
 length_section laid (Some f) = refl
 
 -- there are as many standings as bodies
-as_many : (laid : LaidTree) (w : World) → IsReached laid w → length w.standings ≡ length (bodies_of laid.file)
+pub as_many : (laid : LaidTree) (w : World) → IsReached laid w → length w.standings ≡ length (bodies_of laid.file)
 unfolding start
 as_many laid w r =
     let p = ap length (priorities_stay laid w r) in
@@ -335,7 +335,8 @@ module _ (laid : LaidTree) (many : length laid.bodies ≡ length (bodies_of laid
       let n = as_many laid v r in
       step_fits laid v f (λ i lt. acts v f i (omega (arith, lt, n, many))) c
 
-same_bodies : (file : TypedFileTree) → length (layout_of file).bodies ≡ length (bodies_of (layout_of file).file)
+-- a body stands for each task, and for the initial section where there is one
+pub same_bodies : (file : TypedFileTree) → length (layout_of file).bodies ≡ length (bodies_of (layout_of file).file)
 unfolding layout_of
 same_bodies file = refl
 

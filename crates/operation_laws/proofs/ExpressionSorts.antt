@@ -218,7 +218,7 @@ module _ (laid : LaidTree) (path : ℕ) (locals : List LocalEntry) where
       codes_fit k (a_load s volatile l) h q =
           of_kind laid Call k (kind_of_scalar s) None _ h.2
           (valued_fits laid Call (is_pointer_scalar s) (lvalue_place l) (kind_of_scalar s) _ (scalar_if s)
-          (load_fits laid Call volatile s (lvalue_place l) (address_code laid path l) (address_fits h.0 l h.3 q)))
+          (load_fits laid Call volatile s (lvalue_place l) (address_code laid path l) (address_fits h.0 l h.3 q.1)))
       codes_fit k (an_address l p) h q =
           of_kind laid Call k a_pointer None _ h.1
           (valued_fits laid Call true p a_pointer _ (λ x. refl) (address_fits h.0 l h.2 q))

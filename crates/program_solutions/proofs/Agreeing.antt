@@ -10,8 +10,8 @@ use Rattle.store_limits.specs.program_equations.Systems.{FitsBody}
 use Rattle.store_limits.specs.program_equations.Solutions.{table_at, tables_of}
 use Rattle.store_limits.specs.program_equations.laws.Fitting.{body_is}
 use Rattle.store_limits.specs.program_equations.laws.Lawful.{in_bodies}
-use Rattle.post_recheck.specs.Pairs.{Pair}
-use Rattle.post_recheck.proofs.Fits.{table_fits, is_section}
+use Rattle.program_reports.specs.post_recheck.Pairs.{Pair}
+use Rattle.program_reports.proofs.low.post_recheck.Fits.{table_fits, is_section}
 use Rattle.program_solutions.specs.LeastReports.{IsLeastPair}
 
 module _ (p : ProgramBodies) (is : IsProgram p) where

@@ -7,13 +7,13 @@ use Rattle.store_limits.specs.mutex_configs.declared.programs.Program.{Program}
 use Rattle.store_limits.specs.transfer_rows.StateForms.{State}
 use Rattle.store_limits.specs.program_equations.Programs.{IsProgram}
 use Rattle.store_limits.specs.program_equations.Solutions.{tables_of}
-use Rattle.post_recheck.specs.program_systems.Analysable.{IsAnalysable}
-use Rattle.post_recheck.specs.program_systems.ReadPrograms.{ReadProgram, program_of}
-use Rattle.post_recheck.specs.program_systems.ProgramFacts.{AllFacts, AreProgramFacts, read_with, program_with}
-use Rattle.post_recheck.proofs.low.program_systems.Bodies.{is_program}
-use Rattle.post_recheck.specs.Pairs.{Pair, FitsPair}
-use Rattle.post_recheck.specs.Checks.{IsAnswer}
-use Rattle.post_recheck.specs.declared.solutions.Checked.TheVariants as Answers
+use Rattle.thread_pass.specs.program_systems.Analysable.{IsAnalysable}
+use Rattle.thread_pass.specs.program_systems.ReadPrograms.{ReadProgram, program_of}
+use Rattle.thread_pass.specs.program_systems.ProgramFacts.{AllFacts, AreProgramFacts, read_with, program_with}
+use Rattle.thread_pass.proofs.low.program_systems.Bodies.{is_program}
+use Rattle.program_reports.specs.post_recheck.Pairs.{Pair, FitsPair}
+use Rattle.program_reports.specs.post_recheck.Checks.{IsAnswer}
+use Rattle.program_reports.specs.post_recheck.declared.solutions.Checked.TheVariants as Answers
 use Rattle.program_reports.specs.Reports.{IsReport}
 use Rattle.program_solutions.specs.LeastReports.{IsLeastPair, IsLeastReport}
 use Rattle.program_solutions.specs.Tables.{AreLeastTables}

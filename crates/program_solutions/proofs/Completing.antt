@@ -25,12 +25,12 @@ use Rattle.store_limits.specs.program_equations.laws.Tables.{system_is_one}
 use Rattle.store_limits.specs.program_equations.laws.WholeTables.{whole_is_one}
 use Rattle.store_limits.proofs.Climbing.{quiet_is_closed}
 use Rattle.thread_pass.specs.Analyses.{IsSectionTable}
-use Rattle.post_recheck.specs.Pairs.{Pair, FitsPair}
-use Rattle.post_recheck.specs.Checks.{IsAnswer}
-use Rattle.post_recheck.specs.declared.solutions.Checked.{Checked}
-use Rattle.post_recheck.specs.declared.solutions.Checked.TheVariants as Answers
-use Rattle.post_recheck.proofs.LeastPairs.{least_pair}
-use Rattle.post_recheck.proofs.One.{answer_is_one}
+use Rattle.program_reports.specs.post_recheck.Pairs.{Pair, FitsPair}
+use Rattle.program_reports.specs.post_recheck.Checks.{IsAnswer}
+use Rattle.program_reports.specs.post_recheck.declared.solutions.Checked.{Checked}
+use Rattle.program_reports.specs.post_recheck.declared.solutions.Checked.TheVariants as Answers
+use Rattle.program_reports.proofs.low.post_recheck.LeastPairs.{least_pair}
+use Rattle.program_reports.proofs.low.post_recheck.One.{answer_is_one}
 use Rattle.program_solutions.specs.LeastReports.{IsLeastPair}
 use Rattle.program_solutions.specs.Tables.{AreCompleted, AreLeastTables}
 use Rattle.program_solutions.specs.reading.Turns.{HasEnded}

@@ -16,7 +16,7 @@ use Rattle.store_limits.specs.program_equations.Programs.{ProgramBodies, IsProgr
 use Rattle.store_limits.specs.program_equations.Systems.{stores, FitsProgram}
 use Rattle.store_limits.specs.program_equations.Solutions.{passing, table_at}
 use Rattle.store_limits.specs.program_equations.laws.StoresFit.{nothing_fits}
-use Rattle.post_recheck.specs.Pairs.{lists_of}
+use Rattle.program_reports.specs.post_recheck.Pairs.{lists_of}
 use Rattle.store_limits.specs.Limits.{store_limit, published}
 use Rattle.store_limits.proofs.Climbing.{published_fits, published_above, published_nearer}
 use Rattle.thread_pass.specs.Analyses.{IsLeastTable, IsStartTable}

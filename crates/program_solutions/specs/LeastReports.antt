@@ -3,7 +3,7 @@ use Rattle.std.specs.Prelude.{List}
 use Rattle.tm_terms.specs.declared.alarms.Alarm.{Alarm}
 use Rattle.store_limits.specs.program_equations.Programs.{ProgramBodies}
 use Rattle.store_limits.specs.program_equations.Solutions.{table_at, tables_of, IsPair, IsWholeLeast}
-use Rattle.post_recheck.specs.Pairs.{Pair, FitsPair}
+use Rattle.program_reports.specs.post_recheck.Pairs.{Pair, FitsPair}
 use Rattle.program_reports.specs.Reports.{IsReport}
 
 -- tables and a store that fit the program, are a solution of it, and lie below every solution

@@ -8,7 +8,7 @@ use Rattle.store_limits.specs.program_equations.Programs.{ProgramBodies, body_at
 use Rattle.store_limits.specs.program_equations.Systems.{states, stores, FitsBody, task_system, IsLeastSection}
 use Rattle.store_limits.specs.program_equations.Solutions.{passing, table_at, tables_of}
 use Rattle.thread_pass.specs.Analyses.{IsSectionTable}
-use Rattle.post_recheck.specs.Pairs.{Pair, FitsPair}
+use Rattle.program_reports.specs.post_recheck.Pairs.{Pair, FitsPair}
 
 -- the tables of the tasks, and then the least one of the initial section, where there is one
 pub record AreCompleted (p : ProgramBodies) (tables all : List (List (Option State))) : Type 0 where

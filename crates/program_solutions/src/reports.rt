@@ -1,11 +1,10 @@
 //! The report of a program.
 ghost use Rattle.std.specs.Prelude.{IfOk};
-ghost use Rattle.post_recheck.specs.program_systems.ReadPrograms.{program_of};
+ghost use Rattle.thread_pass.specs.program_systems.ReadPrograms.{program_of};
 ghost use Rattle.program_solutions.specs.LeastReports.{IsLeastPair, IsLeastReport};
 
 use crate::solutions::solution;
-use post_recheck::Solution;
-use program_reports::judge;
+use program_reports::{Solution, judge};
 use std::alloc::Global;
 use thread_pass::Analysis;
 use tm_lattice::NoMemory;

@@ -1,8 +1,8 @@
 //! The least solution of a program.
 ghost use Rattle.std.specs.Prelude.{◌≡◌, IfOk};
 ghost use Rattle.std.specs.Arc.{arc_value};
-ghost use Rattle.post_recheck.specs.program_systems.ReadPrograms.{program_of};
-ghost use Rattle.post_recheck.specs.Pairs.{pair_of};
+ghost use Rattle.thread_pass.specs.program_systems.ReadPrograms.{program_of};
+ghost use Rattle.program_reports.specs.post_recheck.Pairs.{pair_of};
 ghost use Rattle.program_solutions.specs.LeastReports.{IsLeastPair};
 ghost use Rattle.program_solutions.specs.Tables.{AreLeastTables};
 

@@ -1,8 +1,8 @@
 //! The tables of a pair.
 ghost use Rattle.std.specs.Prelude.{◌≡◌, ℕ, ◌<◌, [], length, IfOk};
 ghost use Rattle.store_limits.specs.program_equations.Solutions.{table_at};
-ghost use Rattle.post_recheck.specs.program_systems.ReadPrograms.{program_of};
-ghost use Rattle.post_recheck.specs.Pairs.{lists_of};
+ghost use Rattle.thread_pass.specs.program_systems.ReadPrograms.{program_of};
+ghost use Rattle.program_reports.specs.post_recheck.Pairs.{lists_of};
 ghost use Rattle.program_solutions.specs.Tables.{AreCompleted};
 
 use program_reports::{BodyState, Table};

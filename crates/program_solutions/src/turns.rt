@@ -1,9 +1,9 @@
 //! Passes of the tasks in turn.
 ghost use Rattle.std.specs.Prelude.{◌≡◌, ℕ, ◌<◌, ◌≤◌, length, IfOk, IsOk};
 ghost use Rattle.store_limits.specs.program_equations.Systems.{FitsProgram, pass_of};
-ghost use Rattle.post_recheck.specs.program_systems.ReadPrograms.{program_of};
+ghost use Rattle.thread_pass.specs.program_systems.ReadPrograms.{program_of};
 ghost use Rattle.thread_pass.specs.Analyses.{IsLeastTable};
-ghost use Rattle.post_recheck.specs.Pairs.{lists_of};
+ghost use Rattle.program_reports.specs.post_recheck.Pairs.{lists_of};
 ghost use Rattle.program_solutions.specs.reading.Turns.{IsPassed, IsKeptTable, IsUnderway, HasEnded, left};
 ghost use Rattle.program_solutions.specs.reading.Turns.{turn_after};
 

@@ -291,7 +291,7 @@ module _ (laid : LaidTree) (body path : ℕ) (locals : List LocalEntry) (defined
     codes_fit k (a_load s volatile l) h q =
         valued_fits laid body Call (is_pointer_scalar s) (lvalue_place l) _
         (load_fits laid body Call volatile s (lvalue_place l) (address_code laid path l)
-        (as_any l h.0 (address_fits h.0 l h.3 q)))
+        (as_any l h.0 (address_fits h.0 l h.3 q.1)))
     codes_fit k (an_address l p) h q = valued_fits laid body Call true p _ (as_any l h.0 (address_fits h.0 l h.2 q))
     codes_fit k (a_structure l) h q =
         valued_fits laid body Call false (lvalue_place l) _

@@ -182,7 +182,7 @@ module _ (R : ℕ → Type 0) (S : ℕ → Type 0) where
       codes_fit (a_folded z e) w m = record { value = (tt, tt); bare = (tt, tt); fork = (codes_fit e w m).fork }
       codes_fit (a_null p) w m = valued_fit true p _ (tt, tt)
       codes_fit (a_load s volatile l) w m = valued_fit (is_pointer_scalar s) (lvalue_place l) _
-          (address_fit l w m, (loading_fit volatile s 0 (lvalue_place l), tt))
+          (address_fit l w m.1, (loading_fit volatile s 0 (lvalue_place l), tt))
       codes_fit (an_address l p) w m = valued_fit true p _ (address_fit l w m)
       codes_fit (a_structure l) w m = valued_fit false (lvalue_place l) _ (address_fit l w m, tt)
       codes_fit (the_same e p) w m = valued_fit (gives_pointer laid e) p _ (codes_fit e w m).value

@@ -3,7 +3,7 @@ use Rattle.std.proofs.Common.{◌≡◌, ◌<◌, ◌+◌, ℕ, suc, Bool, true,
 use Rattle.std.proofs.Math.Seq.{take-length}
 use Rattle.std.specs.Prelude.{if◌then◌else◌, ◌==◌}
 use Rattle.std.specs.List.{prefix_len}
-use Rattle.tm_terms.specs.Lexis.{is_in_line}
+use Rattle.tm_terms.specs.Splices.{is_in_line}
 use Rattle.source_marks.specs.Marks.{begun_by, lines_of}
 
 last_step : (ends : Bool) (b : ℕ) (text : List ℕ) → cond (not ends) (1 + prefix_len is_in_line text) 0 ≡ 1 + length text

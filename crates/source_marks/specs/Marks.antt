@@ -7,7 +7,8 @@ use Rattle.std.specs.Prelude.{option_and_then}
 use Rattle.std.specs.Prelude.{if◌then◌else◌, bytes_eq}
 use Rattle.std.specs.List.{prefix_len}
 use Rattle.std.specs.Char.{is_ascii_digit}
-use Rattle.tm_terms.specs.Lexis.{behind, front, is_blank_in_line}
+use Rattle.tm_terms.specs.Lexis.{behind, front}
+use Rattle.tm_terms.specs.Splices.{is_blank_in_line}
 
 -- ## Lines
 

@@ -3,7 +3,7 @@
 ghost use Rattle.std.specs.Prelude.{◌≡◌, ◌<◌, ◌≤◌, ◌∷◌, length, drop, slice_index, IfSome};
 ghost use Rattle.std.specs.List.{prefix_len};
 ghost use Rattle.std.specs.Char.{is_ascii_digit};
-ghost use Rattle.tm_terms.specs.Lexis.{is_blank_in_line, is_in_line};
+ghost use Rattle.tm_terms.specs.Splices.{is_blank_in_line, is_in_line};
 ghost use Rattle.source_marks.specs.Marks.{lines_of};
 ghost use Rattle.source_marks.specs.reading.Seen.{lines_behind};
 

@@ -7,3 +7,4 @@ pub mod SomeSource
 pub mod SomeThresholds
 pub mod Programs
 pub mod Stations
+pub mod low

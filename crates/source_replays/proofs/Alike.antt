@@ -4,7 +4,7 @@ use Rattle.std.proofs.lemmas.List.{length-append}
 use Rattle.tm_terms.specs.declared.refusals.Refusal.{Refusal}
 use Rattle.tm_laid.specs.Layouts.{LaidTree}
 use Rattle.source_programs.specs.LaidSources.{longest_source}
-use Rattle.configured_laws.proofs.OneProgram.{not_both}
+use Rattle.source_programs.proofs.low.configured_laws.OneProgram.{not_both}
 use Rattle.source_programs.proofs.OneSource.{none}
 use Rattle.source_replays.specs.declared.replays.Outcome.{Outcome}
 use Rattle.source_replays.specs.declared.replays.Outcome.TheVariants.{Clean, Found, Refused}

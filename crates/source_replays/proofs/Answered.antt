@@ -12,7 +12,7 @@ use Rattle.layout_laws.proofs.Kept.{limits_kept}
 use Rattle.concrete_steps.specs.declared.worlds.Choice.{Choice}
 use Rattle.concrete_worlds.specs.Lawful.{HasGraphs, HasWorlds}
 use Rattle.concrete_worlds.specs.Laws.{LaidFilesHaveWorlds}
-use Rattle.program_graphs.specs.Prepared.{Graphed, IsPrepared}
+use Rattle.source_programs.specs.program_graphs.Prepared.{Graphed, IsPrepared}
 use Rattle.program_worlds.specs.Laws.{ProgramsHaveGraphs}
 use Rattle.source_programs.specs.LaidSources.{main_in, IsLaidSource}
 use Rattle.replay_lines.specs.declared.endings.Ending.{Ending}

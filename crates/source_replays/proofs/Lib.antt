@@ -1,2 +1,3 @@
 pub mod Answered
 pub mod Alike
+pub mod low

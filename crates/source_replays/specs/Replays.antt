@@ -5,7 +5,7 @@ use Rattle.tm_terms.specs.declared.refusals.Refusal.{Refusal}
 use Rattle.tm_terms.specs.Texts.{line_of, refusal_text}
 use Rattle.tm_laid.specs.Layouts.{LaidTree}
 use Rattle.concrete_steps.specs.declared.worlds.Choice.{Choice}
-use Rattle.program_graphs.specs.Prepared.{Graphed, IsPrepared}
+use Rattle.source_programs.specs.program_graphs.Prepared.{Graphed, IsPrepared}
 use Rattle.source_programs.specs.LaidSources.{longest_source, IsLaidSource}
 use Rattle.source_programs.specs.Sources.{source_limit, IsRefused}
 use Rattle.replay_lines.specs.declared.endings.Ending.{Ending}

@@ -9,3 +9,4 @@ pub mod laws;
 mod replays;
 
 pub use replays::{Outcome, Reply, replay};
+pub use source_programs::source_program;

@@ -44,6 +44,10 @@ use Rattle.tm_laid.specs.tm_typed.WellTyped.{OnAnswer}
 use Rattle.typed_file_laws.specs.Mentions.{Mentions, LvalueMentions, AllMention, OperandMentions}
 use Rattle.typed_file_laws.proofs.RuleSteps.{on_row, OnSome, on_row_unless, some_any}
 
+in_order : (b : Bool) → not b ≡ false → b ≡ true
+in_order true e = refl
+in_order false e = absurd cc
+
 module _ (o : ℕ → Bool) (c : List ℕ) where
   abbrev Says : OperandTree → Type 0
   Says = OperandMentions o c
@@ -55,8 +59,8 @@ module _ (o : ℕ → Bool) (c : List ℕ) where
 
   loaded_mentions : (scope : Scope) (l : LvalueTree) (q : Qualified) (t : CType) → LvalueMentions o c l → Mentions o c (let v : Rated = loaded scope l q t in v.value)
   loaded_mentions scope l q Types.Void h = h
-  loaded_mentions scope l q (Types.Int t) h = h
-  loaded_mentions scope l q (Types.Pointer r) h = h
+  loaded_mentions scope l q (Types.Int t) h = (tt, h)
+  loaded_mentions scope l q (Types.Pointer r) h = (refl, h)
   loaded_mentions scope l q (Types.Array e n) h = h
   loaded_mentions scope l q (Types.Struct k) h = h
 
@@ -130,7 +134,7 @@ module _ (o : ℕ → Bool) (c : List ℕ) where
   constant_mentions k p = on_row_unless (λ (t : IntType). Unit {0}) Says (Rules.constant_type k) Kinds.Unsupported p _ (some_any (Rules.constant_type k)) (λ t i. tt)
 
   pub input_mentions : (p : Place) (x y : ℤ) → Gives (Rules.input_rules p x y)
-  input_mentions p x y = on_row Says (not (int_le x y)) Kinds.NotConstant p (made (an_input_value x y p) (Sorts.Integer Ints.Int Folds.Unbuilt) p) (λ e. tt)
+  input_mentions p x y = on_row Says (not (int_le x y)) Kinds.NotConstant p (made (an_input_value x y p) (Sorts.Integer Ints.Int Folds.Unbuilt) p) (λ e. in_order (int_le x y) e)
 
   pub islocked_mentions : (p q : Place) (n : Option Named) → Gives (Rules.islocked_rules p q n)
   islocked_mentions p q None = tt
@@ -501,7 +505,7 @@ module _ (o : ℕ → Bool) (c : List ℕ) where
   lvalue_subscript_mentions scope p l q i Types.Void h k = tt
   lvalue_subscript_mentions scope p l q i (Types.Int t) h k = tt
   lvalue_subscript_mentions scope p l q i (Types.Pointer r) h k =
-      pointer_subscript_mentions scope p (loaded scope l q (Types.Pointer r)) (Sorts.Pointer r) i h k
+      pointer_subscript_mentions scope p (loaded scope l q (Types.Pointer r)) (Sorts.Pointer r) i (refl, h) k
   lvalue_subscript_mentions scope p l q i (Types.Struct n) h k = tt
 
   pub subscript_mentions : (scope : Scope) (p : Place) (a : OperandTree) (i : Rated) → Says a → Mentions o c i.value → Gives (Rules.subscript_rules scope p a i)

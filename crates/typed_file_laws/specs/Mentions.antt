@@ -1,5 +1,8 @@
--- What typed trees mention: the objects of static storage that they name, and the functions that they call.
-use Rattle.std.specs.Prelude.{◌≡◌, ℕ, Bool, true, List, All, slice_get, Option, Some, None}
+-- What typed trees mention: the objects of static storage that they name, the functions that they call, what they load
+-- as volatile, and the bounds of their inputs.
+use Rattle.std.specs.Prelude.{◌≡◌, ℕ, Bool, true, false, int_le, List, All, slice_get, Option, Some, None}
+use Rattle.tm_laid.specs.tm_typed.declared.types.Scalar.{Scalar}
+use Rattle.tm_laid.specs.tm_typed.declared.types.Scalar.TheVariants as Scalars
 use Rattle.tm_laid.specs.tm_typed.declared.scopes.ObjectNumber.TheVariants as Objects
 use Rattle.tm_laid.specs.tm_typed.TypedTrees.{RvalueTree, a_constant, a_folded, a_null, a_load, an_address, a_structure}
 use Rattle.tm_laid.specs.tm_typed.TypedTrees.{the_same, a_unary, a_binary, a_comparison_of_pointers, a_move, a_not}
@@ -22,14 +25,19 @@ use Rattle.tm_laid.specs.tm_typed.TypedStatements.{TypedCases, no_typed_cases, a
 
 -- ## Expressions
 
+-- no pointer is loaded as volatile (so that each volatile load is one of an integer)
+abbrev pub MayLoad : Scalar → Bool → Type 0
+MayLoad (Scalars.Int t) volatile = Unit {0}
+MayLoad (Scalars.Pointer class) volatile = volatile ≡ false
+
 abbrev mutual
-  -- Each object of static storage that is named passes the test, and the call with this site calls the function that
-  -- stands there in the list.
+  -- Each object of static storage that is named passes the test, the call with this site calls the function that stands
+  -- there in the list, no pointer is loaded as volatile, and the bounds of each input are in order.
   pub Mentions : (ℕ → Bool) → List ℕ → RvalueTree → Type 0
   Mentions o c (a_constant t z p) = Unit {0}
   Mentions o c (a_folded z e) = Mentions o c e
   Mentions o c (a_null p) = Unit {0}
-  Mentions o c (a_load s v l) = LvalueMentions o c l
+  Mentions o c (a_load s v l) = MayLoad s v × LvalueMentions o c l
   Mentions o c (an_address l p) = LvalueMentions o c l
   Mentions o c (a_structure l) = LvalueMentions o c l
   Mentions o c (the_same e p) = Mentions o c e
@@ -47,7 +55,7 @@ abbrev mutual
   Mentions o c (a_unit_step s n t v l p) = LvalueMentions o c l
   Mentions o c (a_pointer_step s n k l p) = LvalueMentions o c l
   Mentions o c (a_function_call f site es p) = (slice_get c site ≡ Some f) × AllMention o c es
-  Mentions o c (an_input_value low high p) = Unit {0}
+  Mentions o c (an_input_value low high p) = int_le low high ≡ true
   Mentions o c (a_probe m p) = Unit {0}
   Mentions o c (a_comma l r p) = Mentions o c l × Mentions o c r
   Mentions o c (a_conversion f t e p) = Mentions o c e

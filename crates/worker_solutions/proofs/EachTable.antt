@@ -4,9 +4,9 @@ use Rattle.std.proofs.Common.{sym, ap, subst, ◌∙◌, inl, inr, arith}
 use Rattle.std.specs.declared.vec.Vec.{Vec}
 use Rattle.std.proofs.lemmas.Bool.{cases_lt}
 use Rattle.std.proofs.lemmas.List.{length-map, map-append, get_or_append_left, get_or_push}
-use Rattle.post_recheck.specs.transfer_rows.StateForms.{State}
-use Rattle.post_recheck.specs.program_equations.Solutions.{table_at}
-use Rattle.post_recheck.specs.Pairs.{lists_of}
+use Rattle.program_solutions.specs.transfer_rows.StateForms.{State}
+use Rattle.program_solutions.specs.program_equations.Solutions.{table_at}
+use Rattle.program_solutions.specs.post_recheck.Pairs.{lists_of}
 
 -- what holds of each table so far, and of the next one, holds of all
 module _ {A : Type 0} (P : ℕ → List (Option State) → Type 0) (xs ys : List (Vec (Option State) A))

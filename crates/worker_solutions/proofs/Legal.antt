@@ -3,10 +3,10 @@ use Rattle.std.specs.Prelude.{◌≡◌, ℕ, ℤ, List, [], ◌∷◌}
 use Rattle.tm_lattice.specs.declared.passers.Passer as passer
 use Rattle.store_core.specs.Histories.{Event, Read, Publish, Past, May, IsLegal}
 use Rattle.interfere_set.specs.Stores.{Interferences, no_interference}
-use Rattle.post_recheck.specs.program_equations.Programs.{IsProgram}
-use Rattle.post_recheck.specs.program_equations.Systems.{stores, FitsProgram, pass_of}
-use Rattle.post_recheck.specs.program_equations.Solutions.{passing}
-use Rattle.post_recheck.specs.program_systems.ReadPrograms.{ReadProgram, program_of}
+use Rattle.program_solutions.specs.program_equations.Programs.{IsProgram}
+use Rattle.program_solutions.specs.program_equations.Systems.{stores, FitsProgram, pass_of}
+use Rattle.program_solutions.specs.program_equations.Solutions.{passing}
+use Rattle.program_solutions.specs.program_systems.ReadPrograms.{ReadProgram, program_of}
 
 -- what is asked of analyses whose tasks pass over one store
 abbrev pub analysing : passer.Ghosts ReadProgram Interferences (List ℤ)

@@ -3,3 +3,4 @@
 pub mod Legal
 pub mod QuietCores
 pub mod EachTable
+pub mod low

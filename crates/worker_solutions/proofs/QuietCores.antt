@@ -6,16 +6,16 @@ use Rattle.store_core.specs.Histories.{Past, store_of, IsLegal, IsQuiet}
 use Rattle.store_core.proofs.Pasts.{IsLawful, all_fit, earlier, history_of, quiet_closed}
 use Rattle.interfere_set.specs.Stores.{Interferences, IsStoreBelow, joined_store}
 use Rattle.interfere_set.specs.laws.StoreLaws.{store_order, store_join, store_closure}
-use Rattle.post_recheck.specs.transfer_rows.StateForms.{State}
-use Rattle.post_recheck.specs.program_equations.Programs.{ProgramBodies, IsProgram}
-use Rattle.post_recheck.specs.program_equations.Systems.{stores, pass_of}
-use Rattle.post_recheck.specs.program_equations.Solutions.{passing, table_at}
-use Rattle.post_recheck.specs.program_equations.laws.StoresFit.{bottom}
-use Rattle.post_recheck.specs.program_equations.laws.Passing.{fitting}
+use Rattle.program_solutions.specs.transfer_rows.StateForms.{State}
+use Rattle.program_solutions.specs.program_equations.Programs.{ProgramBodies, IsProgram}
+use Rattle.program_solutions.specs.program_equations.Systems.{stores, pass_of}
+use Rattle.program_solutions.specs.program_equations.Solutions.{passing, table_at}
+use Rattle.program_solutions.specs.program_equations.laws.StoresFit.{bottom}
+use Rattle.program_solutions.specs.program_equations.laws.Passing.{fitting}
 use Rattle.program_solutions.specs.store_limits.Limits.{published}
-use Rattle.thread_pass.specs.Analyses.{IsLeastTable}
-use Rattle.thread_pass.specs.Kept.{KeptTable, IsKeptOf}
-use Rattle.post_recheck.specs.Pairs.{Pair}
+use Rattle.program_solutions.specs.thread_pass.Analyses.{IsLeastTable}
+use Rattle.program_solutions.specs.thread_pass.Kept.{KeptTable, IsKeptOf}
+use Rattle.program_solutions.specs.post_recheck.Pairs.{Pair}
 use Rattle.program_solutions.specs.Tables.{AreCompleted, AreLeastTables}
 use Rattle.program_solutions.specs.reading.Turns.{HasEnded}
 use Rattle.program_solutions.proofs.Completing.{least_tables}

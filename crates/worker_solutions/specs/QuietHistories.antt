@@ -2,9 +2,9 @@
 use Rattle.std.specs.Prelude.{ℕ}
 use Rattle.store_core.specs.Histories.{Past, store_of, IsLegal, IsQuiet}
 use Rattle.interfere_set.specs.Stores.{Interferences}
-use Rattle.post_recheck.specs.program_equations.Programs.{ProgramBodies}
-use Rattle.post_recheck.specs.program_equations.Systems.{stores}
-use Rattle.post_recheck.specs.program_equations.Solutions.{passing}
+use Rattle.program_solutions.specs.program_equations.Programs.{ProgramBodies}
+use Rattle.program_solutions.specs.program_equations.Systems.{stores}
+use Rattle.program_solutions.specs.program_equations.Solutions.{passing}
 
 -- the store behind a history
 abbrev pub present_store : ProgramBodies → Past Interferences → Interferences

@@ -9,4 +9,5 @@
 mod reports;
 mod tables;
 
+pub use program_solutions::{Analysis, least_report};
 pub use reports::{WorkedOut, report_by_workers};

@@ -2,22 +2,20 @@
 ghost use Rattle.std.specs.Prelude.{◌≡◌, ◌≤◌, IfOk};
 ghost use Rattle.std.specs.Arc.{arc_value};
 ghost use Rattle.store_core.specs.Histories.{IsQuiet};
-ghost use Rattle.post_recheck.specs.program_systems.ReadPrograms.{program_of};
-ghost use Rattle.post_recheck.specs.Pairs.{pair_of};
+ghost use Rattle.program_solutions.specs.program_systems.ReadPrograms.{program_of};
+ghost use Rattle.program_solutions.specs.post_recheck.Pairs.{pair_of};
 ghost use Rattle.program_solutions.specs.LeastReports.{IsLeastPair, IsLeastReport};
 ghost use Rattle.program_solutions.specs.Tables.{AreLeastTables};
 ghost use Rattle.worker_solutions.specs.QuietHistories.{IsQuietHistory};
 
 use crate::tables::kept_tables;
 use interfere_set::Store;
-use post_recheck::{Checked, Solution, Table, recheck};
-use program_solutions::{completed, solution_report};
+use program_solutions::{Analysis, Checked, Solution, Table, completed, recheck, solution_report};
 use shared_analyses::solved_by;
 use std::alloc::Global;
 use std::sync::{Arc, Wait};
 use std::thread::Threads;
 use store_core::StoreCore;
-use thread_pass::Analysis;
 use tm_io::Gate;
 use tm_lattice::{Lattice, NoMemory};
 use tm_terms::Report;

@@ -1,17 +1,15 @@
 //! The tables that a quiet core keeps.
 ghost use Rattle.std.specs.Prelude.{◌≡◌, ℕ, ◌<◌, length, IfOk};
 ghost use Rattle.store_core.specs.Histories.{IsQuiet};
-ghost use Rattle.post_recheck.specs.program_equations.Solutions.{table_at};
-ghost use Rattle.post_recheck.specs.program_systems.ReadPrograms.{program_of};
-ghost use Rattle.thread_pass.specs.Analyses.{IsLeastTable};
-ghost use Rattle.post_recheck.specs.Pairs.{lists_of};
+ghost use Rattle.program_solutions.specs.program_equations.Solutions.{table_at};
+ghost use Rattle.program_solutions.specs.program_systems.ReadPrograms.{program_of};
+ghost use Rattle.program_solutions.specs.thread_pass.Analyses.{IsLeastTable};
+ghost use Rattle.program_solutions.specs.post_recheck.Pairs.{lists_of};
 ghost use Rattle.worker_solutions.specs.QuietHistories.{present_store};
 
-use post_recheck::Table;
-use program_solutions::copied_table;
+use program_solutions::{Analysis, Table, copied_table};
 use std::alloc::Global;
 use store_core::{StoreCore, quiet_kept};
-use thread_pass::Analysis;
 use tm_lattice::{NoMemory, Passer};
 
 // The table that the last pass of a task kept, copied.

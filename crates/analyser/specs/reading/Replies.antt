@@ -4,9 +4,9 @@ use Rattle.store_core.specs.Histories.{Past}
 use Rattle.history_lines.specs.HistoryTexts.{history_text}
 use Rattle.tm_terms.specs.declared.alarms.Alarm.{Alarm}
 use Rattle.interfere_set.specs.Stores.{Interferences}
-use Rattle.thread_pass.specs.program_equations.Programs.{ProgramBodies}
-use Rattle.program_solutions.specs.LeastReports.{IsLeastReport}
-use Rattle.source_programs.specs.Sources.{IsRefused}
+use Rattle.worker_solutions.specs.program_equations.Programs.{ProgramBodies}
+use Rattle.worker_solutions.specs.program_solutions.LeastReports.{IsLeastReport}
+use Rattle.source_replays.specs.source_programs.Sources.{IsRefused}
 use Rattle.analyser.specs.declared.solvers.Solved.{Solved}
 use Rattle.analyser.specs.declared.replies.Found.{Found}
 use Rattle.analyser.specs.declared.replies.Found.TheVariants as Finds

@@ -1,6 +1,7 @@
 -- The tests of bytes by which runs go.
 use Rattle.std.specs.Prelude.{ℕ, Bool}
-use Rattle.tm_terms.specs.Lexis.{is_name_byte, is_number_byte, is_in_line, is_blank_in_line, is_digit_in}
+use Rattle.tm_terms.specs.Lexis.{is_name_byte, is_number_byte, is_digit_in}
+use Rattle.tm_terms.specs.Splices.{is_in_line, is_blank_in_line}
 use Rattle.c_lexer.specs.declared.runs.Run.{Run}
 use Rattle.c_lexer.specs.declared.runs.Run.TheVariants as run
 

@@ -1,8 +1,8 @@
 use Rattle.std.proofs.Common.{◌∙◌, ap, subst, Some}
 use Rattle.big_source.specs.GeneratedSources.{source_text}
 use Rattle.analyser.specs.Answers.{CommandGives, HasAnswer, HasSummary, IsGenerated, IsReplayed, SaysUsage}
-use Rattle.analyser.specs.Findings.{HasFinding}
-use Rattle.analyser.specs.declared.findings.Finding.TheVariants as Findings
+use Rattle.source_findings.specs.Findings.{HasFinding}
+use Rattle.source_findings.specs.declared.findings.Finding.TheVariants as Findings
 use Rattle.analyser.specs.reading.Manners.{IsServed}
 use Rattle.analyser.proofs.CommandLemmas.{said_answers, said_takes, more_answers, more_takes}
 use Rattle.analyser.proofs.CommandLemmas.{usage_of_none, answer_of_replay, answer_of_analyse, answer_of_generate}

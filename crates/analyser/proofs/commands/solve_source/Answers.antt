@@ -1,5 +1,5 @@
 use Rattle.std.proofs.Common.{subst}
-use Rattle.analyser.specs.Findings.{HasFinding}
+use Rattle.source_findings.specs.Findings.{HasFinding}
 use Rattle.analyser.proofs.AnswerLemmas.{known, longer_found, past_limit, sent_whole, sent_front}
 use Rattle.analyser.proofs.commands.solve_source.Goals as goal
 

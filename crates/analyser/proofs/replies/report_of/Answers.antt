@@ -1,5 +1,6 @@
-use Rattle.thread_pass.specs.tm_laid.Layouts.{laid_tree}
-use Rattle.analyser.proofs.Sound.{few_objects, lists_all}
+use Rattle.worker_solutions.specs.tm_laid.Layouts.{laid_tree}
+use Rattle.source_findings.proofs.Sourced.{few_objects}
+use Rattle.analyser.proofs.Sound.{lists_all}
 use Rattle.analyser.proofs.replies.report_of.Goals as goal
 
 pub returns-in_ok-found-in-Ok : goal.returns-in_ok-found-in-Ok

@@ -1,5 +1,5 @@
 use denote.Param.Send.{sendable}
-use Rattle.shared_analyses.proofs.Analyses.{analysis_send, analysis_sync}
+use Rattle.worker_solutions.proofs.low.shared_analyses.Analyses.{analysis_send, analysis_sync}
 use Rattle.std.proofs.Common.{ap, ◌∙◌}
 use Rattle.std.specs.Prelude.{string_bytes}
 use Rattle.history_lines.specs.HistoryTexts.{history_text}

@@ -1,7 +1,7 @@
 use Rattle.std.proofs.Common.{sym, subst}
 use Rattle.std.specs.Prelude.{string_bytes}
-use Rattle.thread_pass.specs.program_systems.ReadPrograms.{program_of}
-use Rattle.program_solutions.specs.LeastReports.{IsLeastReport}
+use Rattle.worker_solutions.specs.program_systems.ReadPrograms.{program_of}
+use Rattle.worker_solutions.specs.program_solutions.LeastReports.{IsLeastReport}
 use Rattle.analyser.proofs.AnswerLemmas.{if_ok_both}
 use Rattle.analyser.proofs.HistoryLines.{quiet_lines}
 use Rattle.analyser.proofs.solvers.solved_by_workers.Goals as goal

@@ -1,4 +1,4 @@
-use Rattle.post_recheck.specs.Pairs.{lists_of}
+use Rattle.program_reports.specs.post_recheck.Pairs.{lists_of}
 use Rattle.program_solutions.proofs.Checking.{report_least}
 use Rattle.program_solutions.proofs.reports.solution_report.Goals as goal
 

@@ -1,8 +1,8 @@
 use Rattle.std.proofs.Common.{subst}
 use Rattle.std.specs.Arc.{arc_value}
-use Rattle.post_recheck.specs.program_systems.ProgramFacts.{program_with}
-use Rattle.post_recheck.specs.Pairs.{pair_of}
-use Rattle.post_recheck.specs.Checks.{IsAnswer}
+use Rattle.thread_pass.specs.program_systems.ProgramFacts.{program_with}
+use Rattle.program_reports.specs.post_recheck.Pairs.{pair_of}
+use Rattle.program_reports.specs.post_recheck.Checks.{IsAnswer}
 use Rattle.program_solutions.proofs.Checking.{found_least, none_uncovered, store_covered}
 use Rattle.program_solutions.proofs.solutions.checked.Goals as goal
 

@@ -1,6 +1,6 @@
 use Rattle.std.proofs.Common.{sym, subst}
-use Rattle.post_recheck.specs.program_systems.ReadPrograms.{program_of}
-use Rattle.post_recheck.specs.Pairs.{lists_of}
+use Rattle.thread_pass.specs.program_systems.ReadPrograms.{program_of}
+use Rattle.program_reports.specs.post_recheck.Pairs.{lists_of}
 use Rattle.program_solutions.specs.Tables.{AreLeastTables}
 use Rattle.program_solutions.proofs.Completing.{least_tables}
 use Rattle.program_solutions.proofs.solutions.solution.Goals as goal

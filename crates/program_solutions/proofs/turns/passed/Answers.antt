@@ -1,7 +1,7 @@
 use Rattle.std.proofs.Common.{◌≡◌, sym, ap, ◌∙◌}
 use Rattle.std.proofs.lemmas.Bool.{false≢true}
 use Rattle.interfere_set.specs.Stores.{joined_store, rounded_store}
-use Rattle.post_recheck.specs.program_systems.ReadPrograms.{program_of}
+use Rattle.thread_pass.specs.program_systems.ReadPrograms.{program_of}
 use Rattle.store_limits.specs.Limits.{published}
 use Rattle.program_solutions.proofs.turns.passed.Goals as goal
 

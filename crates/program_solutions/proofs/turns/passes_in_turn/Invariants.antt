@@ -1,5 +1,5 @@
-use Rattle.post_recheck.specs.program_systems.ReadPrograms.{program_of}
-use Rattle.post_recheck.specs.Pairs.{lists_of}
+use Rattle.thread_pass.specs.program_systems.ReadPrograms.{program_of}
+use Rattle.program_reports.specs.post_recheck.Pairs.{lists_of}
 use Rattle.program_solutions.specs.reading.Turns.{IsUnderway, left}
 use Rattle.program_solutions.proofs.turns.passes_in_turn.Given as goal
 

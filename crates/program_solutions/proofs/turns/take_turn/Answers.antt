@@ -1,6 +1,6 @@
 use Rattle.std.proofs.Common.{subst, sym, ap, ◌∙◌, get_or}
-use Rattle.post_recheck.specs.program_systems.ReadPrograms.{program_of}
-use Rattle.post_recheck.specs.Pairs.{lists_of}
+use Rattle.thread_pass.specs.program_systems.ReadPrograms.{program_of}
+use Rattle.program_reports.specs.post_recheck.Pairs.{lists_of}
 use Rattle.program_solutions.specs.reading.Turns.{IsPassed}
 use Rattle.program_solutions.proofs.Turning.{kept_at, quiet_written, raised_written, raised_less}
 use Rattle.program_solutions.proofs.turns.take_turn.Goals as goal

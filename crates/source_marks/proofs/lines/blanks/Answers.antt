@@ -1,6 +1,6 @@
 use Rattle.std.proofs.Common.{length, sym, arith}
 use Rattle.std.proofs.lemmas.List.Sums.{prefix_len_is}
-use Rattle.tm_terms.specs.Lexis.{is_blank_in_line}
+use Rattle.tm_terms.specs.Splices.{is_blank_in_line}
 use Rattle.source_marks.proofs.lines.blanks.Goals as goal
 
 pub returns-then-not-is_blank-clause-value : goal.returns-then-not-is_blank-clause-value

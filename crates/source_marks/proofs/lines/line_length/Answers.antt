@@ -1,6 +1,6 @@
 use Rattle.std.proofs.Common.{length, sym, ap, arith}
 use Rattle.std.proofs.lemmas.List.Sums.{prefix_len_is}
-use Rattle.tm_terms.specs.Lexis.{is_in_line}
+use Rattle.tm_terms.specs.Splices.{is_in_line}
 use Rattle.source_marks.proofs.lines.line_length.Goals as goal
 
 pub returns-then-byte-eq10-clause-value : goal.returns-then-byte-eq10-clause-value

@@ -1,5 +1,5 @@
 use Rattle.std.proofs.Common.{◌≡◌, ℕ, ◌<◌, get_or, true}
-use Rattle.tm_terms.specs.Lexis.{is_in_line}
+use Rattle.tm_terms.specs.Splices.{is_in_line}
 use Rattle.source_marks.proofs.lines.line_length.Given as goal
 
 abbrev pub invariant-loop-i : goal.invariant-loop-i

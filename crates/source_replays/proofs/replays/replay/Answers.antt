@@ -4,7 +4,7 @@ use Rattle.tm_terms.specs.declared.refusals.Refusal.{Refusal}
 use Rattle.tm_laid.specs.Layouts.{laid_tree}
 use Rattle.flow_graph.specs.declared.graphs.Graph.{Graph}
 use Rattle.concrete_worlds.specs.Lawful.{HasGraphs}
-use Rattle.program_graphs.specs.Prepared.{Graphed}
+use Rattle.source_programs.specs.program_graphs.Prepared.{Graphed}
 use Rattle.source_programs.specs.LaidSources.{longest_source, IsLaidSource}
 use Rattle.source_programs.specs.Sources.{source_limit, IsRefused}
 use Rattle.source_replays.specs.Replays.{all_too_long, source_refused}

@@ -3,8 +3,8 @@ use Rattle.shared_analyses.proofs.Analyses.{analysis_send, analysis_sync}
 use Rattle.std.proofs.Common.{◌∙◌, subst, sym}
 use Rattle.std.proofs.lemmas.List.{length-map}
 use Rattle.std.specs.Arc.{arc_value}
-use Rattle.post_recheck.specs.program_systems.ReadPrograms.{program_of}
-use Rattle.post_recheck.specs.Pairs.{lists_of, pair_of}
+use Rattle.program_solutions.specs.program_systems.ReadPrograms.{program_of}
+use Rattle.program_solutions.specs.post_recheck.Pairs.{lists_of, pair_of}
 use Rattle.program_solutions.specs.Tables.{AreCompleted, AreLeastTables}
 use Rattle.worker_solutions.proofs.Legal.{legal_of}
 use Rattle.worker_solutions.proofs.QuietCores.{least_over}

@@ -1,7 +1,7 @@
 use denote.Param.Send.{sendable}
 use Rattle.shared_analyses.proofs.Analyses.{analysis_send, analysis_sync}
 use Rattle.std.proofs.Common.{◌∙◌, subst}
-use Rattle.post_recheck.specs.program_systems.ReadPrograms.{program_of}
+use Rattle.program_solutions.specs.program_systems.ReadPrograms.{program_of}
 use Rattle.worker_solutions.specs.QuietHistories.{IsQuietHistory}
 use Rattle.worker_solutions.proofs.Legal.{legal_of}
 use Rattle.worker_solutions.proofs.reports.report_by_workers.Goals as goal

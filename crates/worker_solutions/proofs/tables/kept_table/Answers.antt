@@ -2,7 +2,7 @@ use denote.Param.Send.{sendable}
 use Rattle.shared_analyses.proofs.Analyses.{analysis_send, analysis_sync}
 use Rattle.std.proofs.Common.{◌∙◌, ap, sym}
 use Rattle.std.specs.Option.{option_copied}
-use Rattle.post_recheck.specs.program_systems.ReadPrograms.{program_of}
+use Rattle.program_solutions.specs.program_systems.ReadPrograms.{program_of}
 use Rattle.worker_solutions.specs.QuietHistories.{present_store}
 use Rattle.worker_solutions.proofs.EachTable.{if_ok_by, same_some, none_some}
 use Rattle.worker_solutions.proofs.QuietCores.{kept_least}

@@ -2,8 +2,8 @@ use denote.Param.Send.{sendable}
 use Rattle.shared_analyses.proofs.Analyses.{analysis_send, analysis_sync}
 use Rattle.std.proofs.Common.{◌<◌, ◌+◌, ◌∙◌, ap, length}
 use Rattle.std.proofs.lemmas.List.{length-append}
-use Rattle.post_recheck.specs.program_systems.ReadPrograms.{program_of}
-use Rattle.thread_pass.specs.Analyses.{IsLeastTable}
+use Rattle.program_solutions.specs.program_systems.ReadPrograms.{program_of}
+use Rattle.program_solutions.specs.thread_pass.Analyses.{IsLeastTable}
 use Rattle.worker_solutions.specs.QuietHistories.{present_store}
 use Rattle.worker_solutions.proofs.EachTable.{each_table}
 use Rattle.worker_solutions.proofs.tables.kept_tables.Goals as goal

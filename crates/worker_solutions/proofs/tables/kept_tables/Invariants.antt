@@ -1,8 +1,8 @@
 use Rattle.std.proofs.Common.{◌≡◌, ℕ, ◌<◌, length}
-use Rattle.post_recheck.specs.program_systems.ReadPrograms.{program_of}
-use Rattle.thread_pass.specs.Analyses.{IsLeastTable}
-use Rattle.post_recheck.specs.program_equations.Solutions.{table_at}
-use Rattle.post_recheck.specs.Pairs.{lists_of}
+use Rattle.program_solutions.specs.program_systems.ReadPrograms.{program_of}
+use Rattle.program_solutions.specs.thread_pass.Analyses.{IsLeastTable}
+use Rattle.program_solutions.specs.program_equations.Solutions.{table_at}
+use Rattle.program_solutions.specs.post_recheck.Pairs.{lists_of}
 use Rattle.worker_solutions.specs.QuietHistories.{present_store}
 use Rattle.worker_solutions.proofs.tables.kept_tables.Given as goal
 

@@ -1,5 +1,5 @@
 use Rattle.std.specs.Prelude.{string_bytes}
-use Rattle.thread_pass.specs.program_systems.ReadPrograms.{program_of}
+use Rattle.worker_solutions.specs.program_systems.ReadPrograms.{program_of}
 use Rattle.analyser.proofs.HistoryLines.{nothing_asked}
 use Rattle.analyser.proofs.solvers.AloneSolver.solve.Goals as goal
 

@@ -1,0 +1,13 @@
+//! The places of locks at which tasks may wait for each other in a ring: those of circular requests. A request is a
+//! lock of a mutex that a task does not hold, from a configured node that has a state. What the state is, where it
+//! comes from, and what a task does besides, this crate does not know.
+//!
+//! Where one task locks `m` and then `n`, and another one `n` and then `m`, the second lock of each is listed. Where
+//! both do so under a third mutex, none is.
+#![tactic(auto)]
+
+mod bodies;
+mod copies;
+mod waits;
+
+pub use waits::circular;

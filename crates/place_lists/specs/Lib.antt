@@ -1,0 +1,2 @@
+-- What it is for places to be in order.
+pub mod Order

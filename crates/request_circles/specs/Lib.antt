@@ -1,0 +1,3 @@
+-- Which requests for mutexes are circular.
+pub mod Requests
+pub mod reading

@@ -1,0 +1,110 @@
+-- What `waits` and `ranges` answer: what the least solution of a source tells of its locks, of its objects and of its
+-- places, and what that promises of its runs.
+use Rattle.std.specs.Prelude.{◌≡◌, ℕ, ℤ, ◌≤ℤ◌, List, [], ◌∷◌, ◌++◌}
+use Rattle.std.specs.List.{flat_map}
+use Rattle.tm_terms.specs.declared.places.Place.{Place}
+use Rattle.tm_terms.specs.declared.refusals.Refusal.{Refusal}
+use Rattle.tm_terms.specs.Spelling.{text_of}
+use Rattle.tm_terms.specs.Texts.{refusal_text}
+use Rattle.solution_lines.specs.SolutionTexts.{waits_text, range_line, dead_text}
+use Rattle.program_solutions.specs.tm_laid.Layouts.{LaidTree}
+use Rattle.sound_core.specs.concrete_steps.Worlds.{World, next_at}
+use Rattle.sound_core.specs.concrete_steps.Occurring.{IsReached}
+use Rattle.program_solutions.specs.program_equations.Programs.{ProgramBodies}
+use Rattle.program_solutions.specs.program_equations.Solutions.{tables_of}
+use Rattle.program_solutions.specs.post_recheck.Pairs.{Pair}
+use Rattle.program_solutions.specs.LeastReports.{IsLeastPair}
+use Rattle.lock_waits.specs.Waits.{AreWaits}
+use Rattle.value_ranges.specs.declared.ranges.ObjectBounds.{ObjectBounds}
+use Rattle.value_ranges.specs.Ranges.{AreRanges}
+use Rattle.value_ranges.specs.Places.{AreDead}
+use Rattle.sound_core.specs.Rings.{IsRing, AllLockAt}
+use Rattle.sound_core.specs.Reached.{MayAct, HoldsNumber, IsBetween}
+use Rattle.source_programs.specs.Sources.{IsAccepted, IsRefused}
+use Rattle.program_streams.specs.declared.statuses.Status.{Status}
+use Rattle.program_streams.specs.declared.statuses.Status.TheVariants.{NoAlarm, Alarms, Refused, Usage, ReadFault}
+use Rattle.program_streams.specs.declared.statuses.Status.TheVariants.{WriteFault, NoMemory}
+use Rattle.source_findings.specs.declared.findings.Finding.{Finding}
+use Rattle.source_findings.specs.declared.findings.Finding.TheVariants.{Waits, Ranges}
+
+-- the least solution of the program of which the bytes are a source, with no numbers given as thresholds
+pub record Solves (bytes : List ℕ) : Type 0 where
+  pub program : ProgramBodies
+  pub accepted : IsAccepted [] bytes program
+  pub pair : Pair
+  pub least : IsLeastPair program pair
+
+-- ## Circular waits
+
+-- in each world that a run reaches and that has not stopped, each task of each ring of blocked tasks is about to lock at
+-- one of the places
+abbrev pub ListsRings : LaidTree → List Place → Type 0
+ListsRings laid places = (w : World) → IsReached laid w → (tasks : List ℕ) → IsRing laid w tasks
+    → AllLockAt laid w places tasks
+
+-- the places of circular waits of a least solution
+pub record FindsWaits (bytes : List ℕ) (places : List Place) : Type 0 where
+  pub solves : Solves bytes
+  pub are : (let s = solves in let pair = s.pair in AreWaits s.program (tables_of pair.tables) places)
+  pub rings : (let s = solves in let a = s.accepted in ListsRings a.laid places)
+
+-- whether there are any
+abbrev pub waits_status : List Place → Status
+waits_status [] = NoAlarm
+waits_status (place ∷ places) = Alarms
+
+pub record TellsWaits (bytes : List ℕ) (status : Status) (text : List ℕ) : Type 0 where
+  pub places : List Place
+  pub finds : FindsWaits bytes places
+  pub comes : status ≡ waits_status places
+  pub is : text ≡ waits_text places
+
+-- ## Ranges and dead places
+
+-- in each world that a run reaches and that has not stopped, each number that an integer cell of an object of static
+-- storage holds lies within the object's bounds
+abbrev pub StaysWithin : LaidTree → List ObjectBounds → Type 0
+StaysWithin laid bounds = (w : World) → IsReached laid w → (object cell : ℕ) (n : ℤ) → HoldsNumber laid w object cell n
+    → IsBetween bounds object n
+
+-- in no such world is the initial section, or a task behind it, about to act at one of the places
+abbrev pub ActsNowhere : LaidTree → List Place → Type 0
+ActsNowhere laid dead = (w : World) → IsReached laid w → (body : ℕ) → MayAct laid w body
+    → ActsAtSome (next_at laid w body) dead → ⊥
+
+-- the bounds and the dead places of a least solution
+pub record FindsRanges (bytes : List ℕ) (bounds : List ObjectBounds) (dead : List Place) : Type 0 where
+  pub solves : Solves bytes
+  pub ranges : (let s = solves in let pair = s.pair in AreRanges s.program (tables_of pair.tables) pair.store bounds)
+  pub places : (let s = solves in let pair = s.pair in AreDead s.program (tables_of pair.tables) dead)
+  pub within : (let s = solves in let a = s.accepted in StaysWithin a.laid bounds)
+  pub nowhere : (let s = solves in let a = s.accepted in ActsNowhere a.laid dead)
+
+-- the line of an object: the place and the name of its first declaration, and its bounds
+abbrev pub bounds_line : List ℕ → LaidTree → ObjectBounds → List ℕ
+bounds_line bytes laid b =
+    let o = object_at laid b.object in range_line o.place (text_of bytes o.name) b.low b.high
+
+pub record TellsRanges (bytes : List ℕ) (status : Status) (text : List ℕ) : Type 0 where
+  pub bounds : List ObjectBounds
+  pub dead : List Place
+  pub finds : FindsRanges bytes bounds dead
+  pub comes : status ≡ NoAlarm
+  pub is : (let f = finds in let s = f.solves in let a = s.accepted in
+      text ≡ flat_map (bounds_line bytes a.laid) bounds ++ dead_text dead)
+
+-- ## Both
+
+abbrev pub Tells : Finding → List ℕ → Status → List ℕ → Type 0
+Tells Waits = TellsWaits
+Tells Ranges = TellsRanges
+
+-- The status and the text that the command answers these bytes with.
+abbrev pub HasFinding : Finding → List ℕ → Status → List ℕ → Type 0
+HasFinding f bytes NoAlarm text = Tells f bytes NoAlarm text
+HasFinding f bytes Alarms text = Tells f bytes Alarms text
+HasFinding f bytes Refused text = (refusal : Refusal) × IsRefused bytes refusal × (text ≡ refusal_text refusal)
+HasFinding f bytes Usage text = ⊥
+HasFinding f bytes ReadFault text = ⊥
+HasFinding f bytes WriteFault text = ⊥
+HasFinding f bytes NoMemory text = ⊥

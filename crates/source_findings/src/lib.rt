@@ -1,0 +1,11 @@
+//! From the bytes of a source to what its least solution tells of its locks, its objects and its places: the answers of the
+//! commands `waits` and `ranges`, with what they promise of the runs of the source. How a solution is found, and how
+//! circular waits, bounds and dead places are read off it, the crates below know.
+//!
+//! Of `int x; int y; __task(1) void t(void) { x = __input(0, 9); if (x > 20) y = 1; }` the answer of `ranges` is
+//! `1:5 x 0 9`, `1:12 y 0 0`, `1:76 DEAD`, `dead 1`: no run stores to `y`.
+#![tactic(auto)]
+
+mod findings;
+
+pub use findings::{Finding, FindingReply, finding_of};

@@ -1,0 +1,3 @@
+-- The crates below, passed on to those above.
+pub use Rattle.source_programs.proofs.Accepted
+pub use Rattle.source_programs.proofs.OneSource

@@ -1,0 +1,68 @@
+-- The bounds of the numbers that the integer cells of an object hold.
+use Rattle.std.specs.Prelude.{◌≡◌, ◌↔◌, ℕ, ◌<◌, ℤ, ◌≤ℤ◌, true, List, [], ◌∷◌, length, slice_get, Contains, Some}
+use Rattle.strided_dom.specs.Progression.{Has}
+use Rattle.tm_laid.specs.tm_typed.declared.types.Scalar.{Scalar}
+use Rattle.tm_laid.specs.tm_typed.declared.types.Scalar.TheVariants as Scalars
+use Rattle.tm_laid.specs.declared.objects.Initial.TheVariants as Initials
+use Rattle.tm_laid.specs.Layouts.{LaidTree, cell_at, abstract_at, is_shared}
+use Rattle.interfere_set.specs.Stores.{Interferences}
+use Rattle.post_recheck.specs.transfer_rows.StateForms.{State, own_of}
+use Rattle.post_recheck.specs.transfer_rows.Contributions.{entry_at}
+use Rattle.post_recheck.specs.least_tables.Solutions.{NodeTable}
+use Rattle.post_recheck.specs.program_equations.Programs.{ProgramBodies}
+use Rattle.value_ranges.specs.declared.ranges.ObjectBounds.{ObjectBounds}
+
+-- ## Cells
+
+-- an integer type (C99 6.2.5p17)
+abbrev pub IsInteger : Scalar → Type 0
+IsInteger (Scalars.Int type) = Unit {0}
+IsInteger (Scalars.Pointer class) = ⊥
+
+-- an abstract cell of integer type, of an object of static storage (C99 6.2.4p3)
+pub record IsIntegerCell (laid : LaidTree) (object x : ℕ) : Type 0 where
+  pub within : x < length laid.abstract_cells
+  pub of : (let a = abstract_at laid x in a.object ≡ object)
+  pub integer : (let a = abstract_at laid x in IsInteger a.scalar)
+  pub there : object < length laid.objects
+  pub static : is_shared laid object ≡ true
+
+module _ (p : ProgramBodies) (tables : ℕ → NodeTable State) (store : Interferences) where
+  -- ## Numbers
+
+  -- What the tables and the store tell of an abstract cell: the numbers that the cells for which it stands hold before
+  -- the program runs (C99 6.7.8), those of its own value in the state of some node of some body, and those of its weak
+  -- entries.
+  pub data IsToldNumber (x : ℕ) (n : ℤ) : Type 0 where
+    at_first : (cell : ℕ) → cell < length p.laid.cells → (let c = cell_at p.laid cell in c.abstract_cell ≡ x)
+        → slice_get p.laid.initial cell ≡ Some (Initials.Number n) → IsToldNumber x n
+    at_node : (body node : ℕ) (s : State) → tables body node ≡ Some s
+        → (let own = own_of s x in Has own.numbers n) → IsToldNumber x n
+    in_store : (task held : ℕ) → (let entry = entry_at store.weak task held x in Has entry.numbers n)
+        → IsToldNumber x n
+
+  -- a number of an object: one that is told of an integer cell of it
+  pub record IsNumberOf (object : ℕ) (n : ℤ) : Type 0 where
+    pub cell : ℕ
+    pub of : IsIntegerCell p.laid object cell
+    pub told : IsToldNumber cell n
+
+  -- the least and the greatest of them
+  pub record AreBounds (object : ℕ) (low high : ℤ) : Type 0 where
+    pub low_is : IsNumberOf object low
+    pub high_is : IsNumberOf object high
+    pub least : (n : ℤ) → IsNumberOf object n → low ≤ℤ n
+    pub greatest : (n : ℤ) → IsNumberOf object n → n ≤ℤ high
+
+  -- ## Lists
+
+  -- each object comes before the next one
+  abbrev pub AreRising : List ObjectBounds → Type 0
+  AreRising [] = Unit {0}
+  AreRising (b ∷ []) = Unit {0}
+  AreRising (b ∷ c ∷ list) = (b.object < c.object) × AreRising (c ∷ list)
+
+  -- exactly the objects of which a number is told, each once with its bounds, in their order
+  pub record AreRanges (list : List ObjectBounds) : Type 0 where
+    pub sorted : AreRising list
+    pub exact : (b : ObjectBounds) → Contains list b ↔ AreBounds b.object b.low b.high

@@ -1,0 +1,154 @@
+-- What the code notes of each object: the least and the greatest of the numbers that it has seen so far.
+use Rattle.std.specs.Prelude.{◌≡◌, ◌⊎◌, ◌↔◌, ℕ, ◌<◌, ℤ, ◌≤ℤ◌, List, [], length, get_or, slice_get, Contains, Option, Some, None}
+use Rattle.std.specs.FinMap as map
+use Rattle.std.specs.FinMap.{get, entries}
+use Rattle.tm_lattice.specs.Tables.{Table}
+use Rattle.strided_dom.specs.Progression.{Has}
+use Rattle.pointer_dom.specs.Values.{Values}
+use Rattle.tm_laid.specs.declared.objects.Initial.TheVariants as Initials
+use Rattle.tm_laid.specs.Layouts.{LaidTree, cell_at}
+use Rattle.interfere_set.specs.Stores.{Nested, value_or_none}
+use Rattle.post_recheck.specs.transfer_rows.StateForms.{State, own_of}
+use Rattle.post_recheck.specs.least_tables.Solutions.{at}
+use Rattle.post_recheck.specs.program_equations.Solutions.{table_at}
+use Rattle.value_ranges.specs.declared.ranges.ObjectBounds.{ObjectBounds}
+use Rattle.value_ranges.specs.declared.cells.IntegerCell.{IntegerCell}
+use Rattle.value_ranges.specs.Ranges.{IsIntegerCell}
+
+-- ## Bounds that are widened
+
+abbrev pub Noted : Type 0
+Noted = Option ObjectBounds
+
+abbrev pub noted_at : List Noted → ℕ → Noted
+noted_at noted object = get_or noted object None
+
+-- the number lies within what is noted
+abbrev pub IsIn : Noted → ℤ → Type 0
+IsIn None n = ⊥
+IsIn (Some b) n = (b.low ≤ℤ n) × (n ≤ℤ b.high)
+
+-- the number is the least that is noted, or the greatest
+abbrev pub IsLow : Noted → ℤ → Type 0
+IsLow None n = ⊥
+IsLow (Some b) n = b.low ≡ n
+
+abbrev pub IsHigh : Noted → ℤ → Type 0
+IsHigh None n = ⊥
+IsHigh (Some b) n = b.high ≡ n
+
+-- what is noted has the object's number
+abbrev pub IsNamed : ℕ → Noted → Type 0
+IsNamed object None = Unit {0}
+IsNamed object (Some b) = b.object ≡ object
+
+-- what is noted of an object is widened by these numbers, and no further
+pub record IsWidened (P : ℤ → Type 0) (object : ℕ) (old new : Noted) : Type 0 where
+  pub keeps : (n : ℤ) → IsIn old n → IsIn new n
+  pub has : (n : ℤ) → P n → IsIn new n
+  pub low : (n : ℤ) → IsLow new n → IsLow old n ⊎ P n
+  pub high : (n : ℤ) → IsHigh new n → IsHigh old n ⊎ P n
+  pub named : IsNamed object old → IsNamed object new
+
+-- what is noted of each object is widened by its numbers
+pub record AreWidened (P : ℕ → ℤ → Type 0) (old new : List Noted) : Type 0 where
+  pub count : length new ≡ length old
+  pub each : (object : ℕ) → IsWidened (P object) object (noted_at old object) (noted_at new object)
+
+-- these bounds of an object are joined to what is noted of it
+pub record IsJoined (old : Noted) (object : ℕ) (low high : ℤ) (new : ObjectBounds) : Type 0 where
+  pub keeps : (n : ℤ) → IsIn old n → IsIn (Some new) n
+  pub from : new.low ≤ℤ low
+  pub to : high ≤ℤ new.high
+  pub low : IsLow old new.low ⊎ (new.low ≡ low)
+  pub high : IsHigh old new.high ⊎ (new.high ≡ high)
+  pub named : new.object ≡ object
+
+-- ## What is noted
+
+-- it holds for one of the first numbers
+abbrev pub Below : (ℕ → Type 0) → ℕ → Type 0
+Below Q i = (k : ℕ) × (k < i) × Q k
+
+-- the list has exactly the integer cells of objects of static storage
+abbrev pub AreIntegerCells : LaidTree → List IntegerCell → Type 0
+AreIntegerCells laid cells =
+    (object x : ℕ) → Contains cells (record { cell = x; object = object }) ↔ IsIntegerCell laid object x
+
+-- the object of each of them is one of the first
+abbrev pub AreOfObjects : List IntegerCell → ℕ → Type 0
+AreOfObjects cells count =
+    (k : ℕ) (d : IntegerCell) → k < length cells → (let c = get_or cells k d in c.object < count)
+
+abbrev pub no_integer_cell : IntegerCell
+no_integer_cell = record { cell = 0; object = 0 }
+
+-- what a cell holds at first is a number of the object
+pub record IsFirst (laid : LaidTree) (cell object : ℕ) (n : ℤ) : Type 0 where
+  pub within : cell < length laid.cells
+  pub of : (let c = cell_at laid cell in IsIntegerCell laid object c.abstract_cell)
+  pub is : slice_get laid.initial cell ≡ Some (Initials.Number n)
+
+abbrev pub IsFirstBelow : LaidTree → ℕ → ℕ → ℤ → Type 0
+IsFirstBelow laid i object n = Below (λ cell. IsFirst laid cell object n) i
+
+module _ (cells : List IntegerCell) where
+  -- the number is in the value of a cell of the object
+  pub record IsInCell (value : ℕ → Values) (object : ℕ) (n : ℤ) (k : ℕ) : Type 0 where
+    pub of : (let c = get_or cells k no_integer_cell in c.object ≡ object)
+    pub has : (let c = get_or cells k no_integer_cell in let v = value c.cell in Has v.numbers n)
+
+  abbrev pub IsInFirst : (ℕ → Values) → ℕ → ℕ → ℤ → Type 0
+  IsInFirst value i object n = Below (IsInCell value object n) i
+
+  abbrev pub IsInValues : (ℕ → Values) → ℕ → ℤ → Type 0
+  IsInValues value object n = IsInFirst value (length cells) object n
+
+  -- in the own values of the state of a node
+  pub record IsInNode (table : List (Option State)) (object : ℕ) (n : ℤ) (node : ℕ) : Type 0 where
+    pub state : State
+    pub is : at table node ≡ Some state
+    pub has : IsInValues (own_of state) object n
+
+  abbrev pub IsInTable : List (Option State) → ℕ → ℤ → Type 0
+  IsInTable table object n = Below (IsInNode table object n) (length table)
+
+  abbrev pub IsInTables : List (List (Option State)) → ℕ → ℕ → ℤ → Type 0
+  IsInTables tables i object n = Below (λ t. IsInTable (table_at tables t) object n) i
+
+  -- in what was written with a set of mutexes held
+  abbrev pub held_at : Table (Table Values) → ℕ → Table Values
+  held_at written k = (get_or (entries written) k (0, map.empty)).1
+
+  abbrev pub written_at : Nested → ℕ → Table (Table Values)
+  written_at weak k = (get_or (entries weak) k (0, map.empty)).1
+
+  abbrev pub IsInTableOf : Table Values → ℕ → ℤ → Type 0
+  IsInTableOf held object n = IsInValues (λ x. value_or_none (get held x)) object n
+
+  abbrev pub IsInWritten : Table (Table Values) → ℕ → ℕ → ℤ → Type 0
+  IsInWritten written i object n = Below (λ k. IsInTableOf (held_at written k) object n) i
+
+  abbrev pub IsInWeak : Nested → ℕ → ℕ → ℤ → Type 0
+  IsInWeak weak i object n =
+      Below (λ k. (let w = written_at weak k in IsInWritten w (length (entries w)) object n)) i
+
+-- ## Lists of bounds
+
+-- exactly what is noted, in order
+pub record AreListed (noted : List Noted) (i : ℕ) (list : List ObjectBounds) : Type 0 where
+  pub rising : (k l : ℕ) (d : ObjectBounds) → k < l → l < length list
+      → (let b = get_or list k d in let c = get_or list l d in b.object < c.object)
+  pub exact : (b : ObjectBounds) → Contains list b ↔ Below (λ o. noted_at noted o ≡ Some b) i
+
+-- ## All that is noted
+
+-- nothing was noted before, and what is noted is widened by all numbers
+pub record AreNotedIn (laid : LaidTree) (tables : List (List (Option State))) (weak : Nested)
+    (noted : List Noted) : Type 0 where
+  pub cells : List IntegerCell
+  pub are : AreIntegerCells laid cells
+  pub count : length noted ≡ length laid.objects
+  pub each : (object : ℕ) → IsWidened (λ n. IsFirstBelow laid (length laid.initial) object n
+      ⊎ (IsInTables cells tables (length tables) object n ⊎ IsInWeak cells weak (length (entries weak)) object n))
+      object None (noted_at noted object)

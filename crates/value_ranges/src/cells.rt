@@ -1,0 +1,101 @@
+//! Integer cells of objects of static storage, and what they hold before the program runs.
+ghost use Rattle.std.specs.Prelude.{◌≡◌, ◌<◌, ◌≤◌, ◌↔◌, ℕ, true, length, Some, IsTrue, IfOk};
+ghost use Rattle.tm_laid.specs.Layouts.{laid_tree, is_shared};
+ghost use Rattle.value_ranges.specs.Ranges.{IsInteger, IsIntegerCell};
+ghost use Rattle.value_ranges.specs.reading.Notes.{AreIntegerCells, AreWidened, IsFirst, IsFirstBelow};
+
+use crate::bounds::note_number;
+use crate::ranges::ObjectBounds;
+use std::alloc::Global;
+use tm_laid::{Initial, Laid, Scalar};
+use tm_lattice::NoMemory;
+
+// An abstract cell of integer type, and its object, which has static storage.
+#[derive(Clone, Copy)]
+pub(crate) struct IntegerCell {
+    pub(crate) cell: u32,
+    pub(crate) object: u32,
+}
+
+// Whether a scalar is of an integer type.
+fn is_integer(scalar: Scalar) -> bool
+    ensures { IsTrue result ↔ IsInteger scalar }
+{
+    match scalar {
+        Scalar::Int(_) => true,
+        Scalar::Pointer(_) => false,
+    }
+}
+
+// Whether there is an object with this number that has static storage.
+fn is_static(laid: &Laid, object: u32) -> bool
+    ensures { IsTrue result
+        ↔ ((object < length laid.now.objects.items) × (is_shared (laid_tree laid.now) object ≡ true)) }
+{
+    match laid.objects.get(object as usize) {
+        Some(found) => found.owner.is_none(),
+        None => false,
+    }
+}
+
+// The object of an abstract cell of integer type that is of static storage.
+pub(crate) fn object_of(laid: &Laid, cell: usize) -> Option<u32>
+    ensures { (o : ℕ) → (result ≡ Some o) ↔ IsIntegerCell (laid_tree laid.now) o cell }
+{
+    match laid.abstract_cells.get(cell) {
+        Some(found) => {
+            if is_integer(found.scalar) {
+                if is_static(laid, found.object) {
+                    return Some(found.object);
+                }
+            }
+            None
+        }
+        None => None,
+    }
+}
+
+/// The integer cells of objects of static storage.
+pub(crate) fn integer_cells(alloc: Global, laid: &Laid) -> Result<Vec<IntegerCell>, NoMemory>
+    requires { length laid.now.abstract_cells.items ≤ 4096 }
+    ensures { IfOk result (λ cells. AreIntegerCells (laid_tree laid.now) cells.items) }
+{
+    let mut cells = Vec::new(alloc);
+    for cell in 0..laid.abstract_cells.len() {
+        if let Some(object) = object_of(laid, cell) {
+            let found = IntegerCell {
+                cell: cell as u32,
+                object,
+            };
+            cells.push(found)?;
+        }
+    }
+    Ok(cells)
+}
+
+// Notes the number that a cell holds before the program runs, if it is an integer cell.
+fn note_first(laid: &Laid, cell: usize, noted: &mut Vec<Option<ObjectBounds>>)
+    requires cell { cell < length laid.now.initial.items }
+    requires room { length noted.old.items ≡ length laid.now.objects.items }
+    ensures { AreWidened (λ o n. IsFirst (laid_tree laid.now) cell o n) noted.old.items noted.new.items }
+{
+    if cell < laid.cells.len() {
+        if let Some(object) = object_of(laid, laid.cells[cell].abstract_cell as usize) {
+            if let Initial::Number(number) = laid.initial[cell] {
+                note_number(noted, object, number);
+            }
+        }
+    }
+}
+
+/// Notes the numbers that integer cells hold before the program runs: those of all cells for which an abstract cell
+/// stands.
+pub(crate) fn note_initial(laid: &Laid, noted: &mut Vec<Option<ObjectBounds>>)
+    requires { length noted.old.items ≡ length laid.now.objects.items }
+    ensures { AreWidened (λ o n. IsFirstBelow (laid_tree laid.now) (length laid.now.initial.items) o n)
+        noted.old.items noted.new.items }
+{
+    for cell in 0..laid.initial.len() {
+        note_first(laid, cell, noted);
+    }
+}

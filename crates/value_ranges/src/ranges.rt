@@ -1,0 +1,61 @@
+//! Ranges and dead places.
+ghost use Rattle.std.specs.Prelude.{IfOk};
+ghost use Rattle.post_recheck.specs.program_equations.Solutions.{tables_of};
+ghost use Rattle.post_recheck.specs.program_systems.Analysable.{IsAnalysable};
+ghost use Rattle.post_recheck.specs.program_systems.ProgramFacts.{AreProgramFacts, program_with};
+ghost use Rattle.post_recheck.specs.Pairs.{FitsPair, lists_of, pair_of};
+ghost use Rattle.value_ranges.specs.Ranges.{AreRanges};
+ghost use Rattle.value_ranges.specs.Places.{AreDead};
+
+use crate::bounds::listed;
+use crate::notes::noted_in;
+use crate::places::dead_places;
+use interfere_set::Store;
+use mutex_configs::Program;
+use post_recheck::{ProgramFacts, Table};
+use std::alloc::Global;
+use tm_lattice::NoMemory;
+use tm_terms::Place;
+
+/// The least and the greatest number that an integer cell of an object is told to hold.
+#[derive(Clone, Copy)]
+pub struct ObjectBounds {
+    /// The number of the object.
+    pub object: u32,
+    pub low: i128,
+    pub high: i128,
+}
+
+/// What tables and a store tell of a program's objects and places.
+#[derive(Drop)]
+pub struct Ranges {
+    /// The objects of static storage that have integer cells, in their order.
+    pub bounds: Vec<ObjectBounds>,
+    /// The places of loads, stores, locks and unlocks that no state leads to, in their order.
+    pub dead: Vec<Place>,
+}
+
+/// The bounds of each object of which the tables and the store tell a number: the least and the greatest of the numbers
+/// that its integer cells hold before the program runs, of their own values in the states of all nodes, and of their
+/// weak entries. And the dead places: those at which a load, a store, a lock or an unlock of a body stands, and none
+/// that leaves a node with a state.
+pub fn ranges(
+    alloc: Global,
+    program: &Program,
+    facts: &ProgramFacts,
+    tables: &[Table],
+    store: &Store,
+) -> Result<Ranges, NoMemory>
+    requires analysable { IsAnalysable program.now }
+    requires facts { AreProgramFacts program.now facts.now }
+    requires fits { FitsPair (program_with program.now facts.now) (pair_of tables.now store.now) }
+    ensures bounds { IfOk result (λ ranges. AreRanges (program_with program.now facts.now)
+        (tables_of (lists_of tables.now)) store.now ranges.bounds.items) }
+    ensures dead { IfOk result (λ ranges. AreDead (program_with program.now facts.now)
+        (tables_of (lists_of tables.now)) ranges.dead.items) }
+{
+    let noted = noted_in(alloc, &program.laid, tables, store)?;
+    let bounds = listed(alloc, &noted)?;
+    let dead = dead_places(alloc, &program.graphs.graphs, &program.configured, tables)?;
+    Ok(Ranges { bounds, dead })
+}

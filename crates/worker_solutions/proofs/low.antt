@@ -1,0 +1,3 @@
+-- The crates below, passed on to those above.
+pub mod program_solutions
+pub mod shared_analyses
