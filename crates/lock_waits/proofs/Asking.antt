@@ -134,3 +134,11 @@ pub reached_is : (o : Option State) (asked : Option Request) (r : Request) → w
     → (s : State) × (o ≡ Some s) × (asked ≡ Some r)
 reached_is None asked r e = absurd cc
 reached_is (Some s) asked r e = (s, refl, e)
+
+-- the request that is found is the one that is made
+pub asked_some : {N O : Type 0} (found asked : Option Request) (q r : Request) → found ≡ asked → found ≡ Some q
+    → (N ↔ (O ⊎ (r ≡ q))) → (N ↔ (O ⊎ (asked ≡ Some r)))
+asked_some {N} {O} found asked q r is e h = (
+  λ n. elim (h.0 n) [ inl o ↦ inl o | inr same ↦ inr (sym is ∙ e ∙ ap Some (sym same)) ],
+  λ x. h.1 (elim x [ inl o ↦ inl o | inr a ↦ inr (Some_is q r (sym e ∙ is ∙ a)) ]),
+)
