@@ -1,8 +1,8 @@
 -- The requests of one more copy, and of one more task.
-use Rattle.std.proofs.Common.{◌≡◌, ◌↔◌, ◌⊎◌, ℕ, ◌+◌, ◌<◌, refl, ap, sym, subst, ◌∙◌, inl, inr, Bool, true, false, List}
+use Rattle.std.proofs.Common.{◌≡◌, ◌↔◌, ◌⊎◌, ℕ, ◌+◌, refl, ap, sym, subst, ◌∙◌, inl, inr, Bool, true, false, List}
 use Rattle.std.proofs.Common.{length, Option, Some, None, arith}
-use Rattle.std.specs.Prelude.{cond, Contains}
-use Rattle.std.proofs.lemmas.Bool.{cases_eq, cases_Bool}
+use Rattle.std.specs.Prelude.{cond}
+use Rattle.std.proofs.lemmas.Bool.{cases_eq}
 use Rattle.tm_terms.specs.declared.places.Place.{Place}
 use Rattle.flow_graph.specs.declared.graphs.Edge.{Edge}
 use Rattle.flow_graph.specs.declared.operations.Operation.{Operation}

@@ -1,7 +1,6 @@
 -- What is read of the task with a number.
-use Rattle.std.proofs.Common.{◌≡◌, ◌↔◌, ◌⊎◌, ℕ, ◌<◌, ◌≤◌, ◌^◌, ap, sym, subst, ◌∙◌, List, length}
-use Rattle.std.proofs.Common.{get_or, Option, None, arith}
-use Rattle.std.proofs.lemmas.List.{get_or_default}
+use Rattle.std.proofs.Common.{◌≡◌, ◌↔◌, ◌⊎◌, ℕ, ◌<◌, ◌^◌, ap, sym, subst, ◌∙◌, List, length}
+use Rattle.std.proofs.Common.{get_or, Option, arith}
 use Rattle.flow_graph.specs.declared.graphs.Edge.{Edge}
 use Rattle.flow_graph.specs.declared.graphs.Graph.{Graph}
 use Rattle.mutex_configs.specs.declared.nodes.ConfiguredNode.{ConfiguredNode}
@@ -10,8 +9,6 @@ use Rattle.mutex_configs.specs.declared.nodes.EdgeCopy.{EdgeCopy}
 use Rattle.mutex_configs.specs.declared.programs.Program.{Program}
 use Rattle.request_circles.specs.declared.requests.Request.{Request}
 use Rattle.post_recheck.specs.transfer_rows.StateForms.{State}
-use Rattle.post_recheck.specs.least_tables.Solutions.{at}
-use Rattle.post_recheck.specs.task_equations.Bodies.{no_copy}
 use Rattle.post_recheck.specs.program_equations.Programs.{ProgramBodies, body_at, IsProgram}
 use Rattle.post_recheck.specs.program_equations.Solutions.{table_at}
 use Rattle.post_recheck.specs.program_systems.Analysable.{IsAnalysable}
