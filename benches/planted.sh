@@ -84,8 +84,8 @@ for name in "$@"; do
     while read -r line; do
         echo "$line"
         [ "${line#planted.sh: }" = "$line" ] || status=1
-        edit=$(sed -n "s,^\(rt: \)\{0,1\}must-fail $name/\([^ ]*\.edit\): .*,\2,p" <<<"$line")
-        [ -n "$edit" ] || continue
+        [[ $line =~ must-fail\ $name/([^ ]+\.edit): ]] || continue
+        edit=${BASH_REMATCH[1]}
         case $line in
         *": refused, as it must be (only because"*) keep_row "$name" "$edit" names ;;
         *": refused, as it must be"*) keep_row "$name" "$edit" '' ;;
