@@ -7,7 +7,8 @@ PROGRAM is the built analyser, and REPORT_VIEW the built program that shows repo
 nothing written, or the whole answer, that of a run in which no allocation fails; or status 7 with nothing written,
 where memory runs out while the words are copied. A line tells for each command and source how many allocations it
 makes, in how many runs it had its whole answer, and in how many one of the others; each answer that is none of these
-has a line of its own, and then the exit status is 1. With WORDs only the commands with one of these first words are run.
+has a line of its own, and then the exit status is 1. With WORDs only the commands with one of these first words are
+run.
 
 Where a command makes more than N allocations, 100 if no number is given, only so many of them fail, the first and the
 last ones and others evenly between; --most 0 has each of them fail, which takes days for the larger examples. --jobs N
