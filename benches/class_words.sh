@@ -4,9 +4,9 @@
 #     benches/class_words.sh
 #
 # The table of docs/ALARMS.md is what the others are compared with: the definitions of names, sentences and helps; the
-# order of the classes in reports; the list of all classes in a log; the table of classes in docs/LANGUAGE.md; the headings
-# of docs/ALARMS.md, each with the name and the sentence of its section; and each line of a document or of a stored
-# report that has the form `PLACE: NAME: SENTENCE`. Nothing is said of the code, which is proved equal to the
+# order of the classes in reports; the list of all classes in a log; the table of classes in docs/LANGUAGE.md; the
+# headings of docs/ALARMS.md, each with the name and the sentence of its section; and each line of a document or of a
+# stored report that has the form `PLACE: NAME: SENTENCE`. Nothing is said of the code, which is proved equal to the
 # definitions. Status 1 where words differ, with a line for each.
 set -eu
 cd "$(dirname "$(readlink -f "$0")")/.."
@@ -14,7 +14,12 @@ folder=$(mktemp -d)
 trap 'rm -rf "$folder"' EXIT
 status=0
 
-awk '/^## / { inside = ($0 == "## The words of the classes") } inside && /^\| [A-Z]+ \|/' docs/ALARMS.md >"$folder/table"
+# the rows of the table of classes in a section
+rows() { # FILE SECTION
+    awk -v section="## $2" '/^## / { inside = ($0 == section) } inside && /^\| [A-Z]+ \|/' "$1"
+}
+
+rows docs/ALARMS.md 'The words of the classes' >"$folder/table"
 column() { # NUMBER
     awk -F ' *[|] *' -v at="$(($1 + 1))" '{ print $at }' "$folder/table"
 }
@@ -49,7 +54,7 @@ differs 'class_number of crates/tm_terms/specs/Alarms.antt' "$folder/names" "$fo
 sed -n 's/^classes = \(.*\) ∷ \[\]$/\1/p' crates/report_views/specs/Sarif.antt | sed 's/ ∷ /\n/g' |
     tr '[:lower:]' '[:upper:]' >"$folder/found"
 differs 'classes of crates/report_views/specs/Sarif.antt' "$folder/names" "$folder/found"
-awk '/^## / { inside = ($0 == "## Error classes") } inside && /^\| [A-Z]+ \|/ { print $2 }' docs/LANGUAGE.md >"$folder/found"
+rows docs/LANGUAGE.md 'Error classes' | awk '{ print $2 }' >"$folder/found"
 differs 'the table of docs/LANGUAGE.md' "$folder/names" "$folder/found"
 sed -n 's/^## \([A-Z]*\): \(.*\)$/\1|\2/p' docs/ALARMS.md >"$folder/found"
 differs 'the headings of docs/ALARMS.md' "$folder/sentences" "$folder/found"
@@ -58,5 +63,6 @@ differs 'the headings of docs/ALARMS.md' "$folder/sentences" "$folder/found"
 while IFS= read -r line; do
     text=$(sed -E 's/^.*:[0-9]+:[0-9]+: //' <<<"$line")
     grep -Fxq "${text/: /|}" "$folder/sentences" || { echo "no sentence of the table: $line"; status=1; }
-done < <(grep -rnoE "[A-Za-z_./]+\.[ch]:[0-9]+:[0-9]+: ($(paste -sd '|' "$folder/names")): [^\`\"\\\\]*" README.md docs examples)
+done < <(grep -rnoE "[A-Za-z_./]+\.[ch]:[0-9]+:[0-9]+: ($(paste -sd '|' "$folder/names")): [^\`\"\\\\]*" \
+    README.md docs examples)
 exit "$status"

@@ -1,6 +1,6 @@
 #!/usr/bin/env bash
-# Whether the recipes of docs/ARCHITECTURE.md name every place: each file that has a class, an operator or a command that
-# is there already has to stand in the recipe for a new one, and each file that a recipe names has to be there.
+# Whether the recipes of docs/ARCHITECTURE.md name every place: each file that has a class, an operator or a command
+# that is there already has to stand in the recipe for a new one, and each file that a recipe names has to be there.
 #
 #     benches/recipes.sh [TOP]
 #

@@ -9,8 +9,8 @@
 
 # What `--prove` takes, as README.md has it: processor minutes in all, and minutes for the longest chain of crates, each
 # of which stands on the one before.
-proof_processor_minutes=250
-proof_chain_minutes=75
+proof_processor_minutes=180
+proof_chain_minutes=45
 
 say() { # MESSAGE
     printf '%s: %s\n' "$me" "$1" >&2

@@ -1,6 +1,6 @@
 #!/usr/bin/env bash
-# What compilers make of the sources of docs/RUNS.md, "Where C leaves more open": for each, the value of `r` at its end by
-# the definitions, and those that it has when it is compiled and run.
+# What compilers make of the sources of docs/RUNS.md, "Where C leaves more open": for each, the value of `r` at its end
+# by the definitions, and those that it has when it is compiled and run.
 #
 #     vectors/choices.sh [OPTION..]
 #

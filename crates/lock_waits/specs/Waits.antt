@@ -13,11 +13,11 @@ use Rattle.mutex_configs.specs.Sets.{has}
 use Rattle.mutex_configs.specs.declared.programs.Program.{Program}
 use Rattle.request_circles.specs.declared.requests.Request.{Request}
 use Rattle.request_circles.specs.Requests as circles
-use Rattle.program_reports.specs.transfer_rows.StateForms.{State}
-use Rattle.program_reports.specs.least_tables.Solutions.{NodeTable}
-use Rattle.program_reports.specs.program_equations.Programs.{ProgramBodies, body_at}
-use Rattle.program_reports.specs.program_equations.Solutions.{table_at}
-use Rattle.program_reports.specs.post_recheck.program_systems.ProgramFacts.{AllFacts, AreProgramFacts, program_with}
+use Rattle.post_recheck.specs.transfer_rows.StateForms.{State}
+use Rattle.post_recheck.specs.least_tables.Solutions.{NodeTable}
+use Rattle.post_recheck.specs.program_equations.Programs.{ProgramBodies, body_at}
+use Rattle.post_recheck.specs.program_equations.Solutions.{table_at}
+use Rattle.post_recheck.specs.program_systems.ProgramFacts.{AllFacts, AreProgramFacts, program_with}
 use Rattle.program_reports.specs.Reports.{operation_in, left_in, IsReachedIn}
 
 module _ (p : ProgramBodies) (tables : ℕ → NodeTable State) where

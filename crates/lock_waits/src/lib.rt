@@ -8,6 +8,8 @@
 
 mod bodies;
 mod copies;
+mod laws;
 mod waits;
 
+pub use laws::waits_are_one;
 pub use waits::circular;

@@ -4,11 +4,12 @@
 -- leads to the second, since the task 1 holds what the task 0 asks for, and the second to the first: both are circular,
 -- and the places are 2:34 and 3:34. Where both hold the mutex 2 besides, neither leads to the other: two tasks never
 -- hold one mutex at the same time.
-use Rattle.std.specs.Prelude.{◌≡◌, ◌↔◌, ◌⊎◌, ℕ, ◌<◌, true, List, [], ◌∷◌, Contains}
+use Rattle.std.specs.Prelude.{◌≡◌, ◌↔◌, true, List, Contains}
 use Rattle.std.specs.Int.{bit_at}
 use Rattle.tm_terms.specs.declared.places.Place.{Place}
 use Rattle.tm_soundness.specs.Known.{Chain}
 use Rattle.interfere_set.specs.Stores.{are_apart}
+use Rattle.place_lists.specs.Order.{AreInOrder}
 use Rattle.request_circles.specs.declared.requests.Request.{Request}
 
 -- ## Requests
@@ -18,18 +19,6 @@ pub record LeadsTo (r s : Request) : Type 0 where
   pub differ : r.task ≡ s.task → ⊥
   pub apart : are_apart r.held s.held ≡ true
   pub holds : bit_at s.held r.mutex ≡ 1
-
--- ## Places in order
-
--- by line, then by column
-abbrev pub PlaceBefore : Place → Place → Type 0
-PlaceBefore p q = (p.line < q.line) ⊎ ((p.line ≡ q.line) × (p.col < q.col))
-
--- each place comes before the next one: sorted, without repeats
-abbrev pub ArePlacesInOrder : List Place → Type 0
-ArePlacesInOrder [] = Unit {0}
-ArePlacesInOrder (p ∷ []) = Unit {0}
-ArePlacesInOrder (p ∷ q ∷ places) = PlaceBefore p q × ArePlacesInOrder (q ∷ places)
 
 -- ## Circular requests
 
@@ -52,5 +41,5 @@ module _ (IsRequest : Request → Type 0) where
 
   -- exactly these places, in order and without repeats
   pub record AreCircularPlaces (places : List Place) : Type 0 where
-    pub sorted : ArePlacesInOrder places
+    pub sorted : AreInOrder places
     pub exact : (place : Place) → Contains places place ↔ IsCircularPlace place

@@ -7,13 +7,11 @@
 #![tactic(auto)]
 
 mod circles;
-mod laws;
 mod numbers;
 mod places;
 mod requests;
 mod searches;
 mod trims;
 
-pub use laws::listed_places_are_one;
 pub use places::circular_places;
 pub use requests::{Request, has_mutex, push_request};

@@ -26,8 +26,14 @@ fn is_loose(requests: &[Request], left: &Numbers, number: usize) -> bool
     requires left { AreLeft requests.now left.now.marks.items }
     ensures { IsTrue result → IsLoose requests.now left.now.marks.items number }
 {
-    left.has(number)
-        && !(has_step(requests, left, true, number) && has_step(requests, left, false, number))
+    if !left.has(number) {
+        return false;
+    }
+    // None leads to a request of a task that holds nothing, as most are.
+    if requests[number].held == 0 {
+        return true;
+    }
+    !(has_step(requests, left, false, number) && has_step(requests, left, true, number))
 }
 
 // Takes such requests away. Whether there was one.

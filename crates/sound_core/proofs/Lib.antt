@@ -1,7 +1,7 @@
 -- The bodies of a file (FileBodies), every error of a run is an alarm (Alarmed), and what graphs (Graphs) and layouts
 -- (Cells) keep for the tables; what cells hold at the start (Starting), and
 -- that abstract cells stand for cells (Hits); which operations there are (Regular). What is known of each world that a
--- run reaches (Known): circles of tasks that wait (Circles), and what cells hold (Contents).
+-- run reaches (Known): circles of tasks that wait (Circles) and rings (Rings), and what cells hold (Contents).
 pub mod FileBodies
 pub mod Alarmed
 pub mod Graphs
@@ -11,4 +11,5 @@ pub mod Hits
 pub mod Regular
 pub mod Known
 pub mod Circles
+pub mod Rings
 pub mod Contents

@@ -1,5 +1,5 @@
 //! The law of the report.
-ghost use Rattle.std.specs.Prelude.{◌≡◌, ℕ, ◌<◌, ◌≤◌, ◌^◌, List, length, Option, Some, None};
+ghost use Rattle.std.specs.Prelude.{◌≡◌, ℕ, ◌<◌, ◌≤◌, ◌^◌, List, [], length, Option, Some, None};
 ghost use Rattle.sound_tables.specs.tm_cint.declared.Class.{Class};
 ghost use Rattle.sound_tables.specs.tm_terms.declared.places.Place.{Place};
 ghost use Rattle.sound_tables.specs.tm_laid.Layouts.{LaidTree};
@@ -18,7 +18,9 @@ ghost use Rattle.sound_tables.specs.tm_soundness.Known.{Chain};
 ghost use Rattle.sound_tables.specs.Premises.{LaysCells, IsGraphOf};
 ghost use Rattle.sound_tables.specs.Starting.{IsStartMemory};
 ghost use Rattle.sound_core.specs.Sound.{IsProgramFrom};
+ghost use Rattle.lock_waits.specs.Waits.{AreWaits};
 ghost use Rattle.sound_core.specs.Known.{WaitsFor, HasCircular, HoldsAllTold};
+ghost use Rattle.sound_core.specs.Rings.{IsRing, IsLockOfRing};
 
 /// The cells of a program's layout are laid out as its tables ask; and each of its graphs keeps what they
 /// ask. At the start cells of static storage hold their initial values, which lie within their objects, and local cells
@@ -68,4 +70,21 @@ pub fn contents_are_told()
     ensures { (laid : LaidTree) (p : ProgramBodies) → IsProgramFrom laid p → (is : IsProgram p)
         → length laid.objects ≤ 2 ^ 32 → (tables : List (List (Option State))) (store : Interferences)
         → IsPair p tables store → (w : World) → IsReached laid w → HoldsAllTold p tables store w }
+{}
+
+/// Whatever ring of tasks there is in a world that a run reaches, the place of the lock at which each of them is
+/// blocked is one of the waits of every solution.
+pub fn rings_are_listed()
+    ensures { (laid : LaidTree) (p : ProgramBodies) → IsProgramFrom laid p → (is : IsProgram p)
+        → length laid.objects ≤ 2 ^ 32 → (tables : List (List (Option State))) (store : Interferences)
+        → IsPair p tables store → (places : List Place) → AreWaits p (tables_of tables) places → (w : World)
+        → IsReached laid w → (tasks : List ℕ) → IsRing laid w tasks → IsLockOfRing laid w tasks places }
+{}
+
+/// Where a solution has no waits, no run reaches a ring.
+pub fn none_listed_no_ring()
+    ensures { (laid : LaidTree) (p : ProgramBodies) → IsProgramFrom laid p → (is : IsProgram p)
+        → length laid.objects ≤ 2 ^ 32 → (tables : List (List (Option State))) (store : Interferences)
+        → IsPair p tables store → AreWaits p (tables_of tables) [] → (w : World) → IsReached laid w
+        → (tasks : List ℕ) → IsRing laid w tasks → ⊥ }
 {}

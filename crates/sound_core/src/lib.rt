@@ -6,12 +6,13 @@
 //! of the class Race.
 //!
 //! On the way stand laws on every world that a run reaches: the concurrent invariant holds there, tasks that wait for
-//! each other in a circle stand at circular requests, and what cells hold is told by every solution.
+//! each other in a circle stand at circular requests, and so at places that are listed, and what cells hold is told by
+//! every solution.
 #![tactic(auto)]
 
 mod laws;
 
 pub use laws::{
     circles_are_requested, contents_are_told, errors_are_alarms, foundations_are_kept,
-    worlds_are_known,
+    none_listed_no_ring, rings_are_listed, worlds_are_known,
 };

@@ -8,9 +8,9 @@ use Rattle.mutex_configs.specs.declared.nodes.EdgeCopy.{EdgeCopy}
 use Rattle.mutex_configs.specs.Nodes.{entry_node}
 use Rattle.mutex_configs.specs.Sets.{has}
 use Rattle.request_circles.specs.declared.requests.Request.{Request}
-use Rattle.program_reports.specs.transfer_rows.StateForms.{State}
-use Rattle.program_reports.specs.least_tables.Solutions.{at}
-use Rattle.program_reports.specs.task_equations.Bodies.{no_edge, no_copy}
+use Rattle.post_recheck.specs.transfer_rows.StateForms.{State}
+use Rattle.post_recheck.specs.least_tables.Solutions.{at}
+use Rattle.post_recheck.specs.task_equations.Bodies.{no_edge, no_copy}
 use Rattle.lock_waits.specs.declared.copies.TaskParts.{TaskParts}
 
 -- the request of an operation of a task at a node where it holds these mutexes
@@ -19,32 +19,33 @@ asked_by (Op.Lock mutex place) task held =
     cond (has held mutex) None (Some (record { task = task; held = held; mutex = mutex; place = place }))
 asked_by operation task held = None
 
-module _ (task : ℕ) (edges : List Edge) (nodes : List ConfiguredNode) (copies : List EdgeCopy) where
-  abbrev pub copy_of : ℕ → EdgeCopy
-  copy_of k = get_or copies k no_copy
+-- it counts where the node that is left has a state
+abbrev pub where_reached : Option State → Option Request → Option Request
+where_reached None asked = None
+where_reached (Some s) asked = asked
 
-  abbrev pub edge_of : ℕ → Edge
-  edge_of k = (let c = copy_of k in get_or edges c.edge no_edge)
+abbrev pub copy_in : List EdgeCopy → ℕ → EdgeCopy
+copy_in copies k = get_or copies k no_copy
 
-  abbrev pub node_of : ℕ → ConfiguredNode
-  node_of k = (let c = copy_of k in get_or nodes c.from entry_node)
-
+module _ (task : ℕ) (edges : List Edge) (nodes : List ConfiguredNode) (copies : List EdgeCopy)
+    (table : List (Option State)) where
   -- the request of a copy
   abbrev pub asked_at : ℕ → Option Request
-  asked_at k = (let e = edge_of k in let q = node_of k in asked_by e.op task q.held)
+  asked_at k =
+      let c = copy_in copies k in
+      let e = get_or edges c.edge no_edge in
+      let q = get_or nodes c.from entry_node in where_reached (at table c.from) (asked_by e.op task q.held)
 
-  -- one of the first copies, from a node with a state, makes the request
-  pub record IsAskedBelow (table : List (Option State)) (n : ℕ) (r : Request) : Type 0 where
+  -- one of the first copies makes the request
+  pub record IsAskedBelow (n : ℕ) (r : Request) : Type 0 where
     pub copy : ℕ
     pub below : copy < n
-    pub state : State
-    pub reached : (let c = copy_of copy in at table c.from ≡ Some state)
     pub asked : asked_at copy ≡ Some r
 
 -- each copy is of an edge, from a node, for which the table has a state or none
 pub record AreInRange (parts : TaskParts) : Type 0 where
   pub edges : (k : ℕ) → k < length parts.copies.now
-      → (let c = copy_of parts.copies.now k in c.edge < length parts.edges.now)
+      → (let c = copy_in parts.copies.now k in c.edge < length parts.edges.now)
   pub nodes : (k : ℕ) → k < length parts.copies.now
-      → (let c = copy_of parts.copies.now k in c.from < length parts.nodes.now)
+      → (let c = copy_in parts.copies.now k in c.from < length parts.nodes.now)
   pub count : length parts.table.now ≡ length parts.nodes.now

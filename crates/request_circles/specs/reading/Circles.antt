@@ -14,7 +14,7 @@ pub record HasCommon (one other old new : List Bool) : Type 0 where
 pub record HasDecided (requests : List Request) (number : ℕ) (left leaves old new : List Bool) : Type 0 where
   pub left_same : length leaves ≡ length left
   pub same : length new ≡ length old
-  pub left : AreLeft requests leaves
+  pub all_left : AreLeft requests leaves
   pub kept : (k : ℕ) → IsMarked old k → IsMarked new k
   pub sound : (k : ℕ) → IsMarked new k → IsMarked old k ⊎ IsOnCircle requests k
   pub decided : IsOnCircle requests number → IsMarked new number

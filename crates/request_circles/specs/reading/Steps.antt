@@ -32,7 +32,7 @@ module _ (requests : List Request) where
   module _ (left : List Bool) where
     -- a step to a request that is left
     pub record IsStepLeft (ahead : Bool) (k j : ℕ) : Type 0 where
-      pub left : IsMarked left j
+      pub there : IsMarked left j
       pub step : IsStep ahead k j
 
     -- all circular requests are left

@@ -17,7 +17,7 @@ module _ (requests : List Request) (left : List Bool) where
 
   -- it is left, and not circular
   pub record IsLoose (k : ℕ) : Type 0 where
-    pub left : IsMarked left k
+    pub there : IsMarked left k
     pub not_circular : IsOnCircle requests k → ⊥
 
 -- Some are taken away, and no circular one. There are fewer where the answer is true.
