@@ -6,8 +6,8 @@
 #     benches/recipes.sh TOP class|operator|command NAME
 #
 # In the second form TOP is a repository in which a recipe was followed for NAME, a pattern of grep, and each file that
-# has what is there already and not NAME is listed. What is there already is the class RACE beside OVERFLOW and the field
-# of SHIFT; the operator `%`; the command `replay`. Status 1 where a file is missing or listed.
+# has what is there already and not NAME is listed. What is there already is the class RACE beside OVERFLOW and the
+# field of SHIFT; the operator `%`; the command `replay`. Status 1 where a file is missing or listed.
 set -eu
 own=$(dirname "$(dirname "$(readlink -f "$0")")")
 [ $# -eq 0 ] || [ $# -eq 3 ] || { sed -n 's/^#     /usage: /p' "$0" >&2; exit 2; }
