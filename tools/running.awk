@@ -1,12 +1,12 @@
-# Tells what of a source cannot run as it may be meant, where a look at its words is sure of it: of each task that runs
-# once, in a source in which a less urgent task loops, `once LINE NAME`; and of a `main` that does not end, so that no
-# task runs, `endless LINE`. It reads the words of a preprocessed source that the analyser accepts: a line
-# `LINE:BYTE:WORD` for each name, number and other byte, as `grep -nbo` writes it.
+# Tells what of a source cannot run as it may be meant, where a look at its words is sure of it: of a `main` that does
+# not end, so that no task runs, `endless LINE`; or else of each task that runs at most once, in a source in which a
+# less urgent task loops, `once LINE NAME`. It reads the words of a preprocessed source that the analyser accepts: a
+# line `LINE:BYTE:WORD` for each name, number and other byte, as `grep -nbo` writes it.
 #
 # It follows no types, no values and no macros. A body that may go on, or whose way is not plain, gets no line: a task
-# runs once where neither its body nor that of a function named in it, and so on, has a loop or a __yield; `main` does
-# not end where a loop stands in it, or in a function that it calls, under no condition, whose own condition is a
-# number, with no `break` of its own and no `return` before its end.
+# runs at most once where neither its body nor that of a function named in it, and so on, has a loop or a __yield;
+# `main` does not end where a loop stands in it, or in a function that it calls, under no condition, whose own
+# condition is a number, with no `break` of its own and no `return` before its end.
 
 {
     split($0, parts, ":")
@@ -45,11 +45,14 @@ END {
     find_ends()
     find_functions()
     find_calls()
+    if (tasks && ("main" in first) && endless("main")) {
+        print "endless", place
+        exit
+    }
     for (i = 1; i <= tasks; i++) {
         name = task_names[i]
         if (!goes_on(name) && is_above_a_loop(i)) print "once", lines[first[name]], name
     }
-    if (tasks && ("main" in first) && endless("main")) print "endless", place
 }
 
 # The word that closes each bracket.
@@ -169,8 +172,8 @@ function end_of_endless_loop(i,   head, begin, begin_of_condition, end_of_condit
         end_of_condition = next_semicolon(begin_of_condition)
         if (end_of_condition > begin_of_condition && !is_number(begin_of_condition, end_of_condition - 1)) return 0
     }
-    if (words[begin] == ";") return begin
-    return words[begin] == "{" && !has_break(begin) ? ends[begin] : 0
+    if (words[begin] == "{") return has_break(begin) ? 0 : ends[begin]
+    return words[begin] ~ /^(if|switch|while|for|do|break|return)$/ ? 0 : next_semicolon(begin)
 }
 
 # The first semicolon from here on that stands in no brackets.

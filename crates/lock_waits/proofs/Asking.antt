@@ -1,8 +1,8 @@
 -- The requests of one more copy, and of one more task.
-use Rattle.std.proofs.Common.{◌≡◌, ◌↔◌, ◌⊎◌, ℕ, ◌+◌, ◌<◌, refl, ap, sym, subst, ◌∙◌, inl, inr, Bool, true, false, List}
+use Rattle.std.proofs.Common.{◌≡◌, ◌↔◌, ◌⊎◌, ℕ, ◌+◌, refl, ap, sym, subst, ◌∙◌, inl, inr, Bool, true, false, List}
 use Rattle.std.proofs.Common.{length, Option, Some, None, arith}
-use Rattle.std.specs.Prelude.{cond, Contains}
-use Rattle.std.proofs.lemmas.Bool.{cases_eq, cases_Bool}
+use Rattle.std.specs.Prelude.{cond}
+use Rattle.std.proofs.lemmas.Bool.{cases_eq}
 use Rattle.tm_terms.specs.declared.places.Place.{Place}
 use Rattle.flow_graph.specs.declared.graphs.Edge.{Edge}
 use Rattle.flow_graph.specs.declared.operations.Operation.{Operation}
@@ -134,3 +134,11 @@ pub reached_is : (o : Option State) (asked : Option Request) (r : Request) → w
     → (s : State) × (o ≡ Some s) × (asked ≡ Some r)
 reached_is None asked r e = absurd cc
 reached_is (Some s) asked r e = (s, refl, e)
+
+-- the request that is found is the one that is made
+pub asked_some : {N O : Type 0} (found asked : Option Request) (q r : Request) → found ≡ asked → found ≡ Some q
+    → (N ↔ (O ⊎ (r ≡ q))) → (N ↔ (O ⊎ (asked ≡ Some r)))
+asked_some {N} {O} found asked q r is e h = (
+  λ n. elim (h.0 n) [ inl o ↦ inl o | inr same ↦ inr (sym is ∙ e ∙ ap Some (sym same)) ],
+  λ x. h.1 (elim x [ inl o ↦ inl o | inr a ↦ inr (Some_is q r (sym e ∙ is ∙ a)) ]),
+)

@@ -1,5 +1,5 @@
 //! The requests of a body's copies of edges.
-ghost use Rattle.std.specs.Prelude.{◌≡◌, ◌<◌, ◌⊎◌, ◌↔◌, length, Some, Contains, OnOk};
+ghost use Rattle.std.specs.Prelude.{◌≡◌, ◌<◌, ◌⊎◌, ◌↔◌, length, Contains, OnOk};
 ghost use Rattle.request_circles.specs.declared.requests.Request.{Request as ARequest};
 ghost use Rattle.lock_waits.specs.reading.Copies.{asked_by, asked_at, IsAskedBelow, AreInRange};
 

@@ -1,4 +1,4 @@
-use Rattle.std.proofs.Common.{◌≡◌, ap, sym, ◌∙◌, refl, arith}
+use Rattle.std.proofs.Common.{ap, sym, ◌∙◌, arith}
 use Rattle.std.proofs.lemmas.Result.{on_ok_weaker}
 use Rattle.post_recheck.specs.Pairs.{lists_of}
 use Rattle.post_recheck.proofs.Found.{table_read, tables_counted}
@@ -21,8 +21,8 @@ bounds-tables-number c =
     (in_tables c.args.program.now c.requires.analysable c.args.number c.requires.number (lists_of c.args.tables.now)
     c.requires.tables)
 
-pub overflow_cast-number : goal.overflow_cast-number
-overflow_cast-number c =
+pub overflow_cast-parts : goal.overflow_cast-parts
+overflow_cast-parts c =
     let small = number_small c.args.program.now c.requires.analysable c.args.number c.requires.number in
     omega (arith, small)
 
@@ -49,6 +49,7 @@ returns c =
     let table = c.deref-3.ensures.value ∙ ap (λ v. v.items) c.index-tables-number.is
     ∙ sym (table_read c.args.tables.now t c.index-tables-number.result counted) in
     on_ok_weaker c.add_copies.result
-    (λ h facts are r. asked_of program c.requires.analysable t c.requires.number lists c.requires.tables _
-    c.index.result.now c.index-configured.result.now c.index.ensures c.index-configured.ensures c.deref.ensures.value
-    c.as_slice.ensures.keys c.deref-2.ensures.value table facts are r (h r)) c.add_copies.ensures
+    (λ h facts are r. asked_of program c.requires.analysable t c.requires.number facts are c.index.result.now
+    c.index-configured.result.now c.index.ensures c.index-configured.ensures lists r c.deref.result.now
+    c.as_slice.result.now c.deref-2.result.now c.deref-3.result.now c.deref.ensures.value c.as_slice.ensures.keys
+    c.deref-2.ensures.value table (h r)) c.add_copies.ensures

@@ -23,7 +23,8 @@ returns c =
     let p = program_with c.args.program.now facts in
     let lists = lists_of c.args.tables.now in
     let is = is_program c.args.program.now facts c.requires.analysable are in
-    let end : c.loop-number.number ≡ p.tasks = omega arith in
+    let end : c.loop-number.number ≡ p.tasks =
+    omega (arith, c.len-number-end.ensures, c.args.program.now.laid.file.tasks.ok.0) in
     let same = λ (r : ARequest). requested p is lists r c.loop-number.requests.items c.deref.result.now
     c.deref.ensures.value c.loop-number.number end (c.loop-number.invariant facts are r) in
     same_requests (Contains c.deref.result.now) (IsRequest p (tables_of lists)) same places.items h)
