@@ -6,9 +6,9 @@
 #
 #     benches/eva.sh PROGRAM [N..]
 #
-# PROGRAM is the built analyser, which reads a source from its standard input. Each time is the least of three runs, in
-# processor seconds, each run bound to one processor; a row says N, bytes of the source, seconds and MB of both, and the
-# two ratios. Frama-C and GNU time have to be installed.
+# PROGRAM is the built analyser (./analyse --program), which reads a source from its standard input. Each time is the
+# least of three runs, in processor seconds, each run bound to one processor; a row says N, bytes of the source, seconds
+# and MB of both, and the two ratios. Frama-C and GNU time have to be installed.
 set -eu
 [ $# -ge 1 ] || { sed -n 's/^#     /usage: /p' "$0"; exit 2; }
 command -v frama-c > /dev/null || { echo 'frama-c is not on the PATH' >&2; exit 2; }

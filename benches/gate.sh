@@ -1,74 +1,85 @@
 #!/usr/bin/env bash
 # What the gate costs: for each crate the processor seconds of its proof from nothing, of the same with its tests, and
-# of its must-fail edits, as a table for docs/ARCHITECTURE.md. A crate has 5 processor minutes for each 1,000 lines of
-# code, and 8 in all; what is over stands in the last column. It judges nothing: `rt ci` does.
+# of its must-fail edits, as a table for docs/ARCHITECTURE.md, with what is over the budget; and whether the whole is.
 #
-#     benches/gate.sh [NAME..]
+#     benches/gate.sh [NAME..]          proves what tools/prove.py has not kept yet, and tells what each part took
+#     benches/gate.sh --kept [NAME..]   proves nothing, and tells what is kept
+#     benches/gate.sh --anew            proves all from nothing, one crate after another, for a quiet machine
 #
-# Each crate is measured by itself, one after another, so the whole takes as long as the sum. The libraries that it
-# stands on are built first, where they are not there, and are not counted.
+# The status is 1 where a crate or the whole is over its budget, where a row is not filled, or where something is not
+# proved. It judges no proof: `rt ci` does.
+#
+# A crate has 5 processor minutes for each 1,000 lines of code and 8 in all, its tests and edits included; beside them
+# the 20 seconds that the kit takes before the first line, and 10 for each 1,000 lines of definitions and lemmas. The
+# whole has 200 minutes, with the kit's own sums of texts, which no crate's row has (benches/ways.py).
 set -u
 
 top=$(readlink -f "$(dirname "${BASH_SOURCE[0]}")/..")
-log=$(mktemp)
-trap 'rm -f "$log"' EXIT
-total=0
+each_line=0.3
+each_ghost_line=0.01
+before_the_first=20
+most_of_a_crate=480
+most_of_all=12000
 
-# The crates of the repository that the crate names in crates.txt.
-uses_of() { # NAME
-    local used
-    for used in $(sed -n "s/#.*//; s/^$1\( [^:]*\)\{0,1\}:\(.*\)/\2/p" "$top/crates.txt"); do
-        [ ! -d "$top/crates/$used" ] || echo "$used"
-    done
+way=fill
+case ${1:-} in
+--kept | --anew)
+    way=${1#--}
+    shift
+    ;;
+-*)
+    sed -n '2,/^set/s/^# \{0,1\}//p' "${BASH_SOURCE[0]}" | sed '$d'
+    exit 2
+    ;;
+esac
+cd "$top" || exit 2
+room=$(mktemp -d)
+trap 'rm -rf "$room"' EXIT
+status=0
+case $way in
+anew)
+    export CEDRATCLEAT_KEPT=$room/kept
+    python3 tools/prove.py --tests --edits --jobs 1 "$@" >&2 || status=1
+    ;;
+fill) python3 tools/prove.py --tests --edits "$@" >&2 || status=1 ;;
+esac
+
+lines_in() { # FOLDER..
+    find "$@" -type f \( -name '*.rt' -o -name '*.antt' \) -exec cat {} + 2>/dev/null | wc -l
 }
 
-# Runs the command, and sets `spent` to the seconds that its processes took of the processors.
-spend() { # COMMAND..
-    local TIMEFORMAT='%U %S' told
-    told=$({ time "$@" >"$log" 2>&1; } 2>&1)
-    spent=$(awk '{ printf "%.0f", $1 + $2 }' <<<"$told")
-}
-
-# Measures the crate in the current folder, and writes its row. What its proof leaves in out/ stays.
-measure() { # NAME
-    local name=$1 lines proof tests='' edits='' count sum most over=''
-    lines=$(find src -name '*.rt' -exec cat {} + | wc -l)
-    mkdir -p out
-    rm -rf out/incremental out/aside
-    spend rt check --jobs 1
-    proof=$spent
-    sum=$spent
-    if grep -rqs '#\[test\]' src; then
-        mv out/incremental out/aside
-        spend rt check --test --jobs 1
-        rm -rf out/incremental
-        mv out/aside out/incremental
-        tests=$spent
-        sum=$((sum + spent))
-    fi
-    count=$(find must-fail -name '*.edit' 2>/dev/null | wc -l)
-    if [ "$count" -gt 0 ]; then
-        spend rt must-fail "$name"
-        edits="$spent ($count)"
-        sum=$((sum + spent))
-    fi
-    total=$((total + sum))
-    most=$((lines * 300 / 1000))
-    [ "$most" -le 480 ] || most=480
-    [ "$sum" -le "$most" ] || over=$((sum - most))
-    printf '| `%s` | %d | %d | %s | %s | %d | %s |\n' "$name" "$lines" "$proof" "$tests" "$edits" "$sum" "$over"
-}
-
-names=("$@")
-[ $# -gt 0 ] || mapfile -t names < <(sed 's/#.*//; s/[: ].*//; /^$/d' "$top/crates.txt")
 printf 'In processor seconds, with `%s`, on %s of %s:\n\n' "$(rt version)" \
     "$(nproc) processors" "$(sed -n 's/^model name[^:]*: *//p' /proc/cpuinfo | head -1)"
 printf '| Crate | Lines | Proof | With tests | Edits | Sum | Over |\n|---|---|---|---|---|---|---|\n'
-for name in "${names[@]}"; do
-    for used in $(uses_of "$name"); do
-        (cd "$top/crates/$used" && rt lib >/dev/null 2>&1)
-    done
-    cd "$top/crates/$name" || exit 1
-    measure "$name"
-done
-printf '\nThe sum is %d processor minutes.\n' $(((total + 30) / 60))
+total=0
+# A row of the table is | `crate` | lines | proof | tests | edits | memory |.
+while IFS='|' read -r _ name lines proof tests edits _; do
+    name=$(tr -d ' `' <<<"$name")
+    lines=${lines// /} proof=${proof// /} tests=${tests// /} edits=${edits// /}
+    count=$(find "crates/$name/must-fail" -name '*.edit' 2>/dev/null | wc -l)
+    ghost=$(lines_in "crates/$name/specs" "crates/$name/proofs")
+    over=
+    [ -n "$proof" ] || over='proof?'
+    [ -n "$tests" ] || ! grep -rqs '#\[test\]' "crates/$name/src" || over="${over:+$over }tests?"
+    [ -n "$edits" ] || [ "$count" = 0 ] || over="${over:+$over }edits?"
+    sum=$((${proof:-0} + ${tests:-0} + ${edits:-0}))
+    over=$(awk -v said="$over" -v sum="$sum" -v code="$lines" -v ghost="$ghost" -v a=$each_line -v b=$each_ghost_line \
+        -v c=$before_the_first -v most=$most_of_a_crate 'BEGIN {
+            has = c + a * code + b * ghost
+            has = has < most ? has : most
+            print said (sum > has ? sprintf("%s%d", said == "" ? "" : " ", sum - has + 0.5) : "") }')
+    [ -z "$over" ] || status=1
+    total=$((total + sum))
+    [ "$count" = 0 ] || edits="${edits:+$edits }($count)"
+    printf '| `%s` | %d | %s | %s | %s | %d | %s |\n' "$name" "$lines" "$proof" "$tests" "$edits" "$sum" "$over"
+done < <(python3 tools/prove.py --table "$@" | grep '^| `')
+
+ways=$(python3 benches/ways.py | sed -n 1p)
+sums=$(sed 's/.*: \([0-9]*\) processor seconds.*/\1/' <<<"$ways")
+printf '\nThe crates take %d processor minutes.' $(((total + 30) / 60))
+if [ $# = 0 ]; then
+    printf ' %s. The whole: %d of %d minutes.' "$ways" $(((total + sums + 30) / 60)) $((most_of_all / 60))
+    [ $((total + sums)) -le $most_of_all ] || status=1
+fi
+printf '\n'
+exit $status

@@ -6,8 +6,8 @@
 #
 #     benches/generated.sh PROGRAM [N..]
 #
-# PROGRAM is the built analyser. Each time is the least of three runs, in processor seconds, each run bound to one
-# processor; a run below 0.3 seconds is made ten times in a row and divided. A row says N, bytes of the source, seconds
+# PROGRAM is the built analyser (./analyse --program). Each time is the least of three runs, in processor seconds, each
+# run bound to one processor; a run below 0.3 seconds is made ten times in a row and divided. A row says N, bytes of the source, seconds
 # and MB of both, and the two ratios; then how the time grows from the least to the greatest N, and with 1 and with 4
 # workers on eight tasks (seconds by the clock). Frama-C and GNU time have to be installed.
 set -eu

@@ -3,8 +3,8 @@
 #
 #     benches/hostile.sh PROGRAM [NAME..]
 #
-# PROGRAM is the built analyser, which reads a source from its standard input. A row says the source, its bytes, the
-# processor seconds and the MB of one run with a stack of 8 MB, and the last line of the answer. A run is ended after
+# PROGRAM is the built analyser (./analyse --program), which reads a source from its standard input. A row says the
+# source, its bytes, the processor seconds and the MB of one run with a stack of 8 MB, and the last line of the answer. A run is ended after
 # LIMIT processor seconds, 300 where it is not set. GNU time has to be installed.
 set -eu
 [ $# -ge 1 ] || { sed -n 's/^#     /usage: /p' "$0"; exit 2; }

@@ -1,6 +1,6 @@
 #!/bin/sh
 # Bytes per second on sources that are nearly all lexis, beside `wc -c` on the same files.
-# usage: benches/lexer.sh PROGRAM WORD..    e.g. benches/lexer.sh crates/analyse_main/out/analyse_main analyse
+# usage: benches/lexer.sh PROGRAM WORD..    e.g. benches/lexer.sh "$(./analyse --program)" analyse
 set -eu
 [ $# -ge 1 ] || { sed -n 2,3p "$0"; exit 2; }
 folder=$(mktemp -d)
@@ -15,6 +15,12 @@ fill one_name 'a'
 fill comments '/* x */ '
 fill open_parentheses '('
 fill zeros '0'
+# behind NAME FRONT TEXT: the same behind a front, on one line
+behind() { { printf '%s' "$2"; yes "$3" | tr -d '\n'; } | head -c "$size" > "$folder/$1"; }
+behind line_backslashes '//' '\ '
+behind line_blanks '//' ' '
+{ printf '/*'; yes '*\'; } | head -c "$size" > "$folder/stars_and_splices"
+{ printf '/**'; yes '??/'; } | head -c "$size" > "$folder/splices"
 yes '# 1 "a.c"' | head -c "$size" > "$folder/skipped_lines"
 seq 1 130000 | sed 's/^/n/' | head -c "$size" > "$folder/distinct_names"
 

@@ -4,7 +4,7 @@
 # The text is three of the examples again and again, each copy with long names of its own, so that 1 MiB has at most
 # 200,000 tokens. It has more tasks than a program may have, so it is refused by that limit once it is typed. The compiler
 # gets the words of the language that C lacks by definitions on its command line. It is run at the top of the repository.
-# usage: benches/parser.sh PROGRAM WORD..    e.g. benches/parser.sh crates/analyse_main/out/analyse_main analyse
+# usage: benches/parser.sh PROGRAM WORD..    e.g. benches/parser.sh "$(./analyse --program)" analyse
 set -eu
 [ $# -ge 1 ] || { sed -n 2,7p "$0"; exit 2; }
 folder=$(mktemp -d)

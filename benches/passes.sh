@@ -4,9 +4,9 @@
 #
 #     benches/passes.sh PROGRAM [FILE..]
 #
-# PROGRAM is the built analyser. With no FILE it counts on three sources of eight tasks: tasks that move one counter on
-# in turn, so that each step wants the next task; the same with the tasks in the other order; and tasks of equal size of
-# which none reads what another writes.
+# PROGRAM is the built analyser (./analyse --program). With no FILE it counts on three sources of eight tasks: tasks
+# that move one counter on in turn, so that each step wants the next task; the same with the tasks in the other order;
+# and tasks of equal size of which none reads what another writes.
 set -eu
 
 program=$(readlink -f "$1")

@@ -99,10 +99,38 @@ same "status 9" "$(told "$top/analyse" "$work/error.c")" "a preprocessor that fa
 grep -q 'error.c:1:' "$work/err" && echo "its message is told"
 same "status 9" "$(CC=$work/none told "$top/analyse" "$work/error.c")" "a preprocessor that is not there"
 
+# Several files: each has its answer, and the greatest status counts.
+printf 'int n;\n' >"$work/none.c"
+same $'a b.h:8:1: refused Syntax\nalarms 0\nstatus 2' \
+    "$(told "$top/analyse" --preprocessed "$work/refused.c" "$work/none.c")" "two files, of which one is refused"
+same $'alarms 0\nalarms 0\nstatus 0' \
+    "$(told "$top/analyse" "$work/none.c" "$work/none.c" --workers 2 17)" "a file twice"
+same $'alarms 0\nstatus 9' "$(told "$top/analyse" "$work/error.c" "$work/none.c")" "a file behind one that fails"
+
+# What does not run, where a look at the words is sure of it, and nothing where it is not.
+printf '# 7 "a.h"\nint n;\n__task(9) void isr(void) { n = 1; }\n__task(1) void loop(void) { while (1) __yield(); }\n' \
+    >"$work/once.c"
+same $'alarms 0\nstatus 0' "$(told "$top/analyse" --preprocessed "$work/once.c")" "a task that runs once"
+grep -q '^analyse: a.h:8:1: the task isr has no loop' "$work/err"
+printf 'int n;\nvoid turns(void) {\n  for (;;) { switch (n) { case 0: break; } } }\n%s\n%s\n' \
+    'int main(void) { n = 1; turns(); return 0; }' '__task(1) void t(void) { n = 2; }' >"$work/endless.c"
+same $'alarms 0\nstatus 0' "$(told "$top/analyse" "$work/endless.c")" "a main that does not end"
+grep -q "^analyse: $work/endless.c:3:1: main goes on here for ever" "$work/err"
+for body in 'if (n) turns();' 'do { n = 0; } while (n);' 'while (1) { if (n) break; }' 'while (n) { }' \
+    'for (;;) { return 0; }' \
+    'if (n) do { n++; } while (1);' 'if (n) return 1; while (1) { }' 'for (n = 0; n < 9; n++) { while (1) { break; } }'; do
+    printf 'volatile int n;\nvoid turns(void) { for (;;) { } }\nint main(void) { %s return 0; }\n%s\n%s\n' "$body" \
+        '__task(9) void a(void) { while (n) n = 0; }' '__task(1) void b(void) { while (1) __yield(); }' >"$work/ends.c"
+    told "$top/analyse" "$work/ends.c" >"$work/out"
+    tail -n 1 "$work/out" | grep -q '^status [01]$'
+    if grep -E 'at most once|for ever' "$work/err"; then exit 1; fi
+done
+echo "what does not run is told where it is sure"
+
 # Words that are no command: what may be wrong with them is told.
 same "status 3" "$(told "$top/analyse" "$work/refused.c" --sarif)" "an option behind the file"
 grep -q 'stands before FILE' "$work/err"
-same "status 3" "$(told "$top/analyse" "$work/refused.c" "$work/error.c")" "a second file"
-grep -q 'one FILE is analysed' "$work/err"
+same "status 3" "$(told "$top/analyse" "$work/refused.c" 17 "$work/error.c")" "a file behind the words"
+grep -q 'stands before 17' "$work/err"
 same "status 3" "$(told "$top/analyse" --sarif "$work/refused.c" --json)" "two forms"
 echo "all as wanted"

@@ -1,28 +1,29 @@
 #!/usr/bin/env python3
-"""Proves crates side by side, and keeps what is proved, so that a crate is proved again only where its text or that of a
-crate below it has changed.
+"""Proves crates side by side, and keeps what is proved, so that a crate is proved again only where its text or that of
+a crate below it has changed.
 
-    tools/prove.py [--tests] [--edits] [--jobs N] [NAME..]     proves the crates and all below them (no NAME: every crate)
-    tools/prove.py --check NAME [rattle's flags]               as `rt check` in crates/NAME, over libraries that are kept
-    tools/prove.py --edit NAME EDIT..                          tries edits of a crate, which the prover must refuse
-    tools/prove.py --lacks [NAME..]                            lists what is not kept, and proves nothing
-    tools/prove.py --table [NAME..]                            processor seconds and memory of each kept part, as a table
+    tools/prove.py [--tests] [--edits] [--jobs N] [NAME..]  proves the crates and all below them (no NAME: every crate)
+    tools/prove.py --check NAME [rattle's flags]            as `rt check` in crates/NAME, over libraries that are kept
+    tools/prove.py --edit NAME EDIT..                       tries edits of a crate, which the prover must refuse
+    tools/prove.py --lacks [NAME..]                         lists what is not kept, and proves nothing
+    tools/prove.py --kept NAME..                            writes where what is kept of the crates stands, a line each
+    tools/prove.py --table [NAME..]                         processor seconds and memory of each kept part, as a table
 
---tests proves and runs the tests too, --edits tries the must-fail edits too: together they are what `rt ci` does, part by
-part. A part is started when all below it is proved, those with the longest chain behind them first, as many at once as
-there are processors and memory. When the run is interrupted, the next one goes on where it stopped.
+--tests proves and runs the tests too, --edits tries the must-fail edits too: together they are what `rt ci` does, part
+by part. A part is started when all below it is proved, those with the longest chain behind them first, as many at once
+as there are processors and memory. A line tells each part that has ended, and about how long the rest will take, by
+what the parts took when they last passed. When the run is interrupted, the next one goes on where it stopped.
 
-What is proved is kept below $CEDRATCLEAT_KEPT, or else ~/.cache/cedratcleat, by a sum of the text of a crate and of all
-below it and of the kit, so that several checkouts share it. It is no verdict: `rt ci` is, which proves all from nothing.
-It calls functions of the kit's own `rt`, so a newer kit may ask for changes here."""
+What is proved is kept below $CEDRATCLEAT_KEPT, or else ~/.cache/cedratcleat, by the sum of the texts (kept_crates.py).
+It is no verdict: `rt ci` is, which proves all from nothing. It calls functions of the kit's own `rt`, so a newer kit
+may ask for changes here."""
+import contextlib
 import fcntl
-import functools
-import hashlib
-import importlib.machinery
-import importlib.util
+import glob
+import heapq
 import os
-import re
 import shutil
+import signal
 import subprocess
 import sys
 import tempfile
@@ -30,91 +31,24 @@ import threading
 import time
 from concurrent.futures import FIRST_COMPLETED, ThreadPoolExecutor, wait
 
+sys.dont_write_bytecode = True
+from kept_crates import crate_named, marks_of_any_text, numbers_of, read_crates, rt, rtlib
+
+# A check of one crate gains little from more processors.
 MOST_JOBS = 4
-# What a check is likely to take of memory, where none is known of that crate: with it no fifth check starts in 16 GB.
-USUAL_MEMORY = 3 << 30
+# What a check takes before its first line, and for each line of code, in processor seconds and bytes, where the crate
+# was never measured.
+FIRST_SECONDS = {"proof": 16, "tests": 40, "edits": 60}
+LINE_SECONDS = {"proof": 0.14, "tests": 0.2, "edits": 0.14}
+FIRST_MEMORY, LINE_MEMORY = 1_300_000_000, 1_000_000
+# What a check has soon after it began: so much of its memory is no longer free then.
+BEGUN_MEMORY = 500_000_000
 
 
-def kit():
-    """The kit's `rt`, as a module."""
-    page = subprocess.run(["rt", "doc"], capture_output=True, text=True, check=True).stdout.strip()
-    loader = importlib.machinery.SourceFileLoader("rt", f"{os.path.dirname(page)}/bin/rt")
-    made = importlib.util.module_from_spec(importlib.util.spec_from_loader("rt", loader))
-    sys.modules["rt"] = made
-    loader.exec_module(made)
-    return made
+# ----- One part of a crate, in a process of its own -----
 
 
-rt = kit()
-rtlib = rt.rtlib
-STORE = os.environ.get("CEDRATCLEAT_KEPT") or f"{os.environ.get('XDG_CACHE_HOME') or os.path.expanduser('~/.cache')}/cedratcleat"
-
-
-@functools.lru_cache(maxsize=None)
-def kit_sum():
-    with open(f"{rt.KIT}/WHAT", "rb") as it:
-        return hashlib.sha256(it.read()).hexdigest()
-
-
-def sum_of(folder, parts):
-    """A sum of the files of these parts of a crate."""
-    made = hashlib.sha256()
-    for part in parts:
-        for at, folders, files in os.walk(f"{folder}/{part}"):
-            folders.sort()
-            for name in sorted(files):
-                with open(f"{at}/{name}", "rb") as it:
-                    made.update(repr((f"{at}/{name}".removeprefix(folder), it.read())).encode())
-    return made.hexdigest()
-
-
-class Crate(rt.Crate):
-    """A crate whose library stands in the store."""
-
-    def below(self):
-        """As the kit's, but each crate is asked once."""
-        if "found" not in self.__dict__:
-            found = {}
-            for dep in self.deps:
-                found.update({it.name: it for it in [*dep.below(), dep]})
-            self.found = [*found.values()]
-        return self.found
-
-    def stamp(self):
-        """A sum of the text of the crate, of those below it and of the kit."""
-        if "sum" not in self.__dict__:
-            own = [kit_sum(), self.name, sorted(self.of_kit), sum_of(self.folder, ("src", "specs", "proofs"))]
-            made = repr([*own, sorted((it.name, it.stamp()) for it in self.below())])
-            self.sum = hashlib.sha256(made.encode()).hexdigest()
-        return self.sum
-
-    @property
-    def kept(self):
-        """Where its library and its marks are kept."""
-        return f"{STORE}/{self.name}/{self.stamp()[:24]}"
-
-    @property
-    def rlib(self):
-        return self.__dict__.get("made_at") or f"{self.kept}/{self.name}.rlib"
-
-    @rlib.setter
-    def rlib(self, _):
-        pass
-
-    def mark(self, part):
-        """The file that says that a part passed, with its processor seconds, seconds by the clock, and bytes of memory."""
-        if part == "proof":
-            return f"{self.kept}/proof"
-        of = {"tests": ("src",), "edits": ("must-fail",)}[part]
-        return f"{self.kept}/{part}-{sum_of(self.folder, of)[:16]}"
-
-    def is_kept(self, part):
-        if not os.path.isfile(self.mark(part)):
-            return False
-        return part != "proof" or not self.is_program or os.path.isfile(f"{self.kept}/{self.name}")
-
-
-def refused_text(crate, crates):
+def is_refused_unproved(crate, crates):
     """Whether the text of the crate is refused before any proof."""
     rtlib.stop_on_links(crate.folder)
     rtlib.stop_on_unread(crate.folder, crates)
@@ -123,179 +57,268 @@ def refused_text(crate, crates):
     return rtlib.fmt(crate.folder, "--check", crate.out)
 
 
-def proved(crate, crates, tests, jobs):
-    """Proves a crate or its tests from nothing, runs them, and keeps the library or the program."""
-    try:
-        if not tests and refused_text(crate, crates):
-            return False
-        os.makedirs(f"{crate.folder}/out", exist_ok=True)
-        os.makedirs(crate.kept, exist_ok=True)
-        room = tempfile.mkdtemp(prefix="making-", dir=crate.kept)
-        final = crate.rlib
-        if not tests:
-            crate.made_at = f"{room}/{crate.name}.rlib"
-        status = crate.ci(["--jobs", str(jobs)], tests)
-        crate.made_at = None
-    except SystemExit as stopped:
-        print(stopped, file=crate.out)
+def keep_program(crate, room):
+    """Runs the program as each compiler built it, and keeps it."""
+    for ending in rt.BACKENDS.values():
+        built = f"{crate.folder}/out/{crate.name}{ending}"
+        if os.path.isfile(built):
+            if not rt.run(crate, False, ending):
+                return False
+            shutil.copyfile(built, f"{room}/{crate.name}{ending}")
+            os.chmod(f"{room}/{crate.name}{ending}", 0o755)
+            os.replace(f"{room}/{crate.name}{ending}", f"{crate.kept}/{crate.name}{ending}")
+    return True
+
+
+def keep_library(crate, room):
+    shutil.rmtree(crate.rlib, ignore_errors=True)
+    os.rename(f"{room}/{crate.name}.rlib", crate.rlib)
+    return True
+
+
+def is_proved(crate, crates):
+    """Proves a crate from nothing, and keeps its library or its program."""
+    if is_refused_unproved(crate, crates):
         return False
-    if not status and tests:
-        status = not rt.run(crate, True)
-    if not status and not tests and crate.is_program:
-        for ending in rt.BACKENDS.values():
-            made = f"{crate.folder}/out/{crate.name}{ending}"
-            if os.path.isfile(made):
-                status = status or not rt.run(crate, False, ending)
-                shutil.copyfile(made, f"{room}/{crate.name}{ending}")
-                os.chmod(f"{room}/{crate.name}{ending}", 0o755)
-                os.replace(f"{room}/{crate.name}{ending}", f"{crate.kept}/{crate.name}{ending}")
-    elif not status and not tests:
-        shutil.rmtree(final, ignore_errors=True)
-        os.rename(f"{room}/{crate.name}.rlib", final)
-    shutil.rmtree(room, ignore_errors=True)
-    return not status
+    room = tempfile.mkdtemp(prefix="making-", dir=crate.kept)
+    crate.made_at = f"{room}/{crate.name}.rlib"
+    status = crate.ci(["--jobs", str(crate.jobs)], False)
+    crate.made_at = None
+    return not status and (keep_program if crate.is_program else keep_library)(crate, room)
 
 
-def edits_refused(crate, edits):
+def have_passed(crate):
+    """Proves the tests of a crate from nothing, and runs them."""
+    return not crate.ci(["--jobs", str(crate.jobs)], True) and rt.run(crate, True)
+
+
+def are_refused(crate, edits):
     tried = rt.must_fail_all(crate, edits, ["--jobs", "1"])
     for _, said in tried:
         print(said, file=crate.out, flush=True)
     return all(well for well, _ in tried)
 
 
-def read_crates(root):
-    Crate.cuts_libraries = True
-    rtlib.stop, rtlib.Crate = rt.stop, Crate
-    Crate.allowed = rt.handles_of(root)
-    rtlib.guarded()
-    crates = rtlib.crates_below(f"{root}/crates")
-    return sorted(crates, key=lambda it: len(it.below()))
+def end_with_parent():
+    """Ends this process, and with it the prover that it started, when its parent ends, which holds a pipe to it."""
+    while os.read(0, 1):
+        pass
+    os._exit(1)
 
 
 def do_part(root, name, part, jobs):
-    """Does one part of a crate; called as a process of its own, so that what it takes can be told."""
+    threading.Thread(target=end_with_parent, daemon=True).start()
     crates = read_crates(root)
     crate = next(it for it in crates if it.name == name)
-    crate.out = sys.stdout
-    if part == "edits":
-        good, bad = rt.edits_of(crate)
-        return 0 if not bad and edits_refused(crate, good) else 1
-    return 0 if proved(crate, crates, part == "tests", jobs) else 1
+    crate.out, crate.jobs = sys.stdout, jobs
+    os.makedirs(f"{crate.folder}/out", exist_ok=True)
+    try:
+        if part == "edits":
+            good, bad = rt.edits_of(crate)
+            well = not bad and are_refused(crate, good)
+        else:
+            well = have_passed(crate) if part == "tests" else is_proved(crate, crates)
+    except SystemExit as stopped:
+        print(stopped, file=crate.out)
+        well = False
+    return 0 if well else 1
 
 
-def memory_free():
-    return rt.free()
+# ----- What parts take -----
+
+
+class Costs:
+    """What a part is likely to take, by its marks over any text, or else by its lines."""
+
+    def __init__(self, crate_of):
+        self.crate_of, self.seconds, self.memory = crate_of, {}, {}
+
+    def seconds_of(self, key):
+        """Processor seconds."""
+        if key not in self.seconds:
+            known = marks_of_any_text(*key)
+            by_lines = FIRST_SECONDS[key[1]] + LINE_SECONDS[key[1]] * self.crate_of[key[0]].count(rb"\n")
+            self.seconds[key] = known[0][0] if known else by_lines
+        return self.seconds[key]
+
+    def memory_of(self, key):
+        """The most bytes at one time."""
+        if key not in self.memory:
+            known = [most for _, _, most in marks_of_any_text(key[0], "proof")]
+            by_lines = FIRST_MEMORY + LINE_MEMORY * self.crate_of[key[0]].count(rb"\n")
+            self.memory[key] = max(known) if known else by_lines
+        return self.memory[key]
+
+
+# ----- All parts, side by side -----
+
+
+class Running:
+    def __init__(self, key, jobs, memory):
+        self.key, self.jobs, self.memory, self.began = key, jobs, memory, time.time()
 
 
 class Run:
     def __init__(self, root, names, parts, lanes):
         self.root, self.lanes, self.began = root, lanes, time.time()
         self.crates = read_crates(root)
+        self.crate_of = {it.name: it for it in self.crates}
+        self.waits = self.parts_of(names, parts)
+        self.given = {key: True for key in self.waits if self.crate_of[key[0]].is_kept(key[1])}
+        self.costs = Costs(self.crate_of)
+        self.running, self.pids = {}, set()
+        # Seconds that the parts which ended took by the clock, and those that were expected of them.
+        self.took = self.expected = 0
+
+    def parts_of(self, names, parts):
+        """The parts that are asked for, and the proofs below them, each with those that it waits for."""
         tops = [it for it in self.crates if it.name in names]
         lower = {it.name for top in tops for it in [*top.below(), top]}
-        self.parts, self.crate_of = {}, {it.name: it for it in self.crates}
+        waits = {}
         for it in self.crates:
             if names and it.name not in lower:
                 continue
             below = [(low.name, "proof") for low in it.below()]
-            self.parts[it.name, "proof"] = below
+            waits[it.name, "proof"] = below
             is_asked = not names or it.name in names
             if "tests" in parts and is_asked and it.has_tests():
-                self.parts[it.name, "tests"] = below
+                waits[it.name, "tests"] = below
             if "edits" in parts and is_asked and rt.edits_of(it)[0]:
-                self.parts[it.name, "edits"] = [*below, (it.name, "proof")]
-        self.given = {key: True for key in self.parts if self.crate_of[key[0]].is_kept(key[1])}
-        self.lines = {key: self.crate_of[key[0]].count(rb"\n") for key in self.parts}
+                waits[it.name, "edits"] = [*below, (it.name, "proof")]
+        return waits
 
-    def behind(self):
-        """How many lines stand on the longest chain that begins with each part."""
-        found = {it: 0 for it in self.parts}
-        for key in reversed([*self.parts]):
-            found[key] += self.lines[key]
-            for it in self.parts[key]:
-                found[it] = max(found[it], found[key])
-        return found
+    def lacking(self):
+        """The parts that are not kept, those with the longest chain behind them first."""
+        behind = {it: 0 for it in self.waits}
+        for key in reversed([*self.waits]):
+            behind[key] += self.costs.seconds_of(key)
+            for it in self.waits[key]:
+                behind[it] = max(behind[it], behind[key])
+        return sorted((it for it in self.waits if it not in self.given), key=lambda it: -behind[it])
 
-    def known_memory(self, name, part):
-        """The most that a check of the crate took when it was last measured, of whatever text."""
-        found, folder = 0, f"{STORE}/{name}"
-        for key in os.listdir(folder) if os.path.isdir(folder) else []:
-            row = (rtlib.text_of(f"{folder}/{key}/proof") or "").split()
-            found = max(found, int(row[2])) if len(row) == 3 else found
-        return found or USUAL_MEMORY
+    def start_ready(self, pool):
+        """Starts what is ready, as many parts as processors and memory bear, and at least one."""
+        ready = [it for it in self.left if all(self.given.get(low) for low in self.waits[it])]
+        for at, key in enumerate(ready):
+            idle = self.lanes - sum(it.jobs for it in self.running.values())
+            needs = self.costs.memory_of(key)
+            # What runs has come about half the way, on an average, to the most that it will have.
+            growth = sum(max(0, it.memory - BEGUN_MEMORY) for it in self.running.values()) // 2
+            if idle > 0 and (not self.running or needs + growth < rt.free()):
+                self.left.remove(key)
+                jobs = 1 if key[1] == "edits" else max(1, min(MOST_JOBS, idle // (len(ready) - at)))
+                self.running[pool.submit(self.one, key, jobs)] = Running(key, jobs, needs)
 
     def one(self, key, jobs):
-        """Does a part in a process of its own, and marks it if it passed."""
+        """Does a part in a process of its own, marks it if it passed, and returns this and its processor time."""
         name, part = key
         crate, began = self.crate_of[name], time.time()
         os.makedirs(crate.kept, exist_ok=True)
         with open(f"{crate.kept}/lock", "w", encoding="utf-8") as lock:
             fcntl.flock(lock, fcntl.LOCK_EX)
             if crate.is_kept(part):
-                return True
+                return True, 0
             with open(f"{crate.kept}/{part}.log", "w", encoding="utf-8") as log:
-                words = [sys.executable, os.path.realpath(__file__), "--part", name, part, str(jobs)]
-                child = subprocess.Popen(words, cwd=self.root, stdin=subprocess.DEVNULL, stdout=log, stderr=subprocess.STDOUT)
-                _, status, used = os.wait4(child.pid, 0)
-                child.returncode = os.waitstatus_to_exitcode(status)
-            passed = child.returncode == 0
-            if passed:
-                with open(crate.mark(part), "w", encoding="utf-8") as it:
-                    it.write(f"{used.ru_utime + used.ru_stime:.0f} {time.time() - began:.0f} {1024 * used.ru_maxrss}")
-            self.tell(key, passed, used.ru_utime + used.ru_stime, time.time() - began)
-        return passed
+                words = [sys.executable, os.path.realpath(__file__), "--part", *key, str(jobs)]
+                status, used = self.wait_for(words, log)
+            seconds = used.ru_utime + used.ru_stime
+            for it in glob.glob(f"{crate.kept}/making-*"):
+                shutil.rmtree(it, ignore_errors=True)
+            if status == 0:
+                with open(f"{crate.kept}/mark.new", "w", encoding="utf-8") as it:
+                    it.write(f"{seconds:.0f} {time.time() - began:.0f} {1024 * used.ru_maxrss}")
+                os.replace(f"{crate.kept}/mark.new", crate.mark(part))
+        return status == 0, seconds
 
-    def tell(self, key, passed, seconds, clock):
-        """A line of progress: the part, how many of how many, minutes so far and what is likely to be left."""
-        with TELLING:
-            self.done += self.lines[key]
-            self.count += 1
-            minutes = (time.time() - self.began) / 60
-            left = minutes * (self.all_lines - self.done) / max(self.done, 1)
-            crate = self.crate_of[key[0]]
-            how = "proved" if passed and key[1] == "proof" else "passed" if passed else f"FAILED: read {crate.kept}/{key[1]}.log"
-            of = f"{self.count} of {self.all_parts}, {minutes:.0f} minutes so far, about {left:.0f} left"
-            print(f"{key[0]}{'' if key[1] == 'proof' else ' ' + key[1]}: {how} ({seconds:.0f} processor seconds, {clock:.0f} s; {of})", flush=True)
+    def wait_for(self, words, log):
+        """Runs a command that ends when this process does, and returns its status and what it used."""
+        how = {"cwd": self.root, "stdin": subprocess.PIPE, "stdout": log, "stderr": subprocess.STDOUT}
+        child = subprocess.Popen(words, start_new_session=True, **how)
+        self.pids.add(child.pid)
+        _, status, used = os.wait4(child.pid, 0)
+        self.pids.discard(child.pid)
+        child.returncode = os.waitstatus_to_exitcode(status)
+        child.stdin.close()
+        return child.returncode, used
+
+    def end(self, part, passed, seconds):
+        """Notes and tells that a part has ended, how many of how many, minutes so far and what is likely to be left."""
+        name, what = part.key
+        clock, now = time.time() - part.began, (time.time() - self.began) / 60
+        self.given[part.key] = passed
+        self.count += 1
+        if passed and seconds:
+            self.took, self.expected = self.took + clock, self.expected + self.costs.seconds_of(part.key)
+        log = f"{self.crate_of[name].kept}/{what}.log"
+        how = f"FAILED: read {log}" if not passed else "proved" if what == "proof" else "passed"
+        of = f"{self.count} of {self.all}, {now:.0f} minutes so far, about {self.minutes_left():.0f} left"
+        what = "" if what == "proof" else f" {what}"
+        print(f"{name}{what}: {how} ({seconds:.0f} processor seconds, {clock:.0f} s; {of})", flush=True)
+
+    def minutes_left(self):
+        """How long the rest is likely to take: its parts are put on processors as they will be, at the pace so far."""
+        # (the first parts are short, and say little of the pace)
+        pace, now = (self.took + 300) / (self.expected + 300), time.time()
+        rest = lambda it: max(5.0, pace * self.costs.seconds_of(it.key) - (now - it.began))
+        ends = [(rest(it), it.key) for it in self.running.values()]
+        heapq.heapify(ends)
+        left, done, clock = [*self.left], {it for it, passed in self.given.items() if passed}, 0.0
+        while ends or left:
+            for key in [it for it in left if done.issuperset(self.waits[it])][: self.lanes - len(ends)]:
+                left.remove(key)
+                heapq.heappush(ends, (clock + pace * self.costs.seconds_of(key), key))
+            if not ends:
+                break
+            clock, key = heapq.heappop(ends)
+            done.add(key)
+        return clock / 60
+
+    def drop_lost(self):
+        """Gives up the parts that wait for one that failed."""
+        for it in [it for it in self.left if any(self.given.get(low) is False for low in self.waits[it])]:
+            self.left.remove(it)
+            self.given[it] = False
 
     def go(self):
-        left = sorted((it for it in self.parts if it not in self.given), key=lambda it, of=self.behind(): -of[it])
-        self.all_parts, self.all_lines = len(left), sum(self.lines[it] for it in left)
-        self.done = self.count = 0
-        running, given = {}, self.given
+        """Does all parts that are lacking, and returns whether one failed."""
+        self.left = self.lacking()
+        self.all, self.count = len(self.left), 0
+        for it in (signal.SIGTERM, signal.SIGHUP):
+            signal.signal(it, signal.default_int_handler)
         with ThreadPoolExecutor(self.lanes) as pool:
-            while left or running:
-                lost = [it for it in left if any(given.get(low) is False for low in self.parts[it])]
-                for it in lost:
-                    left.remove(it)
-                    given[it] = False
-                ready = [it for it in left if all(given.get(low) for low in self.parts[it])]
-                for at, key in enumerate(ready):
-                    idle = self.lanes - sum(jobs for _, jobs, _ in running.values())
-                    needs = self.known_memory(*key)
-                    # (what runs may still grow to what is known of it)
-                    held = sum(max(0, other - 500_000_000) for _, _, other in running.values()) // 2
-                    if idle > 0 and (not running or needs + held < memory_free()):
-                        left.remove(key)
-                        jobs = 1 if key[1] == "edits" else max(1, min(MOST_JOBS, idle // (len(ready) - at)))
-                        running[pool.submit(self.one, key, jobs)] = key, jobs, needs
-                for it in wait(running, timeout=20, return_when=FIRST_COMPLETED).done:
-                    key, _, _ = running.pop(it)
-                    given[key] = it.result()
-        failed = [f"{name} {part}" for (name, part), passed in given.items() if not passed]
+            try:
+                while self.left or self.running:
+                    self.drop_lost()
+                    self.start_ready(pool)
+                    for it in wait(self.running, timeout=20, return_when=FIRST_COMPLETED).done:
+                        self.end(self.running.pop(it), *it.result())
+            except KeyboardInterrupt:
+                self.stop()
+        failed = [f"{name} {part}" for (name, part), passed in self.given.items() if not passed]
         for it in failed:
             print(f"FAILED: {it}")
-        print(f"{len(given) - len(failed)} parts passed, {len(failed)} failed")
+        print(f"{len(self.given) - len(failed)} parts passed, {len(failed)} failed")
         return bool(failed)
 
+    def stop(self):
+        """Ends what runs, so that nothing is left half made, and this process."""
+        for it in [*self.pids]:
+            with contextlib.suppress(ProcessLookupError):
+                os.kill(it, signal.SIGKILL)
+        wait([*self.running], timeout=10)
+        print(f"stopped: {self.count} of {self.all} parts are kept, and the next run goes on from there", flush=True)
+        os._exit(130)
 
-TELLING = threading.Lock()
+
+# ----- Words -----
 
 
 def check(root, name, flags):
     """`rt check` of a crate over kept libraries; those that are lacking are proved first."""
-    if Run(root, {low.name for low in crate_named(root, name).below()} or {name}, (), 2).go_if_lacking(name):
-        return 1
     crate = crate_named(root, name)
+    below = {it.name for it in crate.below()}
+    if below and Run(root, below, (), 2).go():
+        return 1
     crate.made_at = f"{crate.folder}/out/{name}.rlib"
     crate.out = sys.stdout
     if not any(it.startswith("--jobs") for it in flags):
@@ -303,25 +326,23 @@ def check(root, name, flags):
     return crate.call(rtlib.RATTLE, "check", *crate.words(flags), "--incremental", "out/incremental", "--progress")
 
 
-def crate_named(root, name):
-    found = [it for it in read_crates(root) if it.name == name]
-    if not found:
-        sys.exit(f"no crate is named {name}")
-    return found[0]
-
-
-def go_if_lacking(self, name):
-    self.parts = {it: of for it, of in self.parts.items() if it[0] != name}
-    return self.go() if any(it not in self.given for it in self.parts) else 0
-
-
-Run.go_if_lacking = go_if_lacking
-
-
 def try_edits(root, name, edits):
     crate = crate_named(root, name)
     crate.out = sys.stdout
-    return 0 if edits_refused(crate, [os.path.realpath(it) for it in edits]) else 1
+    return 0 if are_refused(crate, [os.path.realpath(it) for it in edits]) else 1
+
+
+def where(root, names):
+    crates = {it.name: it for it in read_crates(root)}
+    found = [crates[it].made for it in names if it in crates and crates[it].is_kept("proof")]
+    print("\n".join(found))
+    return 0 if len(found) == len(names) else 1
+
+
+def lines_of_code(crate):
+    """Lines of the files below src/, as `benches/gate.sh` counts them."""
+    files = [f"{at}/{it}" for at, _, files in os.walk(f"{crate.folder}/src") for it in files]
+    return sum(rtlib.text_of(it).count("\n") for it in files)
 
 
 def table(root, names):
@@ -329,14 +350,32 @@ def table(root, names):
     for crate in read_crates(root):
         if names and crate.name not in names:
             continue
-        row = [(rtlib.text_of(crate.mark(part)) or "").split() for part in ("proof", "tests", "edits")]
-        total += sum(int(it[0]) for it in row if it)
-        lines = rtlib.text_of  # (lines of code, as `benches/gate.sh` counts them)
-        code = sum(lines(f"{at}/{it}").count("\n") for at, _, files in os.walk(f"{crate.folder}/src") for it in files)
-        memory = f"{int(row[0][2]) / 1e9:.1f}" if row[0] else ""
-        print(f"| `{crate.name}` | {code} | {' | '.join(it[0] if it else '' for it in row)} | {memory} |")
+        row = [numbers_of(crate.mark(part)) for part in ("proof", "tests", "edits")]
+        total += sum(it[0] for it in row if it)
+        cells = " | ".join(str(it[0]) if it else "" for it in row)
+        print(f"| `{crate.name}` | {lines_of_code(crate)} | {cells} | {f'{row[0][2] / 1e9:.1f}' if row[0] else ''} |")
     print(f"in all {total} processor seconds")
     return 0
+
+
+def prove(root, words):
+    lanes = rt.processors()
+    if "--jobs" in words:
+        at = words.index("--jobs")
+        lanes, words = int(words[at + 1]), words[:at] + words[at + 2 :]
+    names = {it for it in words if not it.startswith("-")}
+    flags = {it.removeprefix("--") for it in words} - names
+    if flags - {"tests", "edits", "lacks"}:
+        print(__doc__)
+        return 2
+    run = Run(root, names, flags, lanes)
+    unknown = names - {*run.crate_of}
+    if unknown:
+        sys.exit(f"no crate is named {', '.join(sorted(unknown))}")
+    if "lacks" in flags:
+        print(*(name for name, part in run.waits if part == "proof" and (name, part) not in run.given))
+        return 0
+    return run.go()
 
 
 def main():
@@ -350,25 +389,11 @@ def main():
         return check(root, words[1], words[2:])
     if words[:1] == ["--edit"] and len(words) > 2:
         return try_edits(root, words[1], words[2:])
+    if words[:1] == ["--kept"] and len(words) > 1:
+        return where(root, words[1:])
     if words[:1] == ["--table"]:
         return table(root, set(words[1:]))
-    lanes = rt.processors()
-    if "--jobs" in words:
-        at = words.index("--jobs")
-        lanes, words = int(words[at + 1]), words[:at] + words[at + 2 :]
-    names = {it for it in words if not it.startswith("-")}
-    flags = set(words) - names
-    if flags - {"--tests", "--edits", "--lacks"}:
-        print(__doc__)
-        return 2
-    run = Run(root, names, {it.removeprefix("--") for it in flags}, lanes)
-    unknown = names - set(run.crate_of)
-    if unknown:
-        sys.exit(f"no crate is named {', '.join(sorted(unknown))}")
-    if "--lacks" in flags:
-        print(*(name for name, _ in run.parts if (name, "proof") not in run.given))
-        return 0
-    return run.go()
+    return prove(root, words)
 
 
 if __name__ == "__main__":

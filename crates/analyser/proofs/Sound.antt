@@ -5,7 +5,7 @@ use Rattle.worker_solutions.specs.program_equations.Programs.{ProgramBodies}
 use Rattle.worker_solutions.specs.program_solutions.LeastReports.{IsLeastReport}
 use Rattle.source_replays.specs.source_programs.Sources.{IsAccepted}
 use Rattle.source_replays.proofs.low.source_programs.Accepted.{accepted_is_program}
-use Rattle.sound_core.proofs.Alarmed.{errors_alarm}
+use Rattle.source_findings.proofs.low.sound_core.Alarmed.{errors_alarm}
 use Rattle.source_findings.proofs.Sourced.{comes_from}
 use Rattle.analyser.specs.Soundness.{ListsAll}
 

@@ -22,7 +22,7 @@ use Rattle.tm_terms.specs.declared.places.Place.{Place}
 use Rattle.tm_terms.specs.declared.refusals.Refusal.{Refusal}
 use Rattle.tm_terms.specs.Texts.{report_text, refusal_text, usage_text}
 use Rattle.worker_solutions.specs.tm_laid.Layouts.{LaidTree}
-use Rattle.sound_core.specs.concrete_steps.Occurring.{Occurs}
+use Rattle.concrete_steps.specs.Occurring.{Occurs}
 use Rattle.worker_solutions.specs.program_equations.Programs.{ProgramBodies}
 use Rattle.interfere_set.specs.Stores.{Interferences}
 use Rattle.worker_solutions.specs.QuietHistories.{IsQuietHistory}

@@ -1,5 +1,6 @@
 //! Workers beside each other, as a gate sees them.
 
+use crate::alone::owned;
 use analyser::analyse;
 use held_passes::HoldsTheFirst;
 use std::alloc::Global;
@@ -12,7 +13,7 @@ __task(1) void a(void){__lock(m);if(n<10){buf[n]=1;n=n+1;}__unlock(m);}\n\
 __task(1) void b(void){__lock(m);if(n<10){buf[n]=1;n=n+1;}__unlock(m);}";
 
 /// How many lines of a text begin with these bytes.
-fn lines_with(text: &[u8], front: &[u8]) -> u64 {
+pub fn lines_with(text: &[u8], front: &[u8]) -> u64 {
     let mut count: u64 = 0;
     for line in text.split(|byte| *byte == b'\n') {
         if line.starts_with(front) {
@@ -27,22 +28,14 @@ fn is_counted(gate: &HoldsTheFirst, worker: u32, task: u32, text: &[u8], front: 
     gate.passes(worker, task) == Some(lines_with(text, front))
 }
 
-/// The words of an analysis by two workers that tells their history.
-fn words(alloc: Global) -> Result<Vec<String>, Fail> {
-    let mut words = Vec::new(alloc);
-    for word in ["analyse", "--workers", "2", "--history"] {
-        words.push(String::from_str(alloc, word)?)?;
-    }
-    Ok(words)
-}
-
 #[test]
 fn two_passes_begin_before_the_first_ends(rt: HostRuntime) -> Result<(), Fail> {
     let alloc = rt.alloc();
     let gate = HoldsTheFirst::after(0);
     let mut source = SureSource::new(GUARDED.to_vec(alloc)?);
     let mut out = SureSink::new(alloc);
-    let status = analyse(&rt, alloc, &words(alloc)?, &mut source, &mut out, &gate);
+    let words = owned(alloc, &["analyse", "--workers", "2", "--history"])?;
+    let status = analyse(&rt, alloc, &words, &mut source, &mut out, &gate);
     assert_eq!(rt; status.number(), 0);
     assert!(rt; gate.begun_before_an_end() > 1);
     let text = out.taken();
@@ -53,7 +46,69 @@ fn two_passes_begin_before_the_first_ends(rt: HostRuntime) -> Result<(), Fail> {
         is_counted(&gate, 1, 0, text, b"read 1 0 ") & is_counted(&gate, 1, 1, text, b"read 1 1 ")
     );
     assert_eq!(rt; gate.begun(), lines_with(text, b"read "));
+    // Both workers stand in the history.
+    assert!(rt; lines_with(text, b"read 0 ") > 0);
+    assert!(rt; lines_with(text, b"read 1 ") > 0);
     assert_eq!(rt; lines_with(text, b"publish "), lines_with(text, b"read "));
     assert_eq!(rt; lines_with(text, b"alarms 0"), 1);
+    Ok(())
+}
+
+/// Words that ask for two workers, and not for their history.
+static BESIDE: [&[&str]; 3] = [
+    &["analyse", "--workers", "2"],
+    &["analyse", "--json", "--workers=2"],
+    &["demo", "--workers", "2", "1"],
+];
+
+#[test]
+fn two_workers_work_where_no_history_is_asked_for(rt: HostRuntime) -> Result<(), Fail> {
+    let alloc = rt.alloc();
+    for given in &BESIDE {
+        let gate = HoldsTheFirst::after(0);
+        let mut source = SureSource::new(GUARDED.to_vec(alloc)?);
+        let mut out = SureSink::new(alloc);
+        let words = owned(alloc, given)?;
+        let status = analyse(&rt, alloc, &words, &mut source, &mut out, &gate);
+        assert!(rt; status.number() < 2);
+        assert!(rt; gate.begun_before_an_end() > 1);
+    }
+    Ok(())
+}
+
+/// Sixteen tasks, each of which stores to one object: a line each, from the second on.
+fn sixteen_tasks(alloc: Global) -> Result<String, Fail> {
+    let mut text = String::from_str(alloc, "int x;\n")?;
+    for number in 10..26u32 {
+        let task = format!(in alloc; "__task(1) void t{number}(void){{x=1;}}\n")?;
+        text.push_str(&task)?;
+    }
+    Ok(text)
+}
+
+/// Each of these stores races.
+fn sixteen_races(alloc: Global) -> Result<String, Fail> {
+    let mut text = String::new(alloc);
+    for line in 2..18u32 {
+        let race = format!(in alloc; "{line}:27 RACE\n")?;
+        text.push_str(&race)?;
+    }
+    text.push_str("alarms 16\n")?;
+    Ok(text)
+}
+
+#[test]
+fn sixteen_passes_begin_before_the_first_ends(rt: HostRuntime) -> Result<(), Fail> {
+    let alloc = rt.alloc();
+    let gate = HoldsTheFirst::until(16);
+    let text = sixteen_tasks(alloc)?;
+    let mut source = SureSource::new(text.as_bytes().to_vec(alloc)?);
+    let mut out = SureSink::new(alloc);
+    let words = owned(alloc, &["analyse", "--workers", "16"])?;
+    let status = analyse(&rt, alloc, &words, &mut source, &mut out, &gate);
+    assert!(rt; gate.begun_before_an_end() > 15);
+    let races = sixteen_races(alloc)?;
+    assert_eq!(rt; out.taken(), races.as_bytes());
+    assert_eq!(rt; status.number(), 1);
     Ok(())
 }

@@ -5,6 +5,8 @@
 #![tactic(auto)]
 
 #[cfg(test)]
+mod alone;
+#[cfg(test)]
 mod answers;
 #[cfg(test)]
 mod commands;
@@ -13,6 +15,10 @@ mod deep_calls;
 #[cfg(test)]
 mod devices;
 #[cfg(test)]
+mod findings;
+#[cfg(test)]
 mod gates;
 #[cfg(test)]
 mod hostile;
+#[cfg(test)]
+mod sizes;

@@ -2,3 +2,4 @@
 -- (Solved).
 pub mod Solved
 pub mod Sourced
+pub mod low

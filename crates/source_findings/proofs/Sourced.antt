@@ -1,9 +1,9 @@
 -- The program of a source as the laws of soundness read it.
 use Rattle.std.proofs.Common.{◌≡◌, ◌∙◌, sym, ap, subst}
 use Rattle.std.specs.Prelude.{ℕ, ◌≤◌, ◌^◌, List, length}
-use Rattle.thread_pass.specs.tm_laid.Layouts.{LaidTree}
-use Rattle.thread_pass.specs.program_equations.Programs.{ProgramBodies}
-use Rattle.thread_pass.specs.program_equations.Readings.{read_layout}
+use Rattle.program_solutions.specs.tm_laid.Layouts.{LaidTree}
+use Rattle.program_solutions.specs.program_equations.Programs.{ProgramBodies}
+use Rattle.program_solutions.specs.program_equations.Readings.{read_layout}
 use Rattle.source_programs.specs.Sources.{IsAccepted}
 use Rattle.source_programs.proofs.Accepted.{accepted_is_laid}
 use Rattle.sound_core.specs.Sound.{IsProgramFrom}

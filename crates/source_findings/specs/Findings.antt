@@ -7,11 +7,11 @@ use Rattle.tm_terms.specs.declared.refusals.Refusal.{Refusal}
 use Rattle.tm_terms.specs.Spelling.{text_of}
 use Rattle.tm_terms.specs.Texts.{refusal_text}
 use Rattle.solution_lines.specs.SolutionTexts.{waits_text, range_line, dead_text}
-use Rattle.thread_pass.specs.tm_laid.Layouts.{LaidTree}
+use Rattle.program_solutions.specs.tm_laid.Layouts.{LaidTree}
 use Rattle.sound_core.specs.concrete_steps.Worlds.{World, next_at}
 use Rattle.sound_core.specs.concrete_steps.Occurring.{IsReached}
-use Rattle.thread_pass.specs.program_equations.Programs.{ProgramBodies}
-use Rattle.thread_pass.specs.program_equations.Solutions.{tables_of}
+use Rattle.program_solutions.specs.program_equations.Programs.{ProgramBodies}
+use Rattle.program_solutions.specs.program_equations.Solutions.{tables_of}
 use Rattle.program_solutions.specs.post_recheck.Pairs.{Pair}
 use Rattle.program_solutions.specs.LeastReports.{IsLeastPair}
 use Rattle.lock_waits.specs.Waits.{AreWaits}

@@ -3,19 +3,17 @@
 ghost use Rattle.std.specs.Prelude.{◌≡◌, ◌<◌, ◌++◌, IfOk, OnOk, length};
 ghost use Rattle.tm_terms.specs.Spelling.{text_of};
 ghost use Rattle.tm_terms.specs.Texts.{refusal_text};
-ghost use Rattle.thread_pass.specs.program_systems.ReadPrograms.{program_of};
+ghost use Rattle.program_solutions.specs.program_systems.ReadPrograms.{program_of};
 ghost use Rattle.program_solutions.specs.LeastReports.{IsLeastPair};
 ghost use Rattle.source_findings.specs.Findings.{HasFinding, waits_status};
 ghost use Rattle.source_findings.specs.reading.Tellings.{TellsOf, TellsRangesOf, TellsWaitsOf, bounds_line_of};
 
 use lock_waits::circular;
-use post_recheck::Solution;
-use program_solutions::solution;
+use program_solutions::{Analysis, Solution, solution};
 use program_streams::Status;
 use solution_lines::{push_dead_places, push_range, waits_text};
 use source_programs::source_program;
 use std::alloc::Global as Heap;
-use thread_pass::Analysis;
 use tm_laid::LaidObject;
 use tm_lattice::NoMemory;
 use tm_terms::{Fail, Name, Place, Refusal, refusal_line};
@@ -49,11 +47,7 @@ fn waits_status(places: &[Place]) -> Status
 }
 
 /// What a least solution tells of locks.
-fn waits_reply(
-    alloc: Heap,
-    analysis: &Analysis,
-    found: &Solution,
-) -> Result<FindingReply, NoMemory>
+fn waits_reply(alloc: Heap, analysis: &Analysis, found: &Solution) -> Result<FindingReply, NoMemory>
     requires { IsLeastPair (program_of analysis.now) found.now }
     ensures { IfOk result (λ reply. TellsWaitsOf (program_of analysis.now) found.now reply.status reply.text.items) }
 {
@@ -72,8 +66,16 @@ fn text_of(bytes: &[u8], name: Name) -> &[u8]
 {
     let start = name.start as usize;
     let count = name.length as usize;
-    let rest = if start < bytes.len() { &bytes[start..] } else { &[] };
-    if count < rest.len() { &rest[..count] } else { rest }
+    let rest = if start < bytes.len() {
+        &bytes[start..]
+    } else {
+        &[]
+    };
+    if count < rest.len() {
+        &rest[..count]
+    } else {
+        rest
+    }
 }
 
 /// Appends the line of an object.

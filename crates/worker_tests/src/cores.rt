@@ -83,7 +83,7 @@ fn core(alloc: Global, first: bool, workers: u32) -> Result<StoreCore<TwoTasks>,
     requires some { 1 ≤ workers }
     requires most { workers ≤ 16 }
 {
-    StoreCore::open(alloc, Arc::new(alloc, TwoTasks { first })?, workers)
+    StoreCore::open(alloc, Arc::new(alloc, TwoTasks::new(first))?, workers)
 }
 
 fn publication(answer: Result<Grew, Refused<TwoTasks>>) -> Answer {

@@ -38,15 +38,12 @@ fn is_counted(gate: &HoldsTheFirst, history: &[Event<TwoTasks>], worker: u32, ta
 #[test]
 fn two_passes_begin_before_the_first_ends(rt: HostRuntime) -> Result<(), Fail> {
     let alloc = rt.alloc();
-    let gate = HoldsTheFirst::after(0);
-    let core = solve(
-        &rt,
-        alloc,
-        Arc::new(alloc, TwoTasks { first: true })?,
-        2,
-        &gate,
-    )?;
+    let gate = Arc::new(alloc, HoldsTheFirst::after(0))?;
+    let program = TwoTasks::told_to(Arc::try_clone(&gate)?);
+    let core = solve(&rt, alloc, Arc::new(alloc, program)?, 2, &*gate)?;
     assert!(rt; gate.begun_before_an_end() > 1);
+    // No pass computed before the gate was told that it began, and none ended before it computed.
+    assert_eq!(rt; gate.out_of_order(), 0);
     let history = core.history();
     assert!(rt; is_counted(&gate, history, 0, 0) & is_counted(&gate, history, 0, 1));
     assert!(rt; is_counted(&gate, history, 1, 0) & is_counted(&gate, history, 1, 1));
@@ -65,7 +62,7 @@ fn ends_in<R: Threads + Wait + Sync>(
     requires some { 1 ≤ workers }
     requires most { workers ≤ 16 }
 {
-    let program = Arc::new(alloc, TwoTasks { first })?;
+    let program = Arc::new(alloc, TwoTasks::new(first))?;
     let core = solve(rt, alloc, program, workers, &OpenGate)?;
     Ok(core.quiet() & (core.workers() == workers) & core.store().same(wanted))
 }
@@ -82,22 +79,24 @@ fn every_number_of_workers_ends_in_one_store(rt: HostRuntime) -> Result<(), Fail
     Ok(())
 }
 
-// How many passes a worker makes by itself on a core for two workers.
-fn passes_alone<R: Wait>(rt: &R, alloc: Global, worker: u32) -> Result<u64, NoMemory> {
-    let gate = HoldsTheFirst::after(2);
-    let core = StoreCore::open(alloc, Arc::new(alloc, TwoTasks { first: true })?, 2)?;
+// What a gate saw of a worker that works by itself on a core for two workers; two passes have gone by it already.
+fn seen_alone<R: Wait>(rt: &R, alloc: Global, worker: u32) -> Result<Arc<HoldsTheFirst>, NoMemory> {
+    let gate = Arc::new(alloc, HoldsTheFirst::after(2))?;
+    let program = TwoTasks::told_to(Arc::try_clone(&gate)?);
+    let core = StoreCore::open(alloc, Arc::new(alloc, program)?, 2)?;
     let shared = SharedStore::new(core);
-    work(rt, alloc, &shared, worker, &gate)?;
-    Ok(gate.begun())
+    work(rt, alloc, &shared, worker, &*gate)?;
+    Ok(gate)
 }
 
 #[test]
 fn a_worker_alone_ends(rt: HostRuntime) -> Result<(), Fail> {
     let alloc = rt.alloc();
-    // Each of the two tasks passes twice, and the gate begins at 2.
-    assert_eq!(rt; passes_alone(&rt, alloc, 0)?, 6);
-    assert_eq!(rt; passes_alone(&rt, alloc, 1)?, 6);
-    // There is no worker 2.
-    assert_eq!(rt; passes_alone(&rt, alloc, 2)?, 2);
+    // Each of the two tasks passes twice, and the gate begins at 2. There is no worker 2.
+    for (worker, begun) in [(0, 6), (1, 6), (2, 2)] {
+        let gate = seen_alone(&rt, alloc, worker)?;
+        assert_eq!(rt; gate.begun(), begun, "of worker {worker}");
+        assert_eq!(rt; gate.out_of_order(), 0, "of worker {worker}");
+    }
     Ok(())
 }

@@ -1,9 +1,10 @@
 //! The toy: sets of numbers below four, and a program of two tasks over them.
-ghost use Rattle.std.specs.Prelude.{◌≡◌, ◌↔◌, ◌<◌, IsTrue, IfOk, refl};
+ghost use Rattle.std.specs.Prelude.{◌≡◌, ◌↔◌, ◌<◌, true, IsTrue, IfOk, refl};
 ghost use Rattle.worker_tests.specs.Sets.{IsSubset, union, whole_pairs, empty_set, added_numbers};
 ghost use Rattle.worker_tests.specs.laws.SetLaws.{set_order, set_join, set_closure, set_nothing, added_grows};
 ghost use Rattle.worker_tests.specs.laws.SetLaws.{empty_below};
 
+use held_passes::HoldsTheFirst;
 use std::alloc::Global;
 use std::marker::Model;
 use std::sync::Arc;
@@ -97,10 +98,45 @@ impl Lattice for Numbers {
     ghost nothing_laws = { set_nothing };
 }
 
-// Two tasks: task 0 adds 0 where `first` is set, task 1 adds 2 where it sees 0.
+// Two tasks: task 0 adds 0 where `first` is set, task 1 adds 2 where it sees 0. A pass tells the gate, where there is
+// one, that it computes; contracts see `first` alone.
 #[derive(Drop)]
 pub struct TwoTasks {
-    pub first: bool,
+    first: bool,
+    gate: Option<Arc<HoldsTheFirst>>,
+}
+
+impl Model for TwoTasks {
+    ghost use Rattle.std.specs.Prelude.{Bool};
+
+    ghost Value = { Bool };
+
+    ghost view = { λ program. program.first };
+}
+
+impl TwoTasks {
+    pub fn new(first: bool) -> TwoTasks
+        ensures { result ≡ first }
+    {
+        TwoTasks { first, gate: None }
+    }
+
+    // Task 0 adds 0, and each pass tells the gate that it computes.
+    pub fn told_to(gate: Arc<HoldsTheFirst>) -> TwoTasks
+        ensures { result ≡ true }
+    {
+        TwoTasks {
+            first: true,
+            gate: Some(gate),
+        }
+    }
+
+    // Tells the gate that a pass computes.
+    fn tell(&self) {
+        if let Some(gate) = &self.gate {
+            gate.computes();
+        }
+    }
 }
 
 impl Passer for TwoTasks {
@@ -114,7 +150,7 @@ impl Passer for TwoTasks {
 
     ghost least = { λ _. empty_set };
 
-    ghost passed = { λ program. added_numbers program.first };
+    ghost passed = { added_numbers };
 
     ghost fits = { λ _ _. Unit {0} };
 
@@ -135,6 +171,7 @@ impl Passer for TwoTasks {
     }
 
     fn pass(&self, _alloc: Global, task: u32, store: &Numbers) -> Result<Numbers, NoMemory> {
+        self.tell();
         if task == 0 {
             Ok(Numbers::new(self.first, false, false, false))
         } else {
@@ -153,7 +190,7 @@ impl Passer for TwoTasks {
 
     ghost bottom_laws = { λ program is. record { below = empty_below; rounding = refl } };
 
-    ghost monotone = { λ program is task s t lt fits fits' below. added_grows program.first task s t below };
+    ghost monotone = { λ program is task s t lt fits fits' below. added_grows program task s t below };
 }
 
 // What a pass keeps: the store that it read, and how many passes of the task there were.

@@ -4,10 +4,10 @@ use Rattle.std.specs.List.{flat_map}
 use Rattle.tm_terms.specs.declared.places.Place.{Place}
 use Rattle.tm_terms.specs.Spelling.{text_of}
 use Rattle.solution_lines.specs.SolutionTexts.{waits_text, range_line, dead_text}
-use Rattle.thread_pass.specs.tm_laid.Layouts.{no_object}
-use Rattle.thread_pass.specs.tm_laid.declared.objects.LaidObject.{LaidObject}
-use Rattle.thread_pass.specs.program_equations.Programs.{ProgramBodies}
-use Rattle.thread_pass.specs.program_equations.Solutions.{tables_of}
+use Rattle.program_solutions.specs.tm_laid.Layouts.{no_object}
+use Rattle.program_solutions.specs.tm_laid.declared.objects.LaidObject.{LaidObject}
+use Rattle.program_solutions.specs.program_equations.Programs.{ProgramBodies}
+use Rattle.program_solutions.specs.program_equations.Solutions.{tables_of}
 use Rattle.program_solutions.specs.post_recheck.Pairs.{Pair}
 use Rattle.lock_waits.specs.Waits.{AreWaits}
 use Rattle.value_ranges.specs.declared.ranges.ObjectBounds.{ObjectBounds}

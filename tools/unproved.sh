@@ -1,0 +1,32 @@
+#!/usr/bin/env bash
+# Builds the programs without their proofs, optimised: tools/unproved.sh FOLDER. `analyse` calls it.
+#
+# The checks that `rt try` compiles into a program, as of indices and sums, stay in it.
+set -eu
+
+folder=$(readlink -f -- "$1")
+here=$(dirname -- "$(readlink -f -- "${BASH_SOURCE[0]}")")
+# shellcheck source=tools/plain_kit.sh
+. "$here/plain_kit.sh"
+work=$(mktemp -d)
+trap 'kill $(jobs -p) 2>/dev/null || true; rm -rf -- "$work"' EXIT
+trap 'exit 130' INT TERM HUP
+
+# Builds one program. It is run on nothing, and what it answers to that does not matter.
+build() { # NAME
+    make_kit "$work/$1" -O2 "$folder/$1"
+    (cd "$here/../crates/$1" && "$work/$1/bin/rt" try --steps 1 </dev/null) >"$work/$1.log" 2>&1 || true
+    if ! [ -x "$folder/$1" ]; then
+        cat "$work/$1.log" >&2
+        return 1
+    fi
+}
+
+status=0
+build analyse_main &
+first=$!
+build report_view &
+second=$!
+wait "$first" || status=1
+wait "$second" || status=1
+exit "$status"
