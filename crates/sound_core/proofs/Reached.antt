@@ -28,7 +28,8 @@ use Rattle.sound_tables.specs.tm_soundness.Shape.{Operation as Kind, Content as 
 use Rattle.sound_tables.specs.tm_soundness.Tables.{Tables}
 use Rattle.sound_tables.specs.tm_soundness.Section.{alone}
 use Rattle.sound_tables.specs.tm_soundness.GraphWorlds.{done}
-use Rattle.sound_tables.specs.tm_soundness.Worlds.{Source, Action, a_load, a_load_any, a_store, a_lock, a_unlock, a_spins}
+use Rattle.sound_tables.specs.tm_soundness.Worlds.{Source, Action, a_load, a_load_any, a_store, a_lock, a_unlock}
+use Rattle.sound_tables.specs.tm_soundness.Worlds.{a_spins}
 use Rattle.sound_tables.specs.tm_soundness.Worlds.{Leaves, IsLowered}
 use Rattle.sound_tables.specs.tm_soundness.Numbered.{TaskOf}
 use Rattle.sound_tables.specs.tm_soundness.Known.{IsKnown}
@@ -39,7 +40,8 @@ use Rattle.sound_tables.proofs.OperationKinds.{is_load, is_load_any, is_store, i
 use Rattle.sound_tables.proofs.SetsAfter.{is_lock}
 use Rattle.sound_addresses.specs.sound_runs.Sources.{source_of, action_of, place_of_next}
 use Rattle.sound_addresses.specs.sound_runs.Images.{status_as, task_parts}
-use Rattle.sound_addresses.specs.sound_runs.Programs.{HasGraphs, first_temps, first_memory, shape_in, section_in, source_in}
+use Rattle.sound_addresses.specs.sound_runs.Programs.{HasGraphs, first_temps, first_memory, shape_in, section_in}
+use Rattle.sound_addresses.specs.sound_runs.Programs.{source_in}
 use Rattle.sound_addresses.specs.sound_runs.Programs.{section_source_in}
 use Rattle.sound_addresses.specs.sound_runs.Known.{tasks_in, IsKnownIn}
 use Rattle.sound_addresses.proofs.low.sound_runs.Moved.{next_is}
@@ -76,11 +78,13 @@ module _ (laid : LaidTree) (p : ProgramBodies) (is_program : IsProgram p) (table
   module _ (temps : TaskOf n → Temps) (lowered : IsLowered S N temps) (i : TaskOf n) (a : List Answer) (q : Node y)
       (f : Temps) (stands : N.stands i a q f) (inside : T.inside q f) where
     -- an edge that leaves the node with an operation at the place
-    reached_by : (place : Place) (k : Kind ℕ ℕ) (l : Leaves S N i q k) → (let e = l.edge in let g = e.edge in ReachesAt g.op place)
+    reached_by : (place : Place) (k : Kind ℕ ℕ) (l : Leaves S N i q k)
+        → (let e = l.edge in let g = e.edge in ReachesAt g.op place)
         → IsReachedPlace p (lists_of tables) (number i) place
     reached_by place k l at =
         let e : Copy y = l.edge in
-        let at_node = subst (λ (r : Node y). state_at p n number rank (lists_of tables) r ≡ Some inside.state) (sym l.from)
+        let at_node =
+        subst (λ (r : Node y). state_at p n number rank (lists_of tables) r ≡ Some inside.state) (sym l.from)
         inside.is in
         let k = is_at p is_program n number rank within graphs_kept (lists_of tables) e inside.state at_node in
         subst (λ j. IsReachedPlace p (lists_of tables) (number j) place) l.actor
@@ -167,8 +171,9 @@ module _ (laid : LaidTree) (p : ProgramBodies) (from : IsProgramFrom laid p) (is
   has_main : (main : ℕ) → laid.file.main ≡ Some main → p.tasks < length p.bodies
   has_main main main_is = has_section laid p from is few tables store pair main main_is
 
-  by_task : (memory : ℕ → AContent Value) → IsKnown (shape_in laid x) (tables_of p (lists_of tables) store) (source_in laid x) memory
-      (λ i. first_temps) (tasks_in laid x w) → (task : ℕ) → task < length laid.file.tasks → (place : Place)
+  by_task : (memory : ℕ → AContent Value)
+      → IsKnown (shape_in laid x) (tables_of p (lists_of tables) store) (source_in laid x) memory (λ i. first_temps)
+      (tasks_in laid x w) → (task : ℕ) → task < length laid.file.tasks → (place : Place)
       → ActsAt (next_at laid w task) place → IsReachedPlace p (lists_of tables) task place
   by_task memory k task lt place at =
       let count = (let of = from.is in of.tasks) in
@@ -189,7 +194,8 @@ module _ (laid : LaidTree) (p : ProgramBodies) (from : IsProgramFrom laid p) (is
   pub acts_reached : (body : ℕ) → MayAct laid w body → (place : Place) → ActsAt (next_at laid w body) place
       → IsReachedPlace p (lists_of tables) body place
   acts_reached body (task_acts main_is task lt) place at =
-      by_task (first_memory laid) (plainly_known laid p from is few tables store pair main_is w reached) task lt place at
+      by_task (first_memory laid) (plainly_known laid p from is few tables store pair main_is w reached) task lt place
+      at
   acts_reached body (task_acts_after main main_is over task lt) place at =
       let k = known laid p from is few tables store pair main main_is w reached in
       let count = (let of = from.is in of.tasks) in
@@ -199,7 +205,8 @@ module _ (laid : LaidTree) (p : ProgramBodies) (from : IsProgramFrom laid p) (is
   acts_reached body (section_acts main main_is not) place at =
       let k = known laid p from is few tables store pair main main_is w reached in
       let count : p.tasks ≡ length laid.file.tasks = (let of = from.is in of.tasks) in
-      let still = (let a = k.known in a.before (λ e. not (ap (status_of w) (sym count) ∙ is_done_status (status_of w p.tasks) e))) in
+      let still = (let a = k.known in
+      a.before (λ e. not (ap (status_of w) (sym count) ∙ is_done_status (status_of w p.tasks) e))) in
       let seen = still.0 in
       let kept = seen.kept in
       let z = (let v = kept.world in v.situation tt) in
@@ -208,8 +215,10 @@ module _ (laid : LaidTree) (p : ProgramBodies) (from : IsProgramFrom laid p) (is
       (λ i. (founded laid p from is few tables store pair).graphs p.tasks (has_main main main_is))
       (λ j l z v. Unit {0})
       (λ j m z v. Unit {0}) (λ i. first_temps)
-      (subst (λ (s : Parts). IsLowered (alone (shape_in laid s) (section_in laid s)) (section_source_in laid s) (λ _. first_temps))
-      (sym (same_parts laid p from)) (section_lowered laid (λ t. (let b = body_at p t in b.edges)) has_graphs main main_is))
+      (subst (λ (s : Parts). IsLowered (alone (shape_in laid s) (section_in laid s)) (section_source_in laid s)
+      (λ _. first_temps))
+      (sym (same_parts laid p from))
+      (section_lowered laid (λ t. (let b = body_at p t in b.edges)) has_graphs main main_is))
       tt (answers_of w p.tasks) z.node z.temps (seen.stands tt) (let parts = kept.parts in parts.inside tt) place
       (subst (λ j. ActsAt (next laid j (answers_of w j)) place) (sym count)
       (subst (λ (n : Next). ActsAt n place) (next_is laid w (length laid.file.tasks)) at)))

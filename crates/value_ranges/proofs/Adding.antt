@@ -1,5 +1,6 @@
 -- Places that are added one by one.
-use Rattle.std.proofs.Common.{◌≡◌, ◌↔◌, ◌⊎◌, ℕ, ◌+◌, ◌<◌, ◌≤◌, ap, sym, subst, ◌∙◌, inl, inr, List, [], length, get_or, true, false, Option, Some, None, is_some, Result, Ok, Err, IfOk, arith}
+use Rattle.std.proofs.Common.{◌≡◌, ◌↔◌, ◌⊎◌, ℕ, ◌+◌, ◌<◌, ◌≤◌, ap, sym, subst, ◌∙◌, inl, inr, List, [], length}
+use Rattle.std.proofs.Common.{get_or, true, false, Option, Some, None, is_some, Result, Ok, Err, IfOk, arith}
 use Rattle.std.proofs.lemmas.List.{get_or_default}
 use Rattle.std.specs.Prelude.{Contains}
 use Rattle.tm_terms.specs.declared.places.Place.{Place}
@@ -16,7 +17,8 @@ use Rattle.post_recheck.specs.task_equations.Bodies.{no_edge, no_copy}
 use Rattle.place_lists.specs.Order.{AreInOrder}
 use Rattle.value_ranges.specs.Places.{ReachesAt}
 use Rattle.value_ranges.specs.reading.Notes.{Below}
-use Rattle.value_ranges.specs.reading.Reached.{AddsPlaces, IsOfGraphs, IsOfCopy, IsOfCopies, IsOfTables, IsLeft, AreLeftOut}
+use Rattle.value_ranges.specs.reading.Reached.{AddsPlaces, IsOfGraphs, IsOfCopy, IsOfCopies, IsOfTables, IsLeft}
+use Rattle.value_ranges.specs.reading.Reached.{AreLeftOut}
 use Rattle.value_ranges.specs.reading.Reached.{edges_at, copies_at, AreCopiesIn, AreDeadIn}
 use Rattle.value_ranges.proofs.Widening.{either, below_cases, below_before, below_here, none_below}
 

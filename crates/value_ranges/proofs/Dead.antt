@@ -16,7 +16,8 @@ use Rattle.post_recheck.specs.program_systems.ProgramFacts.{AllFacts, AreProgram
 use Rattle.post_recheck.proofs.low.program_systems.Bodies.{is_program, is_program_of, body_count}
 use Rattle.post_recheck.specs.Pairs.{Pair, FitsPair}
 use Rattle.value_ranges.specs.Places.{ReachesAt, IsReachedPlace, IsListedPlace, AreDead}
-use Rattle.value_ranges.specs.reading.Reached.{edges_at, copies_at, IsOfEdges, IsOfGraphs, IsOfCopies, IsOfTables, AreCopiesIn, AreCopiesOf, AreDeadIn}
+use Rattle.value_ranges.specs.reading.Reached.{edges_at, copies_at, IsOfEdges, IsOfGraphs, IsOfCopies, IsOfTables}
+use Rattle.value_ranges.specs.reading.Reached.{AreCopiesIn, AreCopiesOf, AreDeadIn}
 
 some_element : {X : Type 0} (xs : List X) (i : ℕ) → i < length xs → X
 some_element [] i lt = absurd (omega (arith, lt))
@@ -65,7 +66,8 @@ module _ (program : Program) (facts : AllFacts) (analysable : IsAnalysable progr
 
   -- ## Copies
 
-  copies_in : (t : ℕ) → t < length p.bodies → (let b = body_at p t in AreCopiesIn b.edges b.copies (table_at pair.tables t))
+  copies_in : (t : ℕ) → t < length p.bodies
+      → (let b = body_at p t in AreCopiesIn b.edges b.copies (table_at pair.tables t))
   copies_in t lt = λ k d within.
       let b = body_at p t in
       let C = λ (c : EdgeCopy). (c.edge < length b.edges) × (c.from < length (table_at pair.tables t)) in

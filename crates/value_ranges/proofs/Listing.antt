@@ -1,5 +1,6 @@
 -- Lists of bounds and of integer cells, with one more.
-use Rattle.std.proofs.Common.{◌≡◌, ◌↔◌, ◌⊎◌, ℕ, ◌+◌, ◌<◌, ◌≤◌, refl, ap, sym, subst, ◌∙◌, inl, inr, List, [], ◌∷◌, ◌++◌, length, get_or, slice_get, Option, Some, None, arith}
+use Rattle.std.proofs.Common.{◌≡◌, ◌↔◌, ◌⊎◌, ℕ, ◌+◌, ◌<◌, ◌≤◌, refl, ap, sym, subst, ◌∙◌, inl, inr, List, [], ◌∷◌}
+use Rattle.std.proofs.Common.{◌++◌, length, get_or, slice_get, Option, Some, None, arith}
 use Rattle.std.specs.Prelude.{ℤ, Contains}
 use Rattle.std.proofs.lemmas.Bool.{cases_eq}
 use Rattle.std.proofs.lemmas.List.{get_or_push, get_or_append_left, length_push, get_or_default}
@@ -12,8 +13,10 @@ use Rattle.tm_laid.specs.Layouts.{LaidTree, cell_at, no_cell}
 use Rattle.value_ranges.specs.declared.object_bounds.ObjectBounds.{ObjectBounds}
 use Rattle.value_ranges.specs.declared.cells.IntegerCell.{IntegerCell}
 use Rattle.value_ranges.specs.Ranges.{IsIntegerCell}
-use Rattle.value_ranges.specs.reading.Notes.{Noted, noted_at, IsNamed, AreListed, AreFirstCells, AreIntegerCells, AreOfObjects, AreWidened, HasNoted, IsFirst, first_bounds}
-use Rattle.value_ranges.proofs.Widening.{either, below_cases, below_before, below_here, none_below, all_as, same_all, number_noted}
+use Rattle.value_ranges.specs.reading.Notes.{Noted, noted_at, IsNamed, AreListed, AreFirstCells, AreIntegerCells}
+use Rattle.value_ranges.specs.reading.Notes.{AreOfObjects, AreWidened, HasNoted, IsFirst, first_bounds}
+use Rattle.value_ranges.proofs.Widening.{either, below_cases, below_before, below_here, none_below, all_as, same_all}
+use Rattle.value_ranges.proofs.Widening.{number_noted}
 
 Some_is : (b d : ObjectBounds) → Some b ≡ Some d → b ≡ d
 Some_is b d e = cc
@@ -154,7 +157,8 @@ module _ (laid : LaidTree) where
       → count ≡ length laid.objects → AreOfObjects cells count
   of_objects cells are count same k d lt =
       let c = get_or cells k d in
-      let cell = (are c.object c.cell).0 (k, lt, get_or_default cells k (record { cell = c.cell; object = c.object }) d lt) in
+      let same_cell : IntegerCell = record { cell = c.cell; object = c.object } in
+      let cell = (are c.object c.cell).0 (k, lt, get_or_default cells k same_cell d lt) in
       let there = cell.there in omega (arith, there, same)
 
 -- ## First values
@@ -174,7 +178,8 @@ record IsOfNumber (object : ℕ) (first : Initial) (b : ObjectBounds) : Type 0 w
 of_number : (object : ℕ) (first : Initial) (b : ObjectBounds) → first_bounds object first ≡ Some b
     → IsOfNumber object first b
 of_number object (Initials.Number n) b e =
-    record { number = n; first_is = refl; bounds_are = sym (Some_is (record { object = object; low = n; high = n }) b e) }
+    let same : ObjectBounds = record { object = object; low = n; high = n } in
+    record { number = n; first_is = refl; bounds_are = sym (Some_is same b e) }
 of_number object Initials.Null b e = absurd cc
 of_number object (Initials.To other offset) b e = absurd cc
 

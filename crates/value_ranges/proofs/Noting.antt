@@ -7,7 +7,8 @@ use Rattle.interfere_set.specs.Stores.{Nested}
 use Rattle.post_recheck.specs.transfer_rows.StateForms.{State, own_of}
 use Rattle.post_recheck.specs.least_tables.Solutions.{at}
 use Rattle.value_ranges.specs.declared.cells.IntegerCell.{IntegerCell}
-use Rattle.value_ranges.specs.reading.Notes.{Noted, noted_at, IsWidened, AreWidened, AreIntegerCells, IsFirstBelow, IsInValues, IsInNode}
+use Rattle.value_ranges.specs.reading.Notes.{Noted, noted_at, IsWidened, AreWidened, AreIntegerCells, IsFirstBelow}
+use Rattle.value_ranges.specs.reading.Notes.{IsInValues, IsInNode}
 use Rattle.value_ranges.specs.reading.Notes.{IsInTables, IsInWeak, AreNotedIn}
 use Rattle.value_ranges.proofs.Widening.{all_as, noted_both}
 

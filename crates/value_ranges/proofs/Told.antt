@@ -1,5 +1,6 @@
 -- What is noted is what the tables and the store tell.
-use Rattle.std.proofs.Common.{◌≡◌, ◌⊎◌, ℕ, zero, suc, ◌<◌, refl, ap, sym, subst, ◌∙◌, inl, inr, List, [], ◌∷◌, length, get_or, Option, Some, None, arith}
+use Rattle.std.proofs.Common.{◌≡◌, ◌⊎◌, ℕ, zero, suc, ◌<◌, refl, ap, sym, subst, ◌∙◌, inl, inr, List, [], ◌∷◌, length}
+use Rattle.std.proofs.Common.{get_or, Option, Some, None, arith}
 use Rattle.std.specs.Prelude.{ℤ}
 use Rattle.std.specs.FinMap as map
 use Rattle.std.specs.FinMap.{get, entries}
@@ -20,10 +21,12 @@ use Rattle.post_recheck.specs.program_equations.Programs.{ProgramBodies}
 use Rattle.post_recheck.specs.program_equations.Solutions.{table_at, tables_of}
 use Rattle.value_ranges.specs.declared.object_bounds.ObjectBounds.{ObjectBounds}
 use Rattle.value_ranges.specs.declared.cells.IntegerCell.{IntegerCell}
-use Rattle.value_ranges.specs.Ranges.{IsIntegerCell, IsToldNumber, IsNumberOf, AreBounds, AreRising, IsListed, AreRanges}
+use Rattle.value_ranges.specs.Ranges.{IsIntegerCell, IsToldNumber, IsNumberOf, AreBounds, AreRising, IsListed}
+use Rattle.value_ranges.specs.Ranges.{AreRanges}
 use Rattle.value_ranges.specs.Ranges.IsToldNumber.{at_first, at_node, in_store}
 use Rattle.value_ranges.specs.reading.Notes.{Noted, noted_at, IsNamed, IsWidened, Below, IsFirst, IsFirstBelow}
-use Rattle.value_ranges.specs.reading.Notes.{AreIntegerCells, no_integer_cell, IsInCell, IsInNode, IsInTables, IsInWeak, held_at, written_at}
+use Rattle.value_ranges.specs.reading.Notes.{AreIntegerCells, no_integer_cell, IsInCell, IsInNode, IsInTables}
+use Rattle.value_ranges.specs.reading.Notes.{IsInWeak, held_at, written_at}
 use Rattle.value_ranges.specs.reading.Notes.{AreListed, AreNotedIn}
 use Rattle.value_ranges.proofs.Widening.{either, nothing_in}
 
@@ -37,7 +40,8 @@ of_index (x ∷ xs) (suc i) d lt = inr (of_index xs i d (omega (arith, lt)))
 index_of : {X : Type 0} (xs : List X) (d x : X) → IsOf xs x → (i : ℕ) × (i < length xs) × (get_or xs i d ≡ x)
 index_of [] d x h = absurd h
 index_of (y ∷ xs) d x (inl e) = (zero, omega arith, sym e)
-index_of (y ∷ xs) d x (inr h) = let more = index_of xs d x h in (suc more.0, (let lt = more.1 in omega (arith, lt)), more.2)
+index_of (y ∷ xs) d x (inr h) =
+    let more = index_of xs d x h in (suc more.0, (let lt = more.1 in omega (arith, lt)), more.2)
 
 within_table : (table : List (Option State)) (n : ℕ) (s : State) → at table n ≡ Some s → n < length table
 within_table table n s e = by_place (dec_lt n (length table))
@@ -76,7 +80,8 @@ module _ (p : ProgramBodies) (lists : List (List (Option State))) (store : Inter
 
   abbrev Seen : ℕ → ℤ → Type 0
   Seen object n = IsFirstBelow laid (length laid.initial) object n
-      ⊎ (IsInTables cells lists (length lists) object n ⊎ IsInWeak cells store.weak (length (entries store.weak)) object n)
+      ⊎ (IsInTables cells lists (length lists) object n
+      ⊎ IsInWeak cells store.weak (length (entries store.weak)) object n)
 
   in_program : (object x : ℕ) → IsIntegerCell laid object x → IsIntegerCell p.laid object x
   in_program object x h = subst (λ (m : LaidTree). IsIntegerCell m object x) (sym read) (read_cell laid object x h)
@@ -182,7 +187,8 @@ module _ (p : ProgramBodies) (lists : List (List (Option State))) (store : Inter
           let inner : Rest written = (
             other.0,
             other.1,
-            subst (λ (v : Table Values). Below (IsInCell cells (λ y. value_or_none (get v y)) object n) (length cells)) v-is
+            subst (λ (v : Table Values). Below (IsInCell cells (λ y. value_or_none (get v y)) object n) (length cells))
+                v-is
                 (among object x n (λ y. value_or_none (get values y)) of there),
           ) in
           (one.0, one.1, subst Rest w-is inner)

@@ -1,5 +1,6 @@
 -- What is noted of objects, widened number by number.
-use Rattle.std.proofs.Common.{◌≡◌, ◌≢◌, ◌⊎◌, ℕ, ◌+◌, ◌<◌, refl, sym, subst, ◌∙◌, inl, inr, List, length, set, get_or, Some, None, arith}
+use Rattle.std.proofs.Common.{◌≡◌, ◌≢◌, ◌⊎◌, ℕ, ◌+◌, ◌<◌, refl, sym, subst, ◌∙◌, inl, inr, List, length, set, get_or}
+use Rattle.std.proofs.Common.{Some, None, arith}
 use Rattle.std.specs.Prelude.{ℤ, ◌≤ℤ◌}
 use Rattle.std.proofs.lemmas.Bool.{cases_eq}
 use Rattle.std.proofs.lemmas.Int.{ints}
@@ -9,7 +10,8 @@ use Rattle.strided_dom.specs.Progression.{Progression, empty, Has, IsLeastNumber
 use Rattle.pointer_dom.specs.Values.{Values}
 use Rattle.value_ranges.specs.declared.object_bounds.ObjectBounds.{ObjectBounds}
 use Rattle.value_ranges.specs.declared.cells.IntegerCell.{IntegerCell}
-use Rattle.value_ranges.specs.reading.Notes.{Noted, noted_at, IsLow, IsHigh, IsWidened, AreWidened, IsJoined, HasNoted, Below, no_integer_cell, IsInCell, AreOfObjects}
+use Rattle.value_ranges.specs.reading.Notes.{Noted, noted_at, IsLow, IsHigh, IsWidened, AreWidened, IsJoined}
+use Rattle.value_ranges.specs.reading.Notes.{HasNoted, Below, no_integer_cell, IsInCell, AreOfObjects}
 
 pub either : {A B C : Type 0} → (A → C) → (B → C) → A ⊎ B → C
 either f g (inl a) = f a

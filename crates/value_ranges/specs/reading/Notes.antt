@@ -1,5 +1,6 @@
 -- What the code notes of each object: the least and the greatest of the numbers that it has seen so far.
-use Rattle.std.specs.Prelude.{◌≡◌, ◌⊎◌, ◌↔◌, ℕ, ◌<◌, ℤ, ◌≤ℤ◌, List, length, get_or, set, slice_get, Contains, Option, Some, None}
+use Rattle.std.specs.Prelude.{◌≡◌, ◌⊎◌, ◌↔◌, ℕ, ◌<◌, ℤ, ◌≤ℤ◌, List, length, get_or, set, slice_get, Contains, Option}
+use Rattle.std.specs.Prelude.{Some, None}
 use Rattle.std.specs.FinMap as map
 use Rattle.std.specs.FinMap.{get, entries}
 use Rattle.tm_lattice.specs.Tables.{Table}

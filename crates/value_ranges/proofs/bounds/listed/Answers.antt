@@ -18,7 +18,8 @@ loop-object-preserved c =
     elim c.match-noted-object.branch [
       | in-Some+in_ok-push w ↦ subst List (sym w.list-is)
           (subst (λ xs. AreListed noted (i + 1) xs) (sym w.in_ok-push.ensures.items)
-          (listed_more noted c.requires i c.loop-object.list.items w.in-Some.bounds w.in-Some.is c.loop-object.invariant))
+          (listed_more noted c.requires i c.loop-object.list.items w.in-Some.bounds w.in-Some.is
+          c.loop-object.invariant))
       | in_default w ↦ subst List (sym w.list-is)
           (listed_same noted i c.loop-object.list.items w.in_default.is c.loop-object.invariant)
     ]

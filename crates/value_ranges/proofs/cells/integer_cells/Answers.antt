@@ -23,7 +23,8 @@ loop-cell-preserved c =
           (cells_more laid i c.loop-cell.cells.items c.object_of.result c.object_of.ensures c.loop-cell.invariant
           w.in-Some.object w.in-Some.is))
       | in_default w ↦ subst Cells (sym w.cells-is)
-          (cells_same laid i c.loop-cell.cells.items c.object_of.result c.object_of.ensures c.loop-cell.invariant w.in_default.is)
+          (cells_same laid i c.loop-cell.cells.items c.object_of.result c.object_of.ensures c.loop-cell.invariant
+          w.in_default.is)
     ]
 
 pub returns : goal.returns

@@ -10,7 +10,8 @@ use Rattle.value_ranges.proofs.notes.note_held.Goals as goal
 use Rattle.value_ranges.proofs.notes.note_held.Goals.{in-Some, in_default}
 
 pub loop-index-init : goal.loop-index-init
-loop-index-init c = begins (IsInCell c.args.cells.now (λ x. value_or_none (get c.args.held.now x))) c.args.noted.now.items
+loop-index-init c =
+    begins (IsInCell c.args.cells.now (λ x. value_or_none (get c.args.held.now x))) c.args.noted.now.items
 
 pub note_numbers-requires : goal.note_numbers-requires
 note_numbers-requires c =
@@ -27,10 +28,12 @@ loop-index-preserved c =
     c.args.noted.now.items v.items in
     elim c.match-get.branch [
       | in-Some w ↦ subst Notes (sym w.noted-is)
-          (goes_on (IsInCell cells value) i c.args.noted.now.items c.loop-index.noted.items w.note_numbers.new.noted.items
+          (goes_on (IsInCell cells value) i c.args.noted.now.items c.loop-index.noted.items
+          w.note_numbers.new.noted.items
           c.loop-index.invariant
           (cell_noted cells i _ refl value w.numbers.result
-          (ap (λ v. v.numbers) (ap value_or_none (sym c.get.ensures ∙ ap option_copied w.in-Some.is)) ∙ sym w.numbers.ensures)
+          (ap (λ v. v.numbers) (ap value_or_none (sym c.get.ensures ∙ ap option_copied w.in-Some.is))
+          ∙ sym w.numbers.ensures)
           c.loop-index.noted.items w.note_numbers.new.noted.items w.note_numbers.ensures))
       | in_default w ↦ subst Notes (sym w.noted-is)
           (stays (IsInCell cells value) i c.args.noted.now.items c.loop-index.noted.items c.loop-index.invariant
@@ -41,5 +44,6 @@ loop-index-preserved c =
 pub returns : goal.returns
 returns c =
     let end : c.loop-index.index ≡ length c.args.cells.now = omega arith in
-    subst (λ i. AreWidened (λ o n. IsInFirst c.args.cells.now (λ x. value_or_none (get c.args.held.now x)) i o n) c.args.noted.now.items
+    subst (λ i. AreWidened (λ o n. IsInFirst c.args.cells.now (λ x. value_or_none (get c.args.held.now x)) i o n)
+    c.args.noted.now.items
     c.loop-index.noted.items) end c.loop-index.invariant

@@ -26,10 +26,12 @@ loop-index-preserved c =
     c.args.noted.now.items v.items in
     elim c.match-cell.branch [
       | in-Some w ↦ subst Notes (sym w.noted-is)
-          (goes_on (IsInCell cells value) i c.args.noted.now.items c.loop-index.noted.items w.note_numbers.new.noted.items
+          (goes_on (IsInCell cells value) i c.args.noted.now.items c.loop-index.noted.items
+          w.note_numbers.new.noted.items
           c.loop-index.invariant
           (cell_noted cells i _ refl value w.numbers.result
-          (ap (λ v. v.numbers) (ap own_value (sym c.cell.ensures ∙ ap option_copied w.in-Some.is)) ∙ sym w.numbers.ensures)
+          (ap (λ v. v.numbers) (ap own_value (sym c.cell.ensures ∙ ap option_copied w.in-Some.is))
+          ∙ sym w.numbers.ensures)
           c.loop-index.noted.items w.note_numbers.new.noted.items w.note_numbers.ensures))
       | in_default w ↦ subst Notes (sym w.noted-is)
           (stays (IsInCell cells value) i c.args.noted.now.items c.loop-index.noted.items c.loop-index.invariant

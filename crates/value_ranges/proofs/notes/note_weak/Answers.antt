@@ -25,7 +25,8 @@ loop-index-preserved c =
     let items = c.entries-tasks.result.now in
     let e = get_or_default items i c.index-tasks-index.result (0, map.empty) c.loop-index-test.true
     ∙ ap (λ xs. get_or xs i (0, map.empty)) (c.entries-tasks.ensures ∙ ap entries c.weak.ensures) in
-    goes_on (λ o n k. (let w = written_at cells c.args.store.now.weak k in IsInWritten cells w (length (entries w)) o n))
+    goes_on
+    (λ o n k. (let w = written_at cells c.args.store.now.weak k in IsInWritten cells w (length (entries w)) o n))
     i c.args.noted.now.items c.loop-index.noted.items c.note_written.new.noted.items c.loop-index.invariant
     (subst (λ (x : ℕ × Table (Table Values)). AreWidened (λ o n. IsInWritten cells x.1 (length (entries x.1)) o n)
     c.loop-index.noted.items c.note_written.new.noted.items) e c.note_written.ensures)

@@ -27,4 +27,5 @@ returns c = λ place.
     let graphs = c.args.graphs.now in
     let end : c.loop-number.number ≡ length graphs = omega arith in
     adds_all (λ q. IsOfGraphs graphs (length graphs) q) c.loop-number.places.items
-    (subst (λ i. AddsPlaces (λ q. IsOfGraphs graphs i q) [] c.loop-number.places.items) end c.loop-number.invariant) place
+    (subst (λ i. AddsPlaces (λ q. IsOfGraphs graphs i q) [] c.loop-number.places.items) end
+    c.loop-number.invariant) place
