@@ -1,6 +1,6 @@
 -- Where a task or the initial section acts, a state stands before an operation at that place.
-use Rattle.std.proofs.Common.{◌≡◌, ◌⊎◌, inl, inr, refl, sym, ap, subst, ◌∙◌, ℕ, ◌<◌, ◌≤◌, ◌^◌, Bool, true, false, List}
-use Rattle.std.proofs.Common.{length, Option, Some, None, arith}
+use Rattle.std.proofs.Common.{◌≡◌, refl, sym, ap, subst, ◌∙◌, ℕ, ◌<◌, ◌≤◌, ◌^◌, true, false, List}
+use Rattle.std.proofs.Common.{length, Option, Some, arith}
 use Rattle.std.specs.Prelude.{Contains}
 use Rattle.sound_tables.specs.tm_terms.declared.places.Place.{Place}
 use Rattle.sound_tables.specs.tm_laid.Layouts.{LaidTree}
@@ -14,8 +14,6 @@ use Rattle.sound_tables.specs.concrete_steps.NextAction.{next}
 use Rattle.sound_tables.specs.concrete_steps.Worlds.{World, answers_of, next_at}
 use Rattle.sound_tables.specs.concrete_steps.Moves.{status_of}
 use Rattle.sound_tables.specs.concrete_steps.Occurring.{IsReached}
-use Rattle.sound_tables.specs.flow_graph.declared.operations.Operation.{Operation}
-use Rattle.sound_tables.specs.flow_graph.declared.operations.Operation.TheVariants as Op
 use Rattle.sound_tables.specs.flow_graph.Operations.{Temps}
 use Rattle.sound_tables.specs.interfere_set.Stores.{Interferences}
 use Rattle.sound_tables.specs.transfer_rows.StateForms.{State}
@@ -28,26 +26,25 @@ use Rattle.sound_tables.specs.tm_soundness.Shape.{Operation as Kind, Content as 
 use Rattle.sound_tables.specs.tm_soundness.Tables.{Tables}
 use Rattle.sound_tables.specs.tm_soundness.Section.{alone}
 use Rattle.sound_tables.specs.tm_soundness.GraphWorlds.{done}
-use Rattle.sound_tables.specs.tm_soundness.Worlds.{Source, Action, a_load, a_load_any, a_store, a_lock, a_unlock}
+use Rattle.sound_tables.specs.tm_soundness.Worlds.{Source}
 use Rattle.sound_tables.specs.tm_soundness.Worlds.{a_spins}
 use Rattle.sound_tables.specs.tm_soundness.Worlds.{Leaves, IsLowered}
 use Rattle.sound_tables.specs.tm_soundness.Numbered.{TaskOf}
 use Rattle.sound_tables.specs.tm_soundness.Known.{IsKnown}
-use Rattle.sound_tables.specs.program_shape.Shape.{Parts, Node, Copy, shape_of, number_of, section_parts, place_at}
-use Rattle.sound_tables.specs.program_shape.Shape.{operation_of}
+use Rattle.sound_tables.specs.program_shape.Shape.{Parts, Node, Copy, shape_of, number_of, place_at}
 use Rattle.sound_tables.proofs.low.program_shape.TaskNumbers.{IsNumbered, task_with}
 use Rattle.sound_tables.proofs.OperationKinds.{is_load, is_load_any, is_store, is_unlock}
 use Rattle.sound_tables.proofs.SetsAfter.{is_lock}
 use Rattle.sound_addresses.specs.sound_runs.Sources.{source_of, action_of, place_of_next}
-use Rattle.sound_addresses.specs.sound_runs.Images.{status_as, task_parts}
+use Rattle.sound_addresses.specs.sound_runs.Images.{status_as}
 use Rattle.sound_addresses.specs.sound_runs.Programs.{HasGraphs, first_temps, first_memory, shape_in, section_in}
 use Rattle.sound_addresses.specs.sound_runs.Programs.{source_in}
 use Rattle.sound_addresses.specs.sound_runs.Programs.{section_source_in}
-use Rattle.sound_addresses.specs.sound_runs.Known.{tasks_in, IsKnownIn}
+use Rattle.sound_addresses.specs.sound_runs.Known.{tasks_in}
 use Rattle.sound_addresses.proofs.low.sound_runs.Moved.{next_is}
 use Rattle.sound_addresses.proofs.low.sound_runs.Programs.{lowered_in, section_lowered}
 use Rattle.sound_tables.specs.Programs.{part_of, parts_of, section_alone}
-use Rattle.sound_tables.specs.Memberships.{HasState, state_at, there, tables_of, tables_with, section_tables, scalar_as}
+use Rattle.sound_tables.specs.Memberships.{state_at, tables_of, tables_with, scalar_as}
 use Rattle.sound_core.specs.Sound.{IsProgramFrom}
 use Rattle.sound_core.proofs.FileBodies.{same_parts}
 use Rattle.sound_tables.specs.Premises.{IsGraphOf}

@@ -1,20 +1,18 @@
 -- Numbers that integer cells hold are within the bounds of their objects.
 use Rattle.std.proofs.Common.{◌≡◌, refl, sym, subst, ap, ◌∙◌, ℕ, ◌<◌, ◌≤◌, ◌^◌, Bool, true, false, List, length, Option}
 use Rattle.std.proofs.Common.{Some, None, arith}
-use Rattle.std.specs.Prelude.{ℤ, cond, nat_lt, is_none, slice_get}
+use Rattle.std.specs.Prelude.{ℤ, cond, nat_lt, is_none}
 use Rattle.std.proofs.lemmas.Bool.{ltb-true}
 use Rattle.sound_tables.specs.tm_laid.declared.objects.Initial.{Initial}
 use Rattle.sound_tables.specs.tm_laid.declared.objects.Initial.TheVariants as Initials
-use Rattle.sound_tables.specs.tm_laid.Layouts.{LaidTree, cell_at, abstract_at, object_at}
-use Rattle.sound_tables.specs.concrete_values.declared.values.Value.{Value}
+use Rattle.sound_tables.specs.tm_laid.Layouts.{LaidTree, cell_at, object_at}
 use Rattle.sound_tables.specs.concrete_values.declared.values.Value.TheVariants.{Number}
-use Rattle.sound_tables.specs.concrete_steps.declared.worlds.Content.{Content}
 use Rattle.sound_tables.specs.concrete_steps.declared.worlds.Content.TheVariants.{Is}
 use Rattle.sound_tables.specs.concrete_steps.Worlds.{World}
 use Rattle.sound_tables.specs.concrete_steps.Occurring.{IsReached}
 use Rattle.sound_tables.specs.interfere_set.Stores.{Interferences}
 use Rattle.sound_tables.specs.transfer_rows.StateForms.{State}
-use Rattle.sound_tables.specs.least_tables.Solutions.{NodeTable}
+use Rattle.sound_tables.specs.program_reports.least_tables.Solutions.{NodeTable}
 use Rattle.sound_tables.specs.program_equations.Programs.{ProgramBodies, IsProgram}
 use Rattle.sound_tables.specs.program_equations.Solutions.{tables_of as lists_of, IsPair}
 use Rattle.sound_tables.specs.program_shape.Shape.{IsShared, abstract_of_cell}
@@ -22,7 +20,8 @@ use Rattle.sound_tables.specs.Memberships.{found_at, number_at}
 use Rattle.sound_tables.specs.Starting.{initial_as}
 use Rattle.value_ranges.specs.declared.object_bounds.ObjectBounds.{ObjectBounds}
 use Rattle.value_ranges.specs.Ranges.{IsIntegerCell, IsToldNumber, IsNumberOf, AreRanges}
-use Rattle.value_ranges.specs.Ranges.IsToldNumber as told
+use Rattle.value_ranges.specs.Ranges.IsToldNumber.{at_first as first_told, at_node as node_told}
+use Rattle.value_ranges.specs.Ranges.IsToldNumber.{in_store as store_told}
 use Rattle.sound_core.specs.Sound.{IsProgramFrom}
 use Rattle.sound_core.specs.Known.{IsTold, at_first, at_node, in_store, HoldsTold}
 use Rattle.sound_core.specs.Ranges.{HoldsNumber, IsWithin}
@@ -55,11 +54,11 @@ module _ (p : ProgramBodies) (tables : List (List (Option State))) (store : Inte
       let c = cell_at p.laid cell in
       let there = cell_there (length p.laid.cells) (length p.laid.abstract_cells) c.abstract_cell x cell
       (nat_lt cell (length p.laid.cells)) refl of.within e in
-      told.at_first cell there.0 there.1 (is ∙ ap Some (number_first i n v))
+      first_told cell there.0 there.1 (is ∙ ap Some (number_first i n v))
   number_told object x n of (at_node body node s st has) =
       let there = found_some (lists_of tables body) (number_at p body node) s st.is in
-      told.at_node body there.0 s there.1 has
-  number_told object x n of (in_store task held has) = told.in_store task held has
+      node_told body there.0 s there.1 has
+  number_told object x n of (in_store task held has) = store_told task held has
 
   shared : (object x : ℕ) → IsIntegerCell p.laid object x → IsShared p.laid x
   shared object x of = record {
