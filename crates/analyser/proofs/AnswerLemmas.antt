@@ -27,11 +27,6 @@ use Rattle.analyser.specs.reading.Replies.{TellsAlarms}
 use Rattle.analyser.specs.reading.Streams.{Says, SaysNoMore}
 use Rattle.program_streams.specs.Streams.{TakesFrontOf}
 
--- what an answer says is what it says of another fact that follows
-pub if_ok_by : {A E : Type 0} {P Q : A → Type 0} (r : Result A E) → IfOk r P → ((a : A) → P a → Q a) → IfOk r Q
-if_ok_by (Ok a) h k = k a h
-if_ok_by (Err e) h k = tt
-
 pub if_ok_both : {A E : Type 0} {P P' Q : A → Type 0} (r : Result A E) → IfOk r P → IfOk r P' → ((a : A) → P a → P' a → Q a) → IfOk r Q
 if_ok_both (Ok a) h h' k = k a h h'
 if_ok_both (Err e) h h' k = tt

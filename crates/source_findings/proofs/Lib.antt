@@ -1,5 +1,5 @@
 -- The program of a source as the laws of soundness read it (Sourced); what is told is of a source that is accepted
--- (Solved).
+-- (Solved), and is what the code tells (Told).
 pub mod Solved
 pub mod Sourced
-pub mod low
+mod Told

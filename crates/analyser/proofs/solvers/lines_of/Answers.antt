@@ -3,7 +3,7 @@ use Rattle.worker_solutions.proofs.low.shared_analyses.Analyses.{analysis_send, 
 use Rattle.std.proofs.Common.{ap, ◌∙◌}
 use Rattle.std.specs.Prelude.{string_bytes}
 use Rattle.history_lines.specs.HistoryTexts.{history_text}
-use Rattle.analyser.proofs.AnswerLemmas.{if_ok_by}
+use Rattle.source_findings.proofs.Solved.{if_ok_by}
 use Rattle.analyser.proofs.HistoryLines.{asked_lines, no_lines}
 use Rattle.analyser.proofs.solvers.lines_of.Goals as goal
 
