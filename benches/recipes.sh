@@ -2,15 +2,16 @@
 # Whether the recipes of docs/ARCHITECTURE.md name every place: each file that has a class, an operator or a command
 # that is there already has to stand in the recipe for a new one, and each file that a recipe names has to be there.
 #
-#     benches/recipes.sh [TOP]
+#     benches/recipes.sh
+#     benches/recipes.sh TOP class|operator|command NAME
 #
-# TOP is the repository, or a copy of it, in which the recipe was followed with other names: then a file that was left
-# out is found, since it lacks what it should have. The names that are looked for are CLASS, OPERATOR and COMMAND of the
-# environment, `Race`, `Rem|Remainder|Percent` and `Replay` if they are not set. Status 1 where something is missing.
+# In the second form TOP is a repository in which a recipe was followed for NAME, a pattern of grep, and each file that
+# has what is there already and not NAME is listed. What is there already is the class RACE beside OVERFLOW and the
+# field of SHIFT; the operator `%`; the command `replay`. Status 1 where a file is missing or listed.
 set -eu
 own=$(dirname "$(dirname "$(readlink -f "$0")")")
+[ $# -eq 0 ] || [ $# -eq 3 ] || { sed -n 's/^#     /usage: /p' "$0" >&2; exit 2; }
 top=$(readlink -f "${1:-$own}")
-CLASS=${CLASS:-Race} OPERATOR=${OPERATOR:-Rem|Remainder|Percent} COMMAND=${COMMAND:-Replay}
 folder=$(mktemp -d)
 trap 'rm -rf "$folder"' EXIT
 status=0
@@ -41,14 +42,31 @@ compare() { # SECTION, the files that have the names in the file `found`
     echo "$1: $(wc -l <"$folder/has") files, all but $(wc -l <"$folder/left") named"
 }
 
+# The files that have what is there already.
+has() { # class|operator|command
+    case $1 in
+    # all classes stand beside one another, or as fields
+    class)
+        grep -rlawE --exclude-dir=out 'Overflow' crates | xargs grep -lawE 'Race'
+        grep -rlaE --exclude-dir=out '(classes|c)\.shift\b|\bshift: (false|may_|bool)|\bshift = false' crates
+        ;;
+    operator) grep -rlawE --exclude-dir=out 'Rem|Remainder|Percent' crates ;;
+    command) grep -rlawE --exclude-dir=out 'Replay' crates/cmd_words crates/analyser crates/words_tests ;;
+    *) echo "there is no recipe for $1" >&2; exit 2 ;;
+    esac
+}
+
 cd "$top"
-# all classes stand beside one another, or as fields
-{ grep -rlawE 'Overflow' crates | xargs grep -lawE "$CLASS"
-  grep -rlaE '(classes|c)\.shift\b|\bshift: (false|may_|bool)|\bshift = false' crates
-} >"$folder/found"
+if [ $# -eq 3 ]; then
+    for file in $(has "$2" | sort -u); do
+        grep -qawE "$3" "$file" || { echo "$file has no $3"; status=1; }
+    done
+    exit "$status"
+fi
+has class >"$folder/found"
 compare 'A new alarm class'
-grep -rlawE "$OPERATOR" crates >"$folder/found"
+has operator >"$folder/found"
 compare 'A new C operator'
-grep -rlawE "$COMMAND" crates/cmd_words crates/analyser crates/words_tests >"$folder/found"
+has command >"$folder/found"
 compare 'A new command'
 exit "$status"

@@ -1,7 +1,8 @@
 -- The bodies of a file (FileBodies), every error of a run is an alarm (Alarmed), and what graphs (Graphs) and layouts
 -- (Cells) keep for the tables; what cells hold at the start (Starting), and
 -- that abstract cells stand for cells (Hits); which operations there are (Regular). What is known of each world that a
--- run reaches (Known): circles of tasks that wait (Circles) and rings (Rings), and what cells hold (Contents).
+-- run reaches (Known): circles of tasks that wait (Circles) and rings (Rings), what cells hold (Contents), within
+-- which bounds (Within), and where somebody acts (Reached).
 pub mod FileBodies
 pub mod Alarmed
 pub mod Graphs
@@ -13,3 +14,5 @@ pub mod Known
 pub mod Circles
 pub mod Rings
 pub mod Contents
+pub mod Within
+pub mod Reached

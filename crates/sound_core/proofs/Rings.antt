@@ -1,5 +1,5 @@
 -- The locks of rings are listed.
-use Rattle.std.proofs.Common.{◌≡◌, refl, sym, ap, subst, ◌∙◌, ℕ, ◌≤◌, ◌^◌, List, [], ◌∷◌, ◌++◌, length, Option, arith}
+use Rattle.std.proofs.Common.{refl, ℕ, ◌≤◌, ◌^◌, List, [], ◌∷◌, length, Option, arith}
 use Rattle.std.specs.Prelude.{Contains}
 use Rattle.sound_tables.specs.tm_terms.declared.places.Place.{Place}
 use Rattle.sound_tables.specs.tm_laid.Layouts.{LaidTree}

@@ -1,9 +1,9 @@
 //! The law of the report.
-ghost use Rattle.std.specs.Prelude.{◌≡◌, ℕ, ◌<◌, ◌≤◌, ◌^◌, List, [], length, Option, Some, None};
+ghost use Rattle.std.specs.Prelude.{◌≡◌, ℕ, ◌<◌, ◌≤◌, ◌^◌, ℤ, List, [], length, Option, Some, None, Contains};
 ghost use Rattle.sound_tables.specs.tm_cint.declared.Class.{Class};
 ghost use Rattle.sound_tables.specs.tm_terms.declared.places.Place.{Place};
 ghost use Rattle.sound_tables.specs.tm_laid.Layouts.{LaidTree};
-ghost use Rattle.sound_tables.specs.concrete_steps.Worlds.{World};
+ghost use Rattle.sound_tables.specs.concrete_steps.Worlds.{World, next_at};
 ghost use Rattle.sound_tables.specs.concrete_steps.Occurring.{IsReached, Occurs};
 ghost use Rattle.sound_tables.specs.interfere_set.Stores.{Interferences};
 ghost use Rattle.sound_tables.specs.transfer_rows.StateForms.{State};
@@ -19,6 +19,11 @@ ghost use Rattle.sound_tables.specs.Premises.{LaysCells, IsGraphOf};
 ghost use Rattle.sound_tables.specs.Starting.{IsStartMemory};
 ghost use Rattle.sound_core.specs.Sound.{IsProgramFrom};
 ghost use Rattle.lock_waits.specs.Waits.{AreWaits};
+ghost use Rattle.value_ranges.specs.declared.object_bounds.ObjectBounds.{ObjectBounds};
+ghost use Rattle.value_ranges.specs.Ranges.{AreRanges};
+ghost use Rattle.value_ranges.specs.Places.{IsReachedPlace, AreDead};
+ghost use Rattle.sound_core.specs.Ranges.{HoldsNumber, IsWithin};
+ghost use Rattle.sound_core.specs.Places.{ActsAt, MayAct};
 ghost use Rattle.sound_core.specs.Known.{WaitsFor, HasCircular, HoldsAllTold};
 ghost use Rattle.sound_core.specs.Rings.{IsRing, IsLockOfRing};
 
@@ -87,4 +92,28 @@ pub fn none_listed_no_ring()
         → length laid.objects ≤ 2 ^ 32 → (tables : List (List (Option State))) (store : Interferences)
         → IsPair p tables store → AreWaits p (tables_of tables) [] → (w : World) → IsReached laid w
         → (tasks : List ℕ) → IsRing laid w tasks → ⊥ }
+{}
+
+/// A number that an integer cell of static storage holds in a world that a run reaches lies within the bounds that are
+/// listed of its object, which has some, whichever solution they are of.
+pub fn numbers_are_within()
+    ensures { (laid : LaidTree) (p : ProgramBodies) → IsProgramFrom laid p → (is : IsProgram p)
+        → length laid.objects ≤ 2 ^ 32 → (tables : List (List (Option State))) (store : Interferences)
+        → IsPair p tables store → (list : List ObjectBounds) → AreRanges p (tables_of tables) store list → (w : World)
+        → IsReached laid w → (object cell : ℕ) (n : ℤ) → HoldsNumber p w object cell n → IsWithin list object n }
+{}
+
+/// Where the initial section, or a task after it, is about to read, write, lock or unlock in a world that a run
+/// reaches, every solution has a state at a node that a copy of such an operation leaves, at this place. So nobody ever
+/// acts at a dead place.
+pub fn places_are_reached()
+    ensures reached { (laid : LaidTree) (p : ProgramBodies) → IsProgramFrom laid p → (is : IsProgram p)
+        → length laid.objects ≤ 2 ^ 32 → (tables : List (List (Option State))) (store : Interferences)
+        → IsPair p tables store → (w : World) → IsReached laid w → (body : ℕ) → MayAct laid w body → (place : Place)
+        → ActsAt (next_at laid w body) place → IsReachedPlace p (tables_of tables) body place }
+    ensures dead { (laid : LaidTree) (p : ProgramBodies) → IsProgramFrom laid p → (is : IsProgram p)
+        → length laid.objects ≤ 2 ^ 32 → (tables : List (List (Option State))) (store : Interferences)
+        → IsPair p tables store → (w : World) → IsReached laid w → (places : List Place)
+        → AreDead p (tables_of tables) places → (place : Place) → Contains places place → (body : ℕ)
+        → MayAct laid w body → ActsAt (next_at laid w body) place → ⊥ }
 {}

@@ -7,12 +7,13 @@
 //!
 //! On the way stand laws on every world that a run reaches: the concurrent invariant holds there, tasks that wait for
 //! each other in a circle stand at circular requests, and so at places that are listed, and what cells hold is told by
-//! every solution.
+//! every solution: so numbers lie within the bounds of their objects. And nobody acts at a dead place.
 #![tactic(auto)]
 
 mod laws;
 
 pub use laws::{
     circles_are_requested, contents_are_told, errors_are_alarms, foundations_are_kept,
-    none_listed_no_ring, rings_are_listed, worlds_are_known,
+    none_listed_no_ring, numbers_are_within, places_are_reached, rings_are_listed,
+    worlds_are_known,
 };

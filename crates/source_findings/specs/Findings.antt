@@ -1,13 +1,13 @@
 -- What `waits` and `ranges` answer: what the least solution of a source tells of its locks, of its objects and of its
 -- places, and what that promises of its runs.
-use Rattle.std.specs.Prelude.{◌≡◌, ℕ, ℤ, ◌≤ℤ◌, List, [], ◌∷◌, ◌++◌}
+use Rattle.std.specs.Prelude.{◌≡◌, ℕ, ℤ, List, [], ◌∷◌, ◌++◌, Contains}
 use Rattle.std.specs.List.{flat_map}
 use Rattle.tm_terms.specs.declared.places.Place.{Place}
 use Rattle.tm_terms.specs.declared.refusals.Refusal.{Refusal}
 use Rattle.tm_terms.specs.Spelling.{text_of}
 use Rattle.tm_terms.specs.Texts.{refusal_text}
 use Rattle.solution_lines.specs.SolutionTexts.{waits_text, range_line, dead_text}
-use Rattle.program_solutions.specs.tm_laid.Layouts.{LaidTree}
+use Rattle.program_solutions.specs.tm_laid.Layouts.{LaidTree, object_at}
 use Rattle.sound_core.specs.concrete_steps.Worlds.{World, next_at}
 use Rattle.sound_core.specs.concrete_steps.Occurring.{IsReached}
 use Rattle.program_solutions.specs.program_equations.Programs.{ProgramBodies}
@@ -15,11 +15,12 @@ use Rattle.program_solutions.specs.program_equations.Solutions.{tables_of}
 use Rattle.program_solutions.specs.post_recheck.Pairs.{Pair}
 use Rattle.program_solutions.specs.LeastReports.{IsLeastPair}
 use Rattle.lock_waits.specs.Waits.{AreWaits}
-use Rattle.value_ranges.specs.declared.ranges.ObjectBounds.{ObjectBounds}
+use Rattle.value_ranges.specs.declared.object_bounds.ObjectBounds.{ObjectBounds}
 use Rattle.value_ranges.specs.Ranges.{AreRanges}
 use Rattle.value_ranges.specs.Places.{AreDead}
 use Rattle.sound_core.specs.Rings.{IsRing, AllLockAt}
-use Rattle.sound_core.specs.Reached.{MayAct, HoldsNumber, IsBetween}
+use Rattle.sound_core.specs.Ranges.{HoldsNumber, IsWithin}
+use Rattle.sound_core.specs.Places.{ActsAt, MayAct}
 use Rattle.source_programs.specs.Sources.{IsAccepted, IsRefused}
 use Rattle.program_streams.specs.declared.statuses.Status.{Status}
 use Rattle.program_streams.specs.declared.statuses.Status.TheVariants.{NoAlarm, Alarms, Refused, Usage, ReadFault}
@@ -62,22 +63,22 @@ pub record TellsWaits (bytes : List ℕ) (status : Status) (text : List ℕ) : T
 -- ## Ranges and dead places
 
 -- in each world that a run reaches and that has not stopped, each number that an integer cell of an object of static
--- storage holds lies within the object's bounds
-abbrev pub StaysWithin : LaidTree → List ObjectBounds → Type 0
-StaysWithin laid bounds = (w : World) → IsReached laid w → (object cell : ℕ) (n : ℤ) → HoldsNumber laid w object cell n
-    → IsBetween bounds object n
+-- storage holds lies within the bounds that are listed of the object
+abbrev pub StaysWithin : ProgramBodies → LaidTree → List ObjectBounds → Type 0
+StaysWithin p laid bounds = (w : World) → IsReached laid w → (object cell : ℕ) (n : ℤ) → HoldsNumber p w object cell n
+    → IsWithin bounds object n
 
--- in no such world is the initial section, or a task behind it, about to act at one of the places
+-- in no such world is the initial section, or a task behind it, about to load, store, lock or unlock at one of the places
 abbrev pub ActsNowhere : LaidTree → List Place → Type 0
-ActsNowhere laid dead = (w : World) → IsReached laid w → (body : ℕ) → MayAct laid w body
-    → ActsAtSome (next_at laid w body) dead → ⊥
+ActsNowhere laid dead = (w : World) → IsReached laid w → (place : Place) → Contains dead place → (body : ℕ)
+    → MayAct laid w body → ActsAt (next_at laid w body) place → ⊥
 
 -- the bounds and the dead places of a least solution
 pub record FindsRanges (bytes : List ℕ) (bounds : List ObjectBounds) (dead : List Place) : Type 0 where
   pub solves : Solves bytes
   pub ranges : (let s = solves in let pair = s.pair in AreRanges s.program (tables_of pair.tables) pair.store bounds)
   pub places : (let s = solves in let pair = s.pair in AreDead s.program (tables_of pair.tables) dead)
-  pub within : (let s = solves in let a = s.accepted in StaysWithin a.laid bounds)
+  pub within : (let s = solves in let a = s.accepted in StaysWithin s.program a.laid bounds)
   pub nowhere : (let s = solves in let a = s.accepted in ActsNowhere a.laid dead)
 
 -- the line of an object: the place and the name of its first declaration, and its bounds

@@ -22,6 +22,15 @@ ReachesAt (Op.Lock mutex q) place = q ≡ place
 ReachesAt (Op.Unlock mutex q) place = q ≡ place
 ReachesAt operation place = ⊥
 
+-- Such an operation of a body stands at the place. Where no configured node is at the node that it leaves, it has no
+-- copy: it is listed all the same.
+pub record IsListedPlace (p : ProgramBodies) (place : Place) : Type 0 where
+  pub body : ℕ
+  pub within : body < length p.bodies
+  pub edge : Edge
+  pub among : (let b = body_at p body in Contains b.edges edge)
+  pub stands : ReachesAt edge.op place
+
 module _ (p : ProgramBodies) (tables : ℕ → NodeTable State) where
   -- a copy of such an operation of a body stands at the place, and leaves a node that has a state
   pub record IsReachedPlace (body : ℕ) (place : Place) : Type 0 where
@@ -30,18 +39,9 @@ module _ (p : ProgramBodies) (tables : ℕ → NodeTable State) where
     pub reached : IsReachedIn p tables body copy state
     pub stands : ReachesAt (operation_in p body copy) place
 
-  -- Such an operation of a body stands at the place. Where no configured node is at the node that it leaves, it has no
-  -- copy: it is listed all the same.
-  pub record IsListedPlace (place : Place) : Type 0 where
-    pub body : ℕ
-    pub within : body < length p.bodies
-    pub edge : Edge
-    pub among : (let b = body_at p body in Contains b.edges edge)
-    pub stands : ReachesAt edge.op place
-
-  -- and no copy of one leaves a node that has a state
+  -- such an operation of a body stands at the place, and no copy of one leaves a node that has a state
   pub record IsDead (place : Place) : Type 0 where
-    pub listed : IsListedPlace place
+    pub listed : IsListedPlace p place
     pub never : (body : ℕ) → IsReachedPlace body place → ⊥
 
   -- exactly the dead places, in order and without repeats

@@ -1,5 +1,5 @@
 -- The bounds of the numbers that the integer cells of an object hold.
-use Rattle.std.specs.Prelude.{◌≡◌, ◌↔◌, ℕ, ◌<◌, ℤ, ◌≤ℤ◌, true, List, [], ◌∷◌, length, slice_get, Contains, Some}
+use Rattle.std.specs.Prelude.{◌≡◌, ℕ, ◌<◌, ℤ, ◌≤ℤ◌, true, List, [], ◌∷◌, length, slice_get, Contains, Some}
 use Rattle.strided_dom.specs.Progression.{Has}
 use Rattle.tm_laid.specs.tm_typed.declared.types.Scalar.{Scalar}
 use Rattle.tm_laid.specs.tm_typed.declared.types.Scalar.TheVariants as Scalars
@@ -10,7 +10,7 @@ use Rattle.post_recheck.specs.transfer_rows.StateForms.{State, own_of}
 use Rattle.post_recheck.specs.transfer_rows.Contributions.{entry_at}
 use Rattle.post_recheck.specs.least_tables.Solutions.{NodeTable}
 use Rattle.post_recheck.specs.program_equations.Programs.{ProgramBodies}
-use Rattle.value_ranges.specs.declared.ranges.ObjectBounds.{ObjectBounds}
+use Rattle.value_ranges.specs.declared.object_bounds.ObjectBounds.{ObjectBounds}
 
 -- ## Cells
 
@@ -26,6 +26,20 @@ pub record IsIntegerCell (laid : LaidTree) (object x : ℕ) : Type 0 where
   pub integer : (let a = abstract_at laid x in IsInteger a.scalar)
   pub there : object < length laid.objects
   pub static : is_shared laid object ≡ true
+
+-- ## Lists
+
+-- each object comes before the next one
+abbrev pub AreRising : List ObjectBounds → Type 0
+AreRising [] = Unit {0}
+AreRising (b ∷ []) = Unit {0}
+AreRising (b ∷ c ∷ list) = (b.object < c.object) × AreRising (c ∷ list)
+
+-- the list has bounds of the object
+pub record IsListed (list : List ObjectBounds) (object : ℕ) : Type 0 where
+  pub bounds : ObjectBounds
+  pub has : Contains list bounds
+  pub of : bounds.object ≡ object
 
 module _ (p : ProgramBodies) (tables : ℕ → NodeTable State) (store : Interferences) where
   -- ## Numbers
@@ -54,15 +68,8 @@ module _ (p : ProgramBodies) (tables : ℕ → NodeTable State) (store : Interfe
     pub least : (n : ℤ) → IsNumberOf object n → low ≤ℤ n
     pub greatest : (n : ℤ) → IsNumberOf object n → n ≤ℤ high
 
-  -- ## Lists
-
-  -- each object comes before the next one
-  abbrev pub AreRising : List ObjectBounds → Type 0
-  AreRising [] = Unit {0}
-  AreRising (b ∷ []) = Unit {0}
-  AreRising (b ∷ c ∷ list) = (b.object < c.object) × AreRising (c ∷ list)
-
-  -- exactly the objects of which a number is told, each once with its bounds, in their order
+  -- each object of which a number is told, once, with its bounds, in their order
   pub record AreRanges (list : List ObjectBounds) : Type 0 where
     pub sorted : AreRising list
-    pub exact : (b : ObjectBounds) → Contains list b ↔ AreBounds b.object b.low b.high
+    pub each : (b : ObjectBounds) → Contains list b → AreBounds b.object b.low b.high
+    pub all : (object : ℕ) (n : ℤ) → IsNumberOf object n → IsListed list object

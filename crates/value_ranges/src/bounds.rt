@@ -1,65 +1,71 @@
 //! Bounds of objects that are widened number by number.
 ghost use Rattle.std.specs.Prelude.{◌≡◌, ◌⊎◌, ◌<◌, ◌≤ℤ◌, ℕ, length, IfOk};
 ghost use Rattle.strided_dom.specs.Progression.{Has};
-ghost use Rattle.value_ranges.specs.reading.Notes.{AreWidened, IsJoined, AreListed, IsNamed, noted_at};
+ghost use Rattle.value_ranges.specs.reading.Notes.{AreWidened, IsJoined, HasNoted, AreListed, IsNamed, noted_at};
 
-use crate::ranges::ObjectBounds;
+use crate::object_bounds::ObjectBounds;
 use std::alloc::Global;
 use strided_dom::Strided;
 use tm_lattice::NoMemory;
 
-// The lesser of two numbers.
-fn lesser(one: i128, other: i128) -> i128
-    ensures one { result ≤ℤ one }
-    ensures other { result ≤ℤ other }
-    ensures is { (result ≡ one) ⊎ (result ≡ other) }
+// The lesser of the least numbers of two bounds.
+fn least_of(one: ObjectBounds, other: ObjectBounds) -> i128
+    ensures one { result ≤ℤ one.low }
+    ensures other { result ≤ℤ other.low }
+    ensures is { (result ≡ one.low) ⊎ (result ≡ other.low) }
 {
-    if one < other { one } else { other }
+    if one.low < other.low {
+        one.low
+    } else {
+        other.low
+    }
 }
 
-// The greater of two numbers.
-fn greater(one: i128, other: i128) -> i128
-    ensures one { one ≤ℤ result }
-    ensures other { other ≤ℤ result }
-    ensures is { (result ≡ one) ⊎ (result ≡ other) }
+// The greater of the greatest numbers of two bounds.
+fn greatest_of(one: ObjectBounds, other: ObjectBounds) -> i128
+    ensures one { one.high ≤ℤ result }
+    ensures other { other.high ≤ℤ result }
+    ensures is { (result ≡ one.high) ⊎ (result ≡ other.high) }
 {
-    if one < other { other } else { one }
+    if one.high < other.high {
+        other.high
+    } else {
+        one.high
+    }
 }
 
-// What is noted of an object with these bounds.
-fn joined(old: Option<ObjectBounds>, object: u32, low: i128, high: i128) -> ObjectBounds
-    ensures { IsJoined old object low high result }
+// What is noted of an object, with further bounds of it.
+fn joined(old: Option<ObjectBounds>, more: ObjectBounds) -> ObjectBounds
+    ensures { IsJoined old more result }
 {
     match old {
-        None => ObjectBounds { object, low, high },
+        None => more,
         Some(bounds) => ObjectBounds {
-            object,
-            low: lesser(bounds.low, low),
-            high: greater(bounds.high, high),
+            object: more.object,
+            low: least_of(bounds, more),
+            high: greatest_of(bounds, more),
         },
     }
 }
 
-/// Notes a number of an object.
-pub(crate) fn note_number(noted: &mut Vec<Option<ObjectBounds>>, object: u32, number: i128)
-    requires { object < length noted.old.items }
-    ensures { AreWidened (λ o n. (object ≡ o) × (n ≡ number)) noted.old.items noted.new.items }
+/// Notes further bounds of an object.
+pub(crate) fn note(noted: &mut Vec<Option<ObjectBounds>>, more: ObjectBounds)
+    requires { more.object < length noted.old.items }
+    ensures { HasNoted more noted.old.items noted.new.items }
 {
-    noted[object as usize] = Some(joined(noted[object as usize], object, number, number));
+    let object = more.object as usize;
+    noted[object] = Some(joined(noted[object], more));
 }
 
 /// Notes the numbers of a set, of which the least and the greatest decide.
-pub(crate) fn note_numbers(
-    noted: &mut Vec<Option<ObjectBounds>>,
-    object: u32,
-    numbers: Strided,
-)
+pub(crate) fn note_numbers(noted: &mut Vec<Option<ObjectBounds>>, object: u32, numbers: Strided)
     requires { object < length noted.old.items }
     ensures { AreWidened (λ o n. (object ≡ o) × Has numbers n) noted.old.items noted.new.items }
 {
     if !numbers.is_empty() {
-        let (low, high) = (numbers.lo(), numbers.hi());
-        noted[object as usize] = Some(joined(noted[object as usize], object, low, high));
+        let low = numbers.lo();
+        let high = numbers.hi();
+        note(noted, ObjectBounds { object, low, high });
     }
 }
 

@@ -1,11 +1,12 @@
 //! Integer cells of objects of static storage, and what they hold before the program runs.
 ghost use Rattle.std.specs.Prelude.{◌≡◌, ◌<◌, ◌≤◌, ◌↔◌, ℕ, true, length, Some, IsTrue, IfOk};
+ghost use Rattle.tm_laid.specs.declared.objects.Initial.TheVariants as Initials;
 ghost use Rattle.tm_laid.specs.Layouts.{laid_tree, is_shared};
 ghost use Rattle.value_ranges.specs.Ranges.{IsInteger, IsIntegerCell};
-ghost use Rattle.value_ranges.specs.reading.Notes.{AreIntegerCells, AreWidened, IsFirst, IsFirstBelow};
+ghost use Rattle.value_ranges.specs.reading.Notes.{AreIntegerCells, AreWidened, IsFirst, IsFirstBelow, first_bounds};
 
-use crate::bounds::note_number;
-use crate::ranges::ObjectBounds;
+use crate::bounds::note;
+use crate::object_bounds::ObjectBounds;
 use std::alloc::Global;
 use tm_laid::{Initial, Laid, Scalar};
 use tm_lattice::NoMemory;
@@ -73,6 +74,31 @@ pub(crate) fn integer_cells(alloc: Global, laid: &Laid) -> Result<Vec<IntegerCel
     Ok(cells)
 }
 
+// The bounds of what a cell of an object holds before the program runs, if it is a number.
+fn first_bounds(object: u32, initial: Initial) -> Option<ObjectBounds>
+    ensures { result ≡ first_bounds object initial }
+{
+    match initial {
+        Initial::Number(number) => Some(ObjectBounds {
+            object,
+            low: number,
+            high: number,
+        }),
+        Initial::Null => None,
+        Initial::To { .. } => None,
+    }
+}
+
+// Notes what a cell of an object holds before the program runs, if it is a number.
+fn note_value(noted: &mut Vec<Option<ObjectBounds>>, object: u32, initial: Initial)
+    requires { object < length noted.old.items }
+    ensures { AreWidened (λ o n. (object ≡ o) × (initial ≡ Initials.Number n)) noted.old.items noted.new.items }
+{
+    if let Some(bounds) = first_bounds(object, initial) {
+        note(noted, bounds);
+    }
+}
+
 // Notes the number that a cell holds before the program runs, if it is an integer cell.
 fn note_first(laid: &Laid, cell: usize, noted: &mut Vec<Option<ObjectBounds>>)
     requires cell { cell < length laid.now.initial.items }
@@ -81,9 +107,7 @@ fn note_first(laid: &Laid, cell: usize, noted: &mut Vec<Option<ObjectBounds>>)
 {
     if cell < laid.cells.len() {
         if let Some(object) = object_of(laid, laid.cells[cell].abstract_cell as usize) {
-            if let Initial::Number(number) = laid.initial[cell] {
-                note_number(noted, object, number);
-            }
+            note_value(noted, object, laid.initial[cell]);
         }
     }
 }

@@ -7,8 +7,10 @@
 
 mod bounds;
 mod cells;
+mod finding;
 mod notes;
+mod object_bounds;
 mod places;
-mod ranges;
 
-pub use ranges::{ObjectBounds, Ranges, ranges};
+pub use finding::ranges;
+pub use object_bounds::{ObjectBounds, Ranges};

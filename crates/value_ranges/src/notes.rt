@@ -7,9 +7,9 @@ ghost use Rattle.post_recheck.specs.Pairs.{lists_of};
 ghost use Rattle.value_ranges.specs.reading.Notes.{AreWidened, AreOfObjects, AreNotedIn, IsInValues, IsInTable};
 ghost use Rattle.value_ranges.specs.reading.Notes.{IsInTables, IsInTableOf, IsInWritten, IsInWeak, noted_at};
 
-use crate::cells::{IntegerCell, integer_cells, note_initial};
 use crate::bounds::note_numbers;
-use crate::ranges::ObjectBounds;
+use crate::cells::{IntegerCell, integer_cells, note_initial};
+use crate::object_bounds::ObjectBounds;
 use cell_env::State;
 use interfere_set::Store;
 use pointer_dom::AbsValue;
@@ -19,17 +19,14 @@ use tm_laid::Laid;
 use tm_lattice::{Keyed, NoMemory};
 
 // Notes the own values of a state.
-fn note_state(
-    noted: &mut Vec<Option<ObjectBounds>>,
-    cells: &[IntegerCell],
-    state: &State<AbsValue>,
-)
+fn note_state(noted: &mut Vec<Option<ObjectBounds>>, cells: &[IntegerCell], state: &State<AbsValue>)
     requires { AreOfObjects cells.now (length noted.old.items) }
     ensures { AreWidened (λ o n. IsInValues cells.now (own_of state.now) o n) noted.old.items noted.new.items }
 {
     for index in 0..cells.len() {
-        if let Some(entry) = state.cell(cells[index].cell) {
-            note_numbers(noted, cells[index].object, entry.value.numbers());
+        let at = cells[index];
+        if let Some(entry) = state.cell(at.cell) {
+            note_numbers(noted, at.object, entry.value.numbers());
         }
     }
 }
@@ -51,11 +48,7 @@ fn note_table(
 }
 
 // Notes the tables of all bodies.
-fn note_tables(
-    noted: &mut Vec<Option<ObjectBounds>>,
-    cells: &[IntegerCell],
-    tables: &[Table],
-)
+fn note_tables(noted: &mut Vec<Option<ObjectBounds>>, cells: &[IntegerCell], tables: &[Table])
     requires { AreOfObjects cells.now (length noted.old.items) }
     ensures { AreWidened (λ o n. IsInTables cells.now (lists_of tables.now) (length tables.now) o n)
         noted.old.items noted.new.items }
@@ -66,17 +59,14 @@ fn note_tables(
 }
 
 // Notes what a task wrote with one set of mutexes held.
-fn note_held(
-    noted: &mut Vec<Option<ObjectBounds>>,
-    cells: &[IntegerCell],
-    held: &Keyed<AbsValue>,
-)
+fn note_held(noted: &mut Vec<Option<ObjectBounds>>, cells: &[IntegerCell], held: &Keyed<AbsValue>)
     requires { AreOfObjects cells.now (length noted.old.items) }
     ensures { AreWidened (λ o n. IsInTableOf cells.now held.now o n) noted.old.items noted.new.items }
 {
     for index in 0..cells.len() {
-        if let Some(value) = held.get(cells[index].cell) {
-            note_numbers(noted, cells[index].object, value.numbers());
+        let at = cells[index];
+        if let Some(value) = held.get(at.cell) {
+            note_numbers(noted, at.object, value.numbers());
         }
     }
 }

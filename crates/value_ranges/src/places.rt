@@ -73,8 +73,9 @@ fn push_copies(
         places.old.items places.new.items) }
 {
     for copy in 0..copies.len() {
-        if table[copies[copy].from as usize].is_some() {
-            push_place_of(places, edges[copies[copy].edge].op)?;
+        let at = copies[copy];
+        if table[at.from as usize].is_some() {
+            push_place_of(places, edges[at.edge].op)?;
         }
     }
     Ok(())
@@ -104,14 +105,15 @@ fn reached_in(
 }
 
 // Those places that are not among the others, in order.
-fn left_out(alloc: Global, places: &[Place], others: Vec<Place>) -> Result<Vec<Place>, NoMemory>
-    ensures { IfOk result (λ left. AreLeftOut places.now others.items left.items) }
+fn left_out(alloc: Global, places: &[Place], taken: Vec<Place>) -> Result<Vec<Place>, NoMemory>
+    ensures { IfOk result (λ left. AreLeftOut places.now taken.items left.items) }
 {
-    let others = in_order(others)?;
+    let others = in_order(taken)?;
     let mut left = Vec::new(alloc);
     for index in 0..places.len() {
-        if !has_place(&others, places[index]) {
-            push_place(&mut left, places[index])?;
+        let place = places[index];
+        if !has_place(&others, place) {
+            push_place(&mut left, place)?;
         }
     }
     in_order(left)

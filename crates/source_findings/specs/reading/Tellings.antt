@@ -10,7 +10,7 @@ use Rattle.program_solutions.specs.program_equations.Programs.{ProgramBodies}
 use Rattle.program_solutions.specs.program_equations.Solutions.{tables_of}
 use Rattle.program_solutions.specs.post_recheck.Pairs.{Pair}
 use Rattle.lock_waits.specs.Waits.{AreWaits}
-use Rattle.value_ranges.specs.declared.ranges.ObjectBounds.{ObjectBounds}
+use Rattle.value_ranges.specs.declared.object_bounds.ObjectBounds.{ObjectBounds}
 use Rattle.value_ranges.specs.Ranges.{AreRanges}
 use Rattle.value_ranges.specs.Places.{AreDead}
 use Rattle.program_streams.specs.declared.statuses.Status.{Status}

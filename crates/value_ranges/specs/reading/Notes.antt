@@ -1,17 +1,19 @@
 -- What the code notes of each object: the least and the greatest of the numbers that it has seen so far.
-use Rattle.std.specs.Prelude.{◌≡◌, ◌⊎◌, ◌↔◌, ℕ, ◌<◌, ℤ, ◌≤ℤ◌, List, [], length, get_or, slice_get, Contains, Option, Some, None}
+use Rattle.std.specs.Prelude.{◌≡◌, ◌⊎◌, ◌↔◌, ℕ, ◌<◌, ℤ, ◌≤ℤ◌, List, length, get_or, set, slice_get, Contains, Option}
+use Rattle.std.specs.Prelude.{Some, None}
 use Rattle.std.specs.FinMap as map
 use Rattle.std.specs.FinMap.{get, entries}
 use Rattle.tm_lattice.specs.Tables.{Table}
 use Rattle.strided_dom.specs.Progression.{Has}
 use Rattle.pointer_dom.specs.Values.{Values}
+use Rattle.tm_laid.specs.declared.objects.Initial.{Initial}
 use Rattle.tm_laid.specs.declared.objects.Initial.TheVariants as Initials
 use Rattle.tm_laid.specs.Layouts.{LaidTree, cell_at}
 use Rattle.interfere_set.specs.Stores.{Nested, value_or_none}
 use Rattle.post_recheck.specs.transfer_rows.StateForms.{State, own_of}
 use Rattle.post_recheck.specs.least_tables.Solutions.{at}
 use Rattle.post_recheck.specs.program_equations.Solutions.{table_at}
-use Rattle.value_ranges.specs.declared.ranges.ObjectBounds.{ObjectBounds}
+use Rattle.value_ranges.specs.declared.object_bounds.ObjectBounds.{ObjectBounds}
 use Rattle.value_ranges.specs.declared.cells.IntegerCell.{IntegerCell}
 use Rattle.value_ranges.specs.Ranges.{IsIntegerCell}
 
@@ -55,14 +57,20 @@ pub record AreWidened (P : ℕ → ℤ → Type 0) (old new : List Noted) : Type
   pub count : length new ≡ length old
   pub each : (object : ℕ) → IsWidened (P object) object (noted_at old object) (noted_at new object)
 
--- these bounds of an object are joined to what is noted of it
-pub record IsJoined (old : Noted) (object : ℕ) (low high : ℤ) (new : ObjectBounds) : Type 0 where
+-- further bounds of an object are joined to what is noted of it
+pub record IsJoined (old : Noted) (more new : ObjectBounds) : Type 0 where
   pub keeps : (n : ℤ) → IsIn old n → IsIn (Some new) n
-  pub from : new.low ≤ℤ low
-  pub to : high ≤ℤ new.high
-  pub low : IsLow old new.low ⊎ (new.low ≡ low)
-  pub high : IsHigh old new.high ⊎ (new.high ≡ high)
-  pub named : new.object ≡ object
+  pub from : new.low ≤ℤ more.low
+  pub to : more.high ≤ℤ new.high
+  pub low_is : IsLow old new.low ⊎ (new.low ≡ more.low)
+  pub high_is : IsHigh old new.high ⊎ (new.high ≡ more.high)
+  pub named : new.object ≡ more.object
+
+-- further bounds of an object are noted
+pub record HasNoted (more : ObjectBounds) (old new : List Noted) : Type 0 where
+  pub bounds : ObjectBounds
+  pub joined : IsJoined (noted_at old more.object) more bounds
+  pub is : new ≡ set old more.object (Some bounds)
 
 -- ## What is noted
 
@@ -75,6 +83,11 @@ abbrev pub AreIntegerCells : LaidTree → List IntegerCell → Type 0
 AreIntegerCells laid cells =
     (object x : ℕ) → Contains cells (record { cell = x; object = object }) ↔ IsIntegerCell laid object x
 
+-- those of the first abstract cells
+abbrev pub AreFirstCells : LaidTree → ℕ → List IntegerCell → Type 0
+AreFirstCells laid i cells = (object x : ℕ)
+    → Contains cells (record { cell = x; object = object }) ↔ (IsIntegerCell laid object x × (x < i))
+
 -- the object of each of them is one of the first
 abbrev pub AreOfObjects : List IntegerCell → ℕ → Type 0
 AreOfObjects cells count =
@@ -82,6 +95,12 @@ AreOfObjects cells count =
 
 abbrev pub no_integer_cell : IntegerCell
 no_integer_cell = record { cell = 0; object = 0 }
+
+-- the bounds of what a cell of an object holds at first, if it is a number
+abbrev pub first_bounds : ℕ → Initial → Noted
+first_bounds object (Initials.Number n) = Some (record { object = object; low = n; high = n })
+first_bounds object Initials.Null = None
+first_bounds object (Initials.To other offset) = None
 
 -- what a cell holds at first is a number of the object
 pub record IsFirst (laid : LaidTree) (cell object : ℕ) (n : ℤ) : Type 0 where

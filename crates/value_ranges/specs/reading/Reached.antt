@@ -1,7 +1,6 @@
 -- The places that the code finds in the bodies of a program.
-use Rattle.std.specs.Prelude.{◌≡◌, ◌⊎◌, ◌↔◌, ℕ, ◌<◌, ◌≤◌, List, [], length, map, get_or, Option, Some, None, Contains}
+use Rattle.std.specs.Prelude.{◌≡◌, ◌⊎◌, ◌↔◌, ℕ, ◌<◌, ◌≤◌, List, [], length, map, get_or, Option, Some, Contains}
 use Rattle.tm_terms.specs.declared.places.Place.{Place}
-use Rattle.flow_graph.specs.declared.graphs.Edge.{Edge}
 use Rattle.flow_graph.specs.declared.graphs.Graph.{Graph}
 use Rattle.flow_graph.specs.Graphs.{Edges}
 use Rattle.mutex_configs.specs.declared.nodes.ConfiguredGraph.{ConfiguredGraph}

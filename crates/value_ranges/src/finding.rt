@@ -9,31 +9,13 @@ ghost use Rattle.value_ranges.specs.Places.{AreDead};
 
 use crate::bounds::listed;
 use crate::notes::noted_in;
+use crate::object_bounds::Ranges;
 use crate::places::dead_places;
 use interfere_set::Store;
 use mutex_configs::Program;
 use post_recheck::{ProgramFacts, Table};
 use std::alloc::Global;
 use tm_lattice::NoMemory;
-use tm_terms::Place;
-
-/// The least and the greatest number that an integer cell of an object is told to hold.
-#[derive(Clone, Copy)]
-pub struct ObjectBounds {
-    /// The number of the object.
-    pub object: u32,
-    pub low: i128,
-    pub high: i128,
-}
-
-/// What tables and a store tell of a program's objects and places.
-#[derive(Drop)]
-pub struct Ranges {
-    /// The objects of static storage that have integer cells, in their order.
-    pub bounds: Vec<ObjectBounds>,
-    /// The places of loads, stores, locks and unlocks that no state leads to, in their order.
-    pub dead: Vec<Place>,
-}
 
 /// The bounds of each object of which the tables and the store tell a number: the least and the greatest of the numbers
 /// that its integer cells hold before the program runs, of their own values in the states of all nodes, and of their

@@ -1,0 +1,6 @@
+mod Widening
+mod Listing
+mod Noting
+mod Told
+mod Adding
+mod Dead

@@ -1,0 +1,7 @@
+use Rattle.post_recheck.specs.Pairs.{lists_of}
+use Rattle.value_ranges.specs.reading.Notes.{AreWidened, IsInTables}
+use Rattle.value_ranges.proofs.notes.note_tables.Given as goal
+
+abbrev pub invariant-loop-number : goal.invariant-loop-number
+invariant-loop-number l =
+    AreWidened (λ o n. IsInTables l.cells (lists_of l.tables) l.number o n) l.initial.noted.items l.noted.items
