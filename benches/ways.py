@@ -16,6 +16,7 @@ import functools
 import hashlib
 import os
 import re
+import signal
 import sys
 import time
 
@@ -107,4 +108,5 @@ def main():
 
 
 if __name__ == "__main__":
+    signal.signal(signal.SIGPIPE, signal.SIG_DFL)
     sys.exit(main())
