@@ -16,6 +16,7 @@ import functools
 import hashlib
 import os
 import re
+import signal
 import sys
 import time
 
@@ -55,12 +56,15 @@ def used_by(root, name, crates):
 
 
 def seconds_of(folder):
-    """What one reading of a crate's text takes, as the kit does it."""
-    began, made = time.process_time(), hashlib.sha256()
-    for file in files_of(folder):
-        with open(file, "rb") as it:
-            made.update(repr((file, it.read())).encode())
-    return time.process_time() - began
+    """What one reading of a crate's text takes, as the kit does it; the least of three, for a busy machine."""
+    found = []
+    for _ in range(3):
+        began, made = time.process_time(), hashlib.sha256()
+        for file in files_of(folder):
+            with open(file, "rb") as it:
+                made.update(repr((file, it.read())).encode())
+        found.append(time.process_time() - began)
+    return min(found)
 
 
 def main():
@@ -107,4 +111,5 @@ def main():
 
 
 if __name__ == "__main__":
+    signal.signal(signal.SIGPIPE, signal.SIG_DFL)
     sys.exit(main())
