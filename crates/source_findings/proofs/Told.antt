@@ -30,6 +30,7 @@ module _ (bytes : List ℕ) (p : ProgramBodies) (a : IsAccepted [] bytes p) (few
   is = accepted_is_program [] bytes p a
 
   waits_told : (status : Status) (text : List ℕ) → TellsWaitsOf p pair status text → TellsWaits bytes status text
+  unfolding solves
   waits_told status text t = record {
     places = t.places;
     finds = record {
@@ -44,6 +45,7 @@ module _ (bytes : List ℕ) (p : ProgramBodies) (a : IsAccepted [] bytes p) (few
 
   ranges_told : (status : Status) (text : List ℕ) → TellsRangesOf p bytes pair status text
       → TellsRanges bytes status text
+  unfolding solves
   ranges_told status text t =
       let of = a.is in
       let same : p.laid ≡ read_layout a.laid = of.laid in
