@@ -3,3 +3,4 @@
 pub mod Solved
 pub mod Sourced
 mod Told
+pub mod low
