@@ -71,6 +71,7 @@ status=0
 [ $way != dry ] || exit $status
 for name in "$@"; do
     edits=$(cd "crates/$name/planted" && ls | grep '\.edit$')
+    [ -n "$edits" ] || continue
     if [ $way = left ]; then
         for edit in $edits; do
             read -r _ _ day sum _ < <(grep "^$name $edit " "$rows" || echo)
