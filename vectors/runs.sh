@@ -3,7 +3,7 @@
 # values, for 32-bit x86 and with sums that wrap.
 set -eu
 cd "$(dirname "$0")"
-rows=../crates/run_tests/src/programs.rt
+rows=../crates/source_tests/src/run_programs.rt
 folder=$(mktemp -d)
 trap 'rm -rf "$folder"' EXIT
 

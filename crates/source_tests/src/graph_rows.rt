@@ -1,8 +1,8 @@
 //! Sources and the graphs of their bodies.
 
-use crate::pictures::graph_told;
-use crate::sources::lowered;
-use crate::tables::{FORMS, SOURCES};
+use crate::graph_pictures::graph_told;
+use crate::graph_tables::{FORMS, SOURCES};
+use crate::sources::running;
 use flow_graph::Graph;
 use std::alloc::Global;
 use std::process::Abort;
@@ -31,7 +31,7 @@ fn are_so(
     source: &str,
     graphs: &[(u32, &str)],
 ) -> Result<(), Fail> {
-    match lowered(alloc, source.as_bytes()) {
+    match running(alloc, source.as_bytes()) {
         Ok(lowered) => {
             assert_eq!(rt; lowered.graphs.graphs.len(), graphs.len());
             for (graph, (nodes, edges)) in lowered.graphs.graphs.iter().zip(graphs.iter()) {

@@ -1,6 +1,6 @@
 //! Graphs of the most nodes and of one more, and a chain of calls that is deep in calls and in expressions.
 
-use crate::sources::lowered;
+use crate::sources::running;
 use flow_graph::Graphs;
 use std::alloc::Global;
 use std::process::Abort;
@@ -19,7 +19,7 @@ fn nodes_told(alloc: Global, graphs: &Graphs) -> Result<String, Fail> {
 }
 
 fn answer_told(alloc: Global, source: &[u8]) -> Result<String, Fail> {
-    match lowered(alloc, source) {
+    match running(alloc, source) {
         Ok(lowered) => nodes_told(alloc, &lowered.graphs),
         Err(Refused::Refused(refusal)) => Ok(refusal_line(alloc, &refusal)?),
         Err(Refused::NoMemory) => Ok(String::from_str(alloc, "no memory")?),

@@ -3,7 +3,7 @@
 ghost use Rattle.concrete_worlds.specs.Lawful.{HasGraphs, HasWorlds};
 ghost use Rattle.concrete_worlds.specs.Running.{IsWorld};
 
-use crate::pictures::cells_told;
+use crate::run_pictures::cells_told;
 use crate::sources::{RunningProgram, running};
 use concrete_steps::{Choice, Stepped};
 use concrete_worlds::World;

@@ -1,6 +1,6 @@
 //! Small sources, and how many call paths, objects, cells and abstract cells they have.
 
-use crate::answers::answers;
+use crate::layout_answers::answers;
 use std::test::Fail;
 
 // A source, and what its layout has.

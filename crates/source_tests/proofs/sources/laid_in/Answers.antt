@@ -1,6 +1,6 @@
 use Rattle.tm_trees.specs.FileTrees.{file_tree}
-use Rattle.run_tests.proofs.Chain.{layable, laid_file, worlds}
-use Rattle.run_tests.proofs.sources.laid_in.Goals as goal
+use Rattle.source_tests.proofs.Chain.{layable, laid_file, worlds}
+use Rattle.source_tests.proofs.sources.laid_in.Goals as goal
 
 pub lay-requires : goal.lay-requires
 lay-requires c = record {

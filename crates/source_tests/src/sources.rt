@@ -80,22 +80,30 @@ fn lowered_in(alloc: Global, laid: Laid) -> Result<RunningProgram, Refused>
     }
 }
 
-/// The program of a source, or its refusal.
-pub fn running(alloc: Global, source: &[u8]) -> Result<RunningProgram, Refused>
-    ensures worlds { IfOk result (λ program. HasWorlds program.laid) }
-    ensures graphs { IfOk result (λ program. HasGraphs program.laid program.graphs.graphs.items) }
+/// The layout of a source, or its refusal.
+pub fn laid_out(alloc: Global, source: &[u8]) -> Result<Laid, Refused>
+    ensures worlds { IfOk result (λ laid. HasWorlds laid) }
+    ensures typed { IfOk result (λ laid. IsLaidFile (laid_tree laid)) }
 {
     if source.len() > 1_048_576 {
         return Err(Refused::NoMemory);
     }
     match lex(alloc, source) {
         Ok(tokens) => match parse(alloc, &tokens) {
-            Ok(file) => match laid_in(alloc, &file, main_in(source, &tokens)) {
-                Ok(laid) => lowered_in(alloc, laid),
-                Err(fail) => Err(fail),
-            },
+            Ok(file) => laid_in(alloc, &file, main_in(source, &tokens)),
             Err(fail) => Err(fail),
         },
+        Err(fail) => Err(fail),
+    }
+}
+
+/// The program of a source, or its refusal.
+pub fn running(alloc: Global, source: &[u8]) -> Result<RunningProgram, Refused>
+    ensures worlds { IfOk result (λ program. HasWorlds program.laid) }
+    ensures graphs { IfOk result (λ program. HasGraphs program.laid program.graphs.graphs.items) }
+{
+    match laid_out(alloc, source) {
+        Ok(laid) => lowered_in(alloc, laid),
         Err(fail) => Err(fail),
     }
 }

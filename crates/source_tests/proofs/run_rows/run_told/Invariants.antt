@@ -1,5 +1,5 @@
 use Rattle.concrete_worlds.specs.Running.{IsWorld}
-use Rattle.run_tests.proofs.rows.run_told.Given as goal
+use Rattle.source_tests.proofs.run_rows.run_told.Given as goal
 
 abbrev pub invariant-loop-word : goal.invariant-loop-word
 invariant-loop-word l = IsWorld l.world

@@ -1,6 +1,6 @@
 //! Sources at their limits and one above, and sources whose calls are many or deep.
 
-use crate::answers::answers;
+use crate::layout_answers::answers;
 use std::alloc::Global;
 use std::test::Fail;
 

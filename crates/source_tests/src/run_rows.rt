@@ -2,7 +2,7 @@
 ghost use Rattle.concrete_worlds.specs.Lawful.{HasGraphs, HasWorlds};
 ghost use Rattle.concrete_worlds.specs.Running.{IsWorld};
 
-use crate::pictures::world_told;
+use crate::run_pictures::world_told;
 use crate::sources::{RunningProgram, running};
 use concrete_steps::{Choice, Stepped};
 use concrete_worlds::World;
