@@ -16,3 +16,4 @@ pub mod Rings
 pub mod Contents
 pub mod Within
 pub mod Reached
+pub mod Listed

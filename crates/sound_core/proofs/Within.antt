@@ -60,7 +60,7 @@ module _ (p : ProgramBodies) (tables : List (List (Option State))) (store : Inte
       node_told body there.0 s there.1 has
   number_told object x n of (in_store task held has) = store_told task held has
 
-  shared : (object x : ℕ) → IsIntegerCell p.laid object x → IsShared p.laid x
+  pub shared : (object x : ℕ) → IsIntegerCell p.laid object x → IsShared p.laid x
   shared object x of = record {
     within = of.within;
     static = ap (λ o. (object_at p.laid o).owner) of.of ∙ owned_by_none (object_at p.laid object).owner of.static;

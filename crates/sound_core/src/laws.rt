@@ -20,7 +20,7 @@ ghost use Rattle.sound_tables.specs.Starting.{IsStartMemory};
 ghost use Rattle.sound_core.specs.Sound.{IsProgramFrom};
 ghost use Rattle.lock_waits.specs.Waits.{AreWaits};
 ghost use Rattle.value_ranges.specs.declared.object_bounds.ObjectBounds.{ObjectBounds};
-ghost use Rattle.value_ranges.specs.Ranges.{AreRanges};
+ghost use Rattle.value_ranges.specs.Ranges.{IsIntegerCell, IsListed, AreRanges};
 ghost use Rattle.value_ranges.specs.Places.{IsReachedPlace, AreDead};
 ghost use Rattle.sound_core.specs.Ranges.{HoldsNumber, IsWithin};
 ghost use Rattle.sound_core.specs.Places.{ActsAt, MayAct};
@@ -101,6 +101,14 @@ pub fn numbers_are_within()
         → length laid.objects ≤ 2 ^ 32 → (tables : List (List (Option State))) (store : Interferences)
         → IsPair p tables store → (list : List ObjectBounds) → AreRanges p (tables_of tables) store list → (w : World)
         → IsReached laid w → (object cell : ℕ) (n : ℤ) → HoldsNumber p w object cell n → IsWithin list object n }
+{}
+
+/// Each object of static storage that has an integer cell is listed with its bounds, of every solution.
+pub fn objects_are_listed()
+    ensures { (laid : LaidTree) (p : ProgramBodies) → IsProgramFrom laid p → (is : IsProgram p)
+        → length laid.objects ≤ 2 ^ 32 → (tables : List (List (Option State))) (store : Interferences)
+        → IsPair p tables store → (list : List ObjectBounds) → AreRanges p (tables_of tables) store list
+        → (object x : ℕ) → IsIntegerCell p.laid object x → IsListed list object }
 {}
 
 /// Where the initial section, or a task after it, is about to read, write, lock or unlock in a world that a run

@@ -14,6 +14,6 @@ mod laws;
 
 pub use laws::{
     circles_are_requested, contents_are_told, errors_are_alarms, foundations_are_kept,
-    none_listed_no_ring, numbers_are_within, places_are_reached, rings_are_listed,
-    worlds_are_known,
+    none_listed_no_ring, numbers_are_within, objects_are_listed, places_are_reached,
+    rings_are_listed, worlds_are_known,
 };
