@@ -3,10 +3,10 @@
 
     benches/tested.py [--reads] [NAME..]
 
-Each of these bodies is proved: it gives up for want of memory, of which no clause says when it comes, or it tells a gate
-or leaves work to other workers in a way of which no clause speaks. An edit is as those of must-fail/, but begins with a
-line `tests: NAME..`: the crates of which each has a test that refuses it. So the crate itself has to be proved with the
-edit, and the tests of these crates have to be proved and to fail. --reads only looks whether each edit fits its file.
+Each of these bodies is proved: it gives up for want of memory, of which no clause says when it comes, or it tells a
+gate or leaves work to other workers in a way of which no clause speaks. An edit is as those of must-fail/, but begins
+with a line `tests: NAME..`: the crates of which each has a test that refuses it. So the crate itself has to be proved
+with the edit, and the tests of these crates have to be proved and to fail. --reads only looks whether each edit fits.
 
 It works on a copy of the repository, one for each edit, and leaves this one as it is. What is proved is kept by
 `tools/prove.py`, yet all crates from the edited one up to the tests are proved anew for each edit: minutes for

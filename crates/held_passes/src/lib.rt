@@ -1,10 +1,10 @@
-//! A gate for tests of workers beside each other: it holds the first passes until so many have begun, and counts passes.
-//! What a pass is it does not know; one that tells the gate of itself is compared with what the workers say of it. No
-//! clause says what its counts hold, since other threads may change them.
+//! A gate for tests of workers beside each other: it holds the first passes until so many have begun, and counts
+//! passes. What a pass is it does not know; one that tells the gate of itself is compared with what the workers say of
+//! it. No clause says what its counts hold, since other threads may change them.
 //!
 //! Two workers that pass two tasks tell it of four passes or more, and before the first of them ends two have begun. A
-//! worker that says that a pass begins when it is over is found out at the first one, since a pass computed and none had
-//! begun.
+//! worker that says that a pass begins when it is over is found out at the first one, since a pass computed and none
+//! had begun.
 #![tactic(auto)]
 
 use std::sync::atomic::{AtomicU64, Ordering};

@@ -1,5 +1,6 @@
-//! Sources and answers at size. Want of memory is the one answer without a cause, so no clause refuses a body that gives
-//! up on what is large: only a call that has to come to its answer does. Each text is told by how its source is made.
+//! Sources and answers at size. Want of memory is the one answer without a cause, so no clause refuses a body that
+//! gives up on what is large: only a call that has to come to its answer does. Each text is told by how its source is
+//! made.
 
 use crate::alone::{expect_alone, owned};
 use crate::gates::lines_with;
