@@ -3,8 +3,8 @@
 #
 # The example of two files and a header is compiled and run by gcc and clang, unchanged, and analysed: its alarms stand
 # at the lines of its files, also through a link, from another folder, and under names with blanks, quotes and
-# backslashes. Each example has the report that stands beside it. The logs of all examples are checked, and have the
-# places of the lines.
+# backslashes. Each example has the report that stands beside it, and the circular waits and ranges, which
+# benches/answers.sh writes. The logs of all examples are checked, and have the places of the lines.
 set -eu
 here=$(cd "$(dirname "$0")" && pwd)
 top=${here%/*}
@@ -65,7 +65,32 @@ unset CC
 for source in "$top"/examples/*.c; do
     same "$(cat "${source%.c}.report")" "$(told "$top/analyse" --plain --preprocessed "$source" | sed '$d')" \
         "the report of ${source##*/}"
+    for command in waits ranges; do
+        same "$(cat "${source%.c}.$command")" \
+            "$(told "$top/analyse" --plain --preprocessed "--$command" "$source" | sed '$d')" \
+            "the $command of ${source##*/}"
+    done
 done
+
+# Circular waits, ranges and dead places are shown in their files: each object stands in the line that is told.
+printf '# 7 "a b.h"\n__mutex m;__mutex n;\n%s\n%s\n' \
+    '__task(1) void a(void){__lock(m);__lock(n);__unlock(n);__unlock(m);}' \
+    '__task(1) void b(void){__lock(n);__lock(m);__unlock(m);__unlock(n);}' >"$work/waits.c"
+same $'a b.h:8:34 WAIT\na b.h:9:34 WAIT\nwaits 2\nstatus 1' \
+    "$(told "$top/analyse" --preprocessed --waits "$work/waits.c" | sed 's/: WAIT: tasks may .*/ WAIT/')" \
+    "circular waits"
+printf '# 7 "a b.h"\nint x;int y;\n__task(1) void t(void){x=__input(0,9);if(x>20)y=1;}\n' >"$work/ranges.c"
+wanted=$'a b.h:7:5: x is from 0 to 9\na b.h:7:11: y is from 0 to 0\na b.h:8:48: DEAD: no run reaches this\ndead 1'
+same "$wanted"$'\nstatus 0' "$(told "$top/analyse" --preprocessed --ranges "$work/ranges.c")" "ranges and a dead place"
+same $'waits 0\nstatus 0' "$(told "$top/analyse" --preprocessed --waits "$work/ranges.c")" "no circular wait"
+cd "$top/examples/project"
+told "$top/analyse" --ranges project.c >"$work/ranges"
+tail -n 1 "$work/ranges" | grep -q '^status 0$'
+sed -n 's/^\([^:]*\):\([0-9]*\):[0-9]*: \([A-Za-z_0-9]*\) is from .*/\1 \2 \3/p' "$work/ranges" >"$work/names"
+[ -s "$work/names" ]
+while read -r file line name; do
+    same "$name" "$(sed -n "${line}p" "$file" | grep -ow "$name" | head -n 1)" "the place of $name in $file"
+done <"$work/names"
 
 # The logs and summaries of the examples: each log has the places and classes of the lines.
 for source in "$top"/examples/*.c "$top/examples/project/project.c"; do
@@ -87,6 +112,10 @@ done
 printf '# 7 "a b.h"\nint\n=;\n' >"$work/refused.c"
 same $'a b.h:8:1: refused Syntax\nstatus 2' "$(told "$top/analyse" --preprocessed "$work/refused.c")" "a refusal"
 grep -q '^analyse: Syntax: ' "$work/err" && echo "its meaning is told"
+for command in waits ranges; do
+    same $'a b.h:8:1: refused Syntax\nstatus 2' \
+        "$(told "$top/analyse" --preprocessed "--$command" "$work/refused.c")" "a refusal of $command"
+done
 printf '# 99999999999 "a.h"\nint n;\n' >"$work/broken.c"
 same "status 10" "$(told "$top/analyse" --preprocessed "$work/broken.c")" "a broken mark"
 printf 'int n;\n__task(1) void t(void) { n = 1 / n; }\n' >"$work/"$'n\xff.c'
@@ -106,6 +135,17 @@ same $'a b.h:8:1: refused Syntax\nalarms 0\nstatus 2' \
 same $'alarms 0\nalarms 0\nstatus 0' \
     "$(told "$top/analyse" "$work/none.c" "$work/none.c" --workers 2 17)" "a file twice"
 same $'alarms 0\nstatus 9' "$(told "$top/analyse" "$work/error.c" "$work/none.c")" "a file behind one that fails"
+
+# A byte 13 with no byte 10 behind it is told of, and others are not. What a pipe gives beyond the limit is not lost.
+printf '# 7 "a.h"\nint n;\r\nint k; // a\rint l;\n' >"$work/return.c"
+same $'alarms 0\nstatus 0' "$(told "$top/analyse" --preprocessed "$work/return.c")" "a byte 13"
+grep -q '^analyse: a.h:8:1: a byte 13 stands in this line' "$work/err"
+printf 'int n;\r\n__task(1) void t(void) { n = 1; }\r\n' >"$work/returns.c"
+same $'alarms 0\nstatus 0' "$(told "$top/analyse" "$work/returns.c")" "bytes 13 and 10"
+if grep 'a byte 13' "$work/err"; then exit 1; fi
+{ printf '#define N n\nint N;\n' && head -c 1048576 /dev/zero | tr '\0' '\n'; } >"$work/long.c"
+same $'alarms 0\nstatus 0' "$(told "$top/analyse" "$work/long.c")" "a long file that is short behind the preprocessor"
+same $'refused Limit source 1048576\nstatus 2' "$(told "$top/analyse" /dev/stdin < <(cat "$work/long.c"))" "a long pipe"
 
 # What does not run, where a look at the words is sure of it, and nothing where it is not.
 printf '# 7 "a.h"\nint n;\n__task(9) void isr(void) { n = 1; }\n__task(1) void loop(void) { while (1) __yield(); }\n' \
@@ -133,4 +173,9 @@ grep -q 'stands before FILE' "$work/err"
 same "status 3" "$(told "$top/analyse" "$work/refused.c" 17 "$work/error.c")" "a file behind the words"
 grep -q 'stands before 17' "$work/err"
 same "status 3" "$(told "$top/analyse" --sarif "$work/refused.c" --json)" "two forms"
+same "status 3" "$(told "$top/analyse" --waits --ranges "$work/refused.c")" "two answers"
+same "status 3" "$(told "$top/analyse" --sarif --ranges "$work/refused.c")" "a log of ranges"
+for word in --json --history --workers=2 17; do
+    same "status 3" "$(told "$top/analyse" --waits "$work/refused.c" "$word")" "waits with $word"
+done
 echo "all as wanted"
