@@ -5,6 +5,7 @@
 
 use analyser::{Status, analyse, analyse_alone, asks_workers};
 use std::env;
+use std::io::ErrorKind;
 use std::process::ExitCode;
 use tm_io::{OpenGate, StdSink, StdSource};
 use tm_lattice::NoMemory;
@@ -12,9 +13,18 @@ use tm_lattice::NoMemory;
 /// The status where the system does not give the program its words.
 const NO_WORDS: u8 = 7;
 
+/// The status where the words cannot be had for this reason: memory may run out while they are copied.
+fn status_without_words(reason: ErrorKind) -> u8 {
+    match reason {
+        ErrorKind::OutOfMemory => Status::NoMemory.number(),
+        _ => NO_WORDS,
+    }
+}
+
 fn main(rt: HostRuntime) -> ExitCode {
-    let Ok(mut words) = env::args(&rt) else {
-        return ExitCode::from(NO_WORDS);
+    let mut words = match env::args(&rt) {
+        Ok(words) => words,
+        Err(error) => return ExitCode::from(status_without_words(error.kind())),
     };
     let _program = words.next();
     let alloc = rt.alloc();

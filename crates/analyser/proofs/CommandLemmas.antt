@@ -1,6 +1,5 @@
 -- From the answer of a command to the answer to words.
-use Rattle.std.proofs.Common.{◌≡◌, ℕ, List, [], ◌++◌, refl, sym, ◌∙◌, subst, inl, inr}
-use Rattle.std.specs.Io.KnownBytes.{append_known}
+use Rattle.std.proofs.Common.{◌≡◌, ℕ, List, [], refl, sym, ◌∙◌, subst, inl, inr}
 use Rattle.std.specs.Prelude.{◌⊎◌, Option, Some, None}
 use Rattle.cmd_words.specs.declared.commands.AnalyseWords.{AnalyseWords}
 use Rattle.cmd_words.specs.declared.commands.Command.{Command}
@@ -27,7 +26,7 @@ use Rattle.source_findings.specs.declared.findings.Finding.{Finding}
 use Rattle.source_findings.specs.declared.findings.Finding.TheVariants as Findings
 use Rattle.source_findings.proofs.Solved.{solved_by}
 use Rattle.analyser.specs.Statuses.{IsReported, IsSinkStop, IsStop, IsWhole}
-use Rattle.analyser.specs.reading.Streams.{Says, SaysFront, SaysNoMore}
+use Rattle.analyser.specs.reading.Streams.{Says, SaysNoMore}
 
 -- ## Another set of answers
 

@@ -1,5 +1,5 @@
 -- From the answer to words that begin with `analyse` to what it promises of the runs of the source.
-use Rattle.std.proofs.Common.{◌≡◌, ℕ, List, [], ◌∷◌, ◌++◌, Bool, true, false, refl, sym, subst, ap, inl, inr}
+use Rattle.std.proofs.Common.{◌≡◌, ℕ, List, [], ◌∷◌, ◌++◌, Bool, true, false, refl, sym, subst, inl, inr}
 use Rattle.std.specs.Prelude.{◌⊎◌, ◌&&◌, nat_le, Option, Some, None, option_map, option_and_then, codes, String, string_bytes}
 use Rattle.std.specs.declared.alloc.Global.{Global as Heap}
 use Rattle.std.proofs.lemmas.Bool.{cond_both}
@@ -14,7 +14,7 @@ use Rattle.tm_terms.specs.declared.alarms.Alarm.{Alarm}
 use Rattle.tm_terms.specs.Texts.{report_text}
 use Rattle.program_streams.specs.declared.statuses.Status.{Status}
 use Rattle.program_streams.specs.declared.statuses.Status.TheVariants.{NoAlarm, Alarms, Refused, Usage, ReadFault, WriteFault, NoMemory}
-use Rattle.analyser.specs.Answers.{CommandGives, HasAnswer, MayGive, WritesReport, report_lines}
+use Rattle.analyser.specs.Answers.{CommandGives, MayGive, WritesReport, report_lines}
 use Rattle.analyser.specs.Soundness.{AsksForReport, IsSound}
 use Rattle.analyser.specs.Statuses.{IsReported, IsWhole}
 use Rattle.analyser.specs.Taken.{Answers}

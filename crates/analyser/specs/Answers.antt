@@ -1,6 +1,6 @@
 -- What the program answers: which texts these words and bytes may give, with which status.
 use Rattle.std.specs.Prelude.{◌≡◌, ℕ, ◌<◌, ◌⊎◌, Bool, true, false, List, [], ◌∷◌, ◌++◌, length, Option, Some, None}
-use Rattle.std.specs.Prelude.{IfSome, Contains, nat_lt, ◌||◌}
+use Rattle.std.specs.Prelude.{IfSome, nat_lt, ◌||◌}
 use Rattle.std.specs.Io.KnownBytes.{IsAtEnd}
 use Rattle.source_findings.specs.Findings.{HasFinding}
 use Rattle.analyser.specs.Soundness.{ListsAll}
@@ -8,7 +8,6 @@ use Rattle.source_findings.specs.declared.findings.Finding.TheVariants as Findin
 use Rattle.cmd_words.specs.declared.commands.AnalyseWords.{AnalyseWords}
 use Rattle.cmd_words.specs.declared.commands.Command.{Command}
 use Rattle.cmd_words.specs.declared.commands.Command.TheVariants.{Analyse, Replay, Generate, Demo, Waits, Ranges}
-use Rattle.cmd_words.specs.declared.commands.DemoWords.{DemoWords}
 use Rattle.cmd_words.specs.Words.{command_of}
 use Rattle.report_json.specs.JsonReports.{json_text}
 use Rattle.store_core.specs.Histories.{Past}
@@ -16,13 +15,10 @@ use Rattle.history_lines.specs.HistoryTexts.{history_text}
 use Rattle.big_source.specs.GeneratedSources.{source_text, summary_text}
 use Rattle.concrete_steps.specs.declared.worlds.Choice.{Choice}
 use Rattle.replay_lines.specs.Choices.{asked_of}
-use Rattle.tm_terms.specs.tm_cint.declared.Class.{Class}
 use Rattle.tm_terms.specs.declared.alarms.Alarm.{Alarm}
-use Rattle.tm_terms.specs.declared.places.Place.{Place}
 use Rattle.tm_terms.specs.declared.refusals.Refusal.{Refusal}
 use Rattle.tm_terms.specs.Texts.{report_text, refusal_text, usage_text}
 use Rattle.worker_solutions.specs.tm_laid.Layouts.{LaidTree}
-use Rattle.concrete_steps.specs.Occurring.{Occurs}
 use Rattle.worker_solutions.specs.program_equations.Programs.{ProgramBodies}
 use Rattle.interfere_set.specs.Stores.{Interferences}
 use Rattle.worker_solutions.specs.QuietHistories.{IsQuietHistory}

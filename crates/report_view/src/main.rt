@@ -13,11 +13,20 @@ use crate::words::{Asked, read_words};
 use program_streams::Status;
 use std::env;
 use std::fs::File;
+use std::io::ErrorKind;
 use std::process::ExitCode;
 use tm_io::{StdSink, StdSource};
 
 /// The status where the system does not give the program its words.
 const NO_WORDS: u8 = 7;
+
+/// The status where the words cannot be had for this reason: memory may run out while they are copied.
+fn status_without_words(reason: ErrorKind) -> u8 {
+    match reason {
+        ErrorKind::OutOfMemory => Status::NoMemory.number(),
+        _ => NO_WORDS,
+    }
+}
 
 /// The line that says how the program is used.
 const USAGE: &str = "usage: report_view --lines|--sarif|--summary TEXT NAME < REPORT";
@@ -48,8 +57,9 @@ fn run(rt: &HostRuntime, words: &[String]) -> Status {
 }
 
 fn main(rt: HostRuntime) -> ExitCode {
-    let Ok(mut words) = env::args(&rt) else {
-        return ExitCode::from(NO_WORDS);
+    let mut words = match env::args(&rt) {
+        Ok(words) => words,
+        Err(error) => return ExitCode::from(status_without_words(error.kind())),
     };
     let _program = words.next();
     let Ok(words) = words.collect::<Vec<String>>(rt.alloc()) else {

@@ -60,19 +60,19 @@ returns-in-Some-Waits-clause-read g c e =
 pub returns-in-Some-Ranges-clause-headline : goal.returns-in-Some-Ranges-clause-headline
 returns-in-Some-Ranges-clause-headline g c h =
     more_answers (HasFinding Findings.Ranges) (CommandGives c.args.command) (answer_of_ranges c.args.command (c.in-Some-Ranges.is ∙ ap Some c.in-Some-Ranges.field-0-is)) _ _ _
-    c.solve_source.result (c.solve_source.ensures.whole h)
+    c.solve_source-in-Some-Ranges.result (c.solve_source-in-Some-Ranges.ensures.whole h)
 
 pub returns-in-Some-Ranges-clause-front : goal.returns-in-Some-Ranges-clause-front
 returns-in-Some-Ranges-clause-front g c =
     more_takes (HasFinding Findings.Ranges) (CommandGives c.args.command) (answer_of_ranges c.args.command (c.in-Some-Ranges.is ∙ ap Some c.in-Some-Ranges.field-0-is)) _ _ _
-    c.solve_source.ensures.front
+    c.solve_source-in-Some-Ranges.ensures.front
 
 pub returns-in-Some-Ranges-clause-unread : goal.returns-in-Some-Ranges-clause-unread
 returns-in-Some-Ranges-clause-unread g c none = absurd (none (reads_ranges c.args.command (c.in-Some-Ranges.is ∙ ap Some c.in-Some-Ranges.field-0-is)))
 
 pub returns-in-Some-Ranges-clause-read : goal.returns-in-Some-Ranges-clause-read
 returns-in-Some-Ranges-clause-read g c e =
-    let fault = c.solve_source.ensures.read e in
+    let fault = c.solve_source-in-Some-Ranges.ensures.read e in
     (reads_ranges c.args.command (c.in-Some-Ranges.is ∙ ap Some c.in-Some-Ranges.field-0-is), fault.0, fault.1)
 
 pub returns-in-Some-Generate-clause-headline : goal.returns-in-Some-Generate-clause-headline

@@ -1,7 +1,6 @@
-use Rattle.std.proofs.Common.{◌≡◌, ◌∙◌, ap, subst, sym, false, List, ℕ, []}
+use Rattle.std.proofs.Common.{◌≡◌, ◌∙◌, ap, subst, false, List, ℕ, []}
 use Rattle.std.specs.Prelude.{string_bytes}
 use Rattle.big_source.specs.GeneratedSources.{source_text, summary_text}
-use Rattle.analyser.specs.Answers.{HasSummary}
 use Rattle.analyser.specs.reading.Replies.{IsFound}
 use Rattle.analyser.proofs.AnswerLemmas.{if_ok_both, report_summarised, refusal_summarised}
 use Rattle.analyser.proofs.replies.summarised.Goals as goal
