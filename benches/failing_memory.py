@@ -4,11 +4,10 @@
     benches/failing_memory.py [--most N] [--jobs N] [--view REPORT_VIEW] PROGRAM [WORD..]
 
 PROGRAM is the built analyser, and REPORT_VIEW the built program that shows reports. Each answer has to be status 6 with
-nothing written, or the whole answer, that of a run in which no allocation fails; or status 7 with nothing written,
-where memory runs out while the words are copied. A line tells for each command and source how many allocations it
-makes, in how many runs it had its whole answer, and in how many one of the others; each answer that is none of these
-has a line of its own, and then the exit status is 1. With WORDs only the commands with one of these first words are
-run.
+nothing written, or the whole answer, that of a run in which no allocation fails. A line tells for each command and
+source how many allocations it makes, in how many runs it had its whole answer, and in how many it gave up; each answer
+that is none of both has a line of its own, and then the exit status is 1. With WORDs only the commands with one of these
+first words are run.
 
 Where a command makes more than N allocations, 100 if no number is given, only so many of them fail, the first and the
 last ones and others evenly between; --most 0 has each of them fail, which takes days for the larger examples. --jobs N
@@ -27,7 +26,7 @@ import subprocess
 import sys
 import tempfile
 
-NO_MEMORY, NO_WORDS = 6, 7
+NO_MEMORY = 6
 # how many of the first and of the last allocations always fail
 ENDS = 20
 # seconds after which a run counts as one that does not end
@@ -130,7 +129,7 @@ class Trials:
             print(f"{title}: status {whole[0]} with {count} allocations, without any that fails")
             return False
         asked = [(n, onwards) for n in chosen(count, most) for onwards in (False, True)]
-        wholes = refused = wordless = 0
+        wholes = refused = 0
         good = True
         with concurrent.futures.ThreadPoolExecutor(self.jobs) as pool:
             answers = pool.map(lambda one: self.run(words, source, *one)[0], asked)
@@ -139,14 +138,11 @@ class Trials:
                     wholes += 1
                 elif answer == (NO_MEMORY, b""):
                     refused += 1
-                elif answer == (NO_WORDS, b""):
-                    wordless += 1
                 else:
                     good = False
                     how = "from allocation" if onwards else "at allocation"
                     print(f"{title}: {how} {n} status {answer[0]}, and {len(answer[1])} bytes of {len(whole[1])}")
-        print(f"{title}: {count} allocations, {len(asked)} runs, {wholes} whole, {refused} of status 6,"
-              f" {wordless} of status 7", flush=True)
+        print(f"{title}: {count} allocations, {len(asked)} runs, {wholes} whole, {refused} of status 6", flush=True)
         return good
 
 
