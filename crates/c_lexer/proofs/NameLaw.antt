@@ -7,7 +7,7 @@ use Rattle.std.proofs.lemmas.List.{length-take}
 use Rattle.std.specs.Bool.{Decides}
 use Rattle.std.proofs.lemmas.Slice.Eq.{bytes_eq-Decides}
 use Rattle.tm_terms.specs.Lexis.{is_name_start, is_name_byte, is_number_byte, behind, front, gap, token, word_of, word_or_name, word_piece, constant_of, number_piece, char_value, quoted, character_in, character, is_skipped_word, skipped_line, comment_end, comment, line_comment, longest_sign, sign_of, begins}
-use Rattle.tm_terms.specs.Splices.{is_blank, is_in_line, is_blank_in_line, is_spliced, leaves_open}
+use Rattle.tm_terms.specs.Splices.{is_blank, is_in_line, is_blank_in_line, is_other_line, leaves_open}
 use Rattle.tm_terms.specs.Spelling.{Reading, at_start, read_past, next_reading, reading, token_of, start_of, noted_at, text_of, noted, told, with_first_names, IsNameAmong, Spells}
 use Rattle.tm_terms.specs.declared.tokens.Name.{Name}
 use Rattle.tm_terms.specs.declared.tokens.Piece.{Piece}
@@ -83,12 +83,12 @@ skipped_named : (at : ℕ) (text : List ℕ) → NamedPiece at text (skipped_lin
 unfolding skipped_line
 skipped_named at text =
     let P = NamedPiece at text in
-    let goes_on = is_spliced text || leaves_open (front is_in_line text) in
+    let goes_on = is_other_line text || leaves_open (front is_in_line text) in
     let line = gap (prefix_len is_in_line text) in
     either P (is_skipped_word (front is_name_byte (behind is_blank_in_line (drop 1 text)))) (cond goes_on None line) None (either P goes_on None line tt tt) tt
 
 line_comment_named : (at : ℕ) (text : List ℕ) → NamedPiece at text (line_comment text)
-line_comment_named at text = either (NamedPiece at text) (is_spliced text) None (gap (prefix_len is_in_line text)) tt tt
+line_comment_named at text = either (NamedPiece at text) (is_other_line text) None (gap (prefix_len is_in_line text)) tt tt
 
 comment_named : (at : ℕ) (text : List ℕ) → NamedPiece at text (comment text)
 unfolding comment

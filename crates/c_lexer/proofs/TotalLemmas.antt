@@ -8,7 +8,7 @@ use Rattle.std.proofs.lemmas.Bool.{cases_lt, eqb-true}
 use Rattle.std.proofs.lemmas.List.{get_or_past, length-drop}
 use Rattle.std.proofs.lemmas.List.Sums.{prefix_len-le-length}
 use Rattle.tm_terms.specs.Lexis.{behind, token, char_value, is_name_start, is_name_byte, is_number_byte, gap, word_piece, constant_of, front, number_piece, quoted, character_in, character, comment_end, comment, line_comment, is_skipped_word, skipped_line, long_signs, double_signs, sign_in, longest_sign, sign_of, begins}
-use Rattle.tm_terms.specs.Splices.{is_blank, is_in_line, is_blank_in_line, is_spliced, is_spliced_slash, leaves_open}
+use Rattle.tm_terms.specs.Splices.{is_blank, is_in_line, is_blank_in_line, is_other_line, is_spliced_slash, leaves_open}
 use Rattle.tm_terms.specs.Spelling.{Reading, at_start, read_past, next_reading, reading, with_first_names, Lexes, stops, spells, lexical, checked}
 use Rattle.tm_terms.specs.declared.refusals.Refusal.{Refusal}
 use Rattle.tm_terms.specs.declared.tokens.Piece.{Piece}
@@ -82,12 +82,12 @@ line_fits : (text : List ℕ) (b : ℕ) → 0 < length text → eqb (get_or text
 line_fits text b some h line = run_fits is_in_line text some (in_line (get_or text 0 0) b h line)
 
 line_comment_fits : (text : List ℕ) → 0 < length text → eqb (get_or text 0 0) 47 ≡ true → Fits text (line_comment text)
-line_comment_fits text some h = either text (is_spliced text) None (gap (prefix_len is_in_line text)) (λ _. tt) (λ _. line_fits text 47 some h refl)
+line_comment_fits text some h = either text (is_other_line text) None (gap (prefix_len is_in_line text)) (λ _. tt) (λ _. line_fits text 47 some h refl)
 
 skipped_fits : (text : List ℕ) → 0 < length text → eqb (get_or text 0 0) 35 ≡ true → Fits text (skipped_line text)
 unfolding skipped_line
 skipped_fits text some h =
-    let goes_on = is_spliced text || leaves_open (front is_in_line text) in
+    let goes_on = is_other_line text || leaves_open (front is_in_line text) in
     let line = gap (prefix_len is_in_line text) in
     either text (is_skipped_word (front is_name_byte (behind is_blank_in_line (drop 1 text)))) (cond goes_on None line) None
     (λ _. either text goes_on None line (λ _. tt) (λ _. line_fits text 35 some h refl)) (λ _. tt)

@@ -4,7 +4,7 @@ ghost use Rattle.std.specs.Char.{is_ascii_digit};
 ghost use Rattle.tm_terms.specs.Lexis.{comment, comment_end, is_skipped_word, line_comment, skipped_line};
 
 use crate::runs::{Run, behind, byte_at, front, run_length};
-use crate::splices::{is_spliced, is_spliced_slash, leaves_open};
+use crate::splices::{is_other_line, is_spliced_slash, leaves_open};
 use tm_terms::Piece;
 
 // A gap of so many bytes.
@@ -48,13 +48,13 @@ pub fn comment(text: &[u8]) -> Option<Piece>
     Some(gap(end))
 }
 
-/// The comment that `//` begins, if no splice joins the next line to it.
+/// The comment that `//` begins, if it ends for a compiler where this line does.
 pub fn line_comment(text: &[u8]) -> Option<Piece>
     ensures value { result ≡ line_comment text.now }
     ensures within { IfSome result (λ p. p.length ≤ length text.now) }
     ensures some { slice_index text.now 0 ≡ 47 → IfSome result (λ p. 0 < p.length) }
 {
-    if is_spliced(text) {
+    if is_other_line(text) {
         return None;
     }
     Some(gap(run_length(text, Run::Line)))
@@ -74,7 +74,7 @@ fn is_skipped_word(word: &[u8]) -> bool
         || (!word.is_empty() && are_digits(word))
 }
 
-/// The line that `#` begins, if it is skipped, and goes on in the next line by no splice and no comment.
+/// The line that `#` begins, if it is skipped, and for a compiler ends where this line does.
 #[tactic(auto, unfolding(tm_terms::specs::Lexis::skipped_line))]
 pub fn skipped_line(text: &[u8]) -> Option<Piece>
     ensures value { result ≡ skipped_line text.now }
@@ -88,7 +88,7 @@ pub fn skipped_line(text: &[u8]) -> Option<Piece>
         return None;
     }
     let length = run_length(text, Run::Line);
-    if is_spliced(text) || leaves_open(front(text, length)) {
+    if is_other_line(text) || leaves_open(front(text, length)) {
         return None;
     }
     Some(gap(length))

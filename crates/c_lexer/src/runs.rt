@@ -15,6 +15,8 @@ pub enum Run {
     Line,
     /// Blanks of one line.
     Blanks,
+    /// Blanks that end a line for no compiler.
+    InnerBlanks,
     /// Digits in this base, 8, 10 or 16.
     Digits(u8),
 }
@@ -64,6 +66,7 @@ fn belongs(run: Run, byte: u8) -> bool
         Run::Number => is_name_byte(byte) || byte == b'.',
         Run::Line => byte != b'\n',
         Run::Blanks => is_blank(byte) && byte != b'\n',
+        Run::InnerBlanks => is_blank(byte) && byte != b'\n' && byte != b'\r',
         Run::Digits(base) => is_digit_in(base, byte),
     }
 }

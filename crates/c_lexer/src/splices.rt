@@ -1,6 +1,6 @@
 ghost use Rattle.std.specs.Prelude.{◌≡◌, ◌<◌, ◌≤◌, length, drop};
-ghost use Rattle.tm_terms.specs.Splices.{Neither, backslash, begins_with, is_spliced, is_spliced_slash, leaves_open};
-ghost use Rattle.tm_terms.specs.Splices.{leaves_open_from, splice, unspliced};
+ghost use Rattle.tm_terms.specs.Splices.{Neither, backslash, begins_with, is_lone_return, is_other_line};
+ghost use Rattle.tm_terms.specs.Splices.{is_spliced_slash, leaves_open, leaves_open_from, line_end, splice, unspliced};
 ghost use Rattle.c_lexer.specs.reading.Quotes.{is_quote};
 
 use crate::runs::{Run, behind, byte_at, front, run_length};
@@ -19,6 +19,23 @@ fn backslash(text: &[u8]) -> usize
     }
 }
 
+// How many bytes the end of a line takes that begins the text, as compilers have it; 0 where none does.
+fn line_end(text: &[u8]) -> usize
+    ensures value { result ≡ line_end text.now }
+    ensures within { result ≤ length text.now }
+{
+    let first = byte_at(text, 0);
+    if first == b'\n' {
+        1
+    } else if first != b'\r' {
+        0
+    } else if byte_at(text, 1) == b'\n' {
+        2
+    } else {
+        1
+    }
+}
+
 // How many bytes the splice takes that begins the text; 0 where none does. The blanks are looked at behind a backslash
 // alone, so a line of blanks is not read again from each of its bytes.
 fn splice(text: &[u8]) -> usize
@@ -29,12 +46,9 @@ fn splice(text: &[u8]) -> usize
     if slash == 0 {
         return 0;
     }
-    let end = slash + run_length(behind(text, slash), Run::Blanks);
-    if byte_at(text, end) == b'\n' {
-        end + 1
-    } else {
-        0
-    }
+    let blanks = slash + run_length(behind(text, slash), Run::InnerBlanks);
+    let end = line_end(behind(text, blanks));
+    if end > 0 { blanks + end } else { 0 }
 }
 
 // What follows all splices that begin the text.
@@ -60,15 +74,23 @@ pub fn is_spliced_slash(text: &[u8]) -> bool
     splice(text) > 0 && byte_at(unspliced(text), 0) == b'/'
 }
 
-/// Whether a splice stands on the first line of the text.
-pub fn is_spliced(text: &[u8]) -> bool
-    ensures { result ≡ is_spliced text.now }
+// Whether a compiler ends a line where the text begins, and the lexis does not.
+fn is_lone_return(text: &[u8]) -> bool
+    ensures { result ≡ is_lone_return text.now }
+{
+    line_end(text) == 1 && byte_at(text, 0) == b'\r'
+}
+
+/// Whether the first line of the text goes on or ends elsewhere for a compiler.
+pub fn is_other_line(text: &[u8]) -> bool
+    ensures { result ≡ is_other_line text.now }
 {
     for i in 0..text.len() {
         if text[i] == b'\n' {
             return false;
         }
-        if splice(behind(text, i)) > 0 {
+        let rest = behind(text, i);
+        if splice(rest) > 0 || is_lone_return(rest) {
             return true;
         }
     }

@@ -1,12 +1,12 @@
-//! Comments and skipped lines with backslashes and trigraphs: those that joined lines would change are refused where
-//! they begin (C99 5.1.1.2), and no other.
+//! Comments and skipped lines with backslashes, trigraphs and bytes 13: those that joined lines, or a line that ends
+//! elsewhere for a compiler, would change are refused where they begin (C99 5.1.1.2), and no other.
 
 use crate::answers::answers;
 use std::alloc::Global;
 use std::test::Fail;
 
 // Sources and the lines by which they are refused, or `taken`.
-static SPLICES: [(&[u8], &str); 40] = [
+static SPLICES: [(&[u8], &str); 53] = [
     // Comments from `//` on, to which a backslash or `??/` at the end of the line joins the next one.
     (
         b"int x = 0, r;\n__task(1) void t(void) {\n  // from C:\\\n  x = 1;\n  r = 10 / x; }\n",
@@ -68,15 +68,31 @@ static SPLICES: [(&[u8], &str); 40] = [
     (b"#pragma \"a??/\"/*\"\nint y;\n", "taken"),
     (b"#pragma x \\\"/*\"\nint y;\n", "taken"),
     (b"#pragma x /* // */\nint y;\n", "taken"),
+    // A byte 13 with no byte 10 behind it, which ends a line for gcc and clang.
+    (b"int x; // a\rint y;\n", "1:8 refused Lexical\n"),
+    (b"int x; // a\r", "1:8 refused Lexical\n"),
+    (b"int x; // a\r\r\nint y;\n", "1:8 refused Lexical\n"),
+    (b"#pragma a\rint y;\n", "1:1 refused Lexical\n"),
+    (b"#\rline 3\nint y;\n", "1:1 refused Lexical\n"),
+    (b"int x; /* *\\\r/ int y; /* */\n", "1:8 refused Lexical\n"),
+    (b"int x; /* *\\ \r??/\r\n/ int y; */\n", "1:8 refused Lexical\n"),
+    // Bytes 13 that change no comment and no skipped line.
+    (b"int x;\rint y;\r// a\r\nint z;\r\n", "taken"),
+    (b"int x; // a\r\n#pragma b\r\nint y;\r\n", "taken"),
+    (b"int x; /* a\rb */ int y;\n", "taken"),
+    (b"int x; /* *\\\r \n/ */ int y;\n", "taken"),
+    (b"int x; /* *\\\r\r/ */ int y;\n", "taken"),
+    (b"int x; /* *\r/ */ int y;\n", "taken"),
 ];
 
 // What begins a source of a million bytes, what it repeats to its end, and its answer. A reader that looked at all that
 // follows from each of its bytes anew would not be done in the time that a test has.
-static LONG: [(&[u8], &[u8], &str); 9] = [
+static LONG: [(&[u8], &[u8], &str); 10] = [
     (b"//", b"    ", "taken"),
     (b"//", b"\\ \\ ", "taken"),
     (b"//", b"??/ ", "taken"),
     (b"/*", b"*\\ \n", "1:1 refused Lexical\n"),
+    (b"/*", b"*\\ \r", "1:1 refused Lexical\n"),
     (b"/**", b"??/\n", "1:1 refused Lexical\n"),
     (b"/*", b"****", "1:1 refused Lexical\n"),
     (b"/* *\\", b"    ", "1:1 refused Lexical\n"),

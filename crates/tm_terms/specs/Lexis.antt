@@ -7,7 +7,7 @@ use Rattle.std.specs.List.{prefix_len, list_all}
 use Rattle.std.specs.Char.{is_ascii_digit, is_ascii_alphabetic, is_ascii_alphanumeric, is_ascii_hexdigit}
 use Rattle.tm_cint.specs.Conversions.{converted_value}
 use Rattle.tm_cint.specs.declared.int_types.IntType.TheVariants.{Char}
-use Rattle.tm_terms.specs.Splices.{is_spliced, is_spliced_slash, leaves_open}
+use Rattle.tm_terms.specs.Splices.{is_other_line, is_spliced_slash, leaves_open}
 use Rattle.tm_terms.specs.declared.tokens.IntConstant.{IntConstant}
 use Rattle.tm_terms.specs.declared.tokens.Longs.{Longs}
 use Rattle.tm_terms.specs.declared.tokens.Longs.TheVariants as longs
@@ -222,7 +222,7 @@ comment text = option_and_then gap (comment_end 2 (drop 2 text))
 
 -- a comment from `//` up to the end of its line; none where a splice joins the next line to it
 abbrev pub line_comment : List ℕ → Option Piece
-line_comment text = if is_spliced text then None else gap (prefix_len is_in_line text)
+line_comment text = if is_other_line text then None else gap (prefix_len is_in_line text)
 
 -- behind `#` and blanks of the line stands a decimal number, `line` or `pragma`
 abbrev pub is_skipped_word : List ℕ → Bool
@@ -234,7 +234,7 @@ is_skipped_word text =
 unfoldable pub skipped_line : List ℕ → Option Piece
 skipped_line text =
     if is_skipped_word (front is_name_byte (behind is_blank_in_line (drop 1 text)))
-    then (if is_spliced text || leaves_open (front is_in_line text) then None else gap (prefix_len is_in_line text))
+    then (if is_other_line text || leaves_open (front is_in_line text) then None else gap (prefix_len is_in_line text))
     else None
 
 -- ## Punctuators (C99 6.4.6)

@@ -1,6 +1,7 @@
--- What joining lines would change. In C a backslash at the end of a line joins the next line to it, before comments are
--- taken out (C99 5.1.1.2). The profile has no such splices: a comment, or a line that is skipped, which joining would
--- change is no piece of the lexis.
+-- What joining lines, or another end of a line, would change. In C a backslash at the end of a line joins the next line
+-- to it, before comments are taken out (C99 5.1.1.2), and which bytes end a line is left to the compiler. The profile
+-- has no such splices, and its lines end with byte 10: a comment, or a line that is skipped, which either would change
+-- is no piece of the lexis.
 use Rattle.std.specs.Prelude.{ℕ, zero, suc, ◌+◌, ◌-◌, Bool, true, false, not, ◌&&◌, ◌||◌, if◌then◌else◌, ◌==◌}
 use Rattle.std.specs.Prelude.{nat_lt, nat_le, List, [], ◌∷◌, take, drop, slice_index, bytes_eq, codes}
 use Rattle.std.specs.List.{prefix_len}
@@ -19,7 +20,19 @@ is_in_line b = not (b == 10)
 abbrev pub is_blank_in_line : ℕ → Bool
 is_blank_in_line b = is_blank b && is_in_line b
 
+-- a blank that ends a line for no compiler
+abbrev pub is_inner_blank : ℕ → Bool
+is_inner_blank b = is_blank_in_line b && not (b == 13)
+
 -- ## Splices (C99 5.1.1.2, 5.2.1.1)
+
+-- how many bytes the end of a line takes that begins a text, where one does, as gcc and clang have it: byte 10, byte 13,
+-- or both
+abbrev pub line_end : List ℕ → ℕ
+line_end text =
+    if slice_index text 0 == 10 then 1
+    else (if not (slice_index text 0 == 13) then 0
+    else (if slice_index text 1 == 10 then 2 else 1))
 
 -- how many bytes the backslash takes that begins a text, where one does: it is written so, or as the trigraph `??/`
 abbrev pub backslash : List ℕ → ℕ
@@ -28,10 +41,12 @@ backslash text =
 
 -- how many bytes the splice takes that begins a text, where one does: a backslash, blanks, and the end of the line
 abbrev pub splice : List ℕ → ℕ
-splice text = ended (backslash text) (prefix_len is_blank_in_line (drop (backslash text) text))
+splice text = ended (backslash text) (prefix_len is_inner_blank (drop (backslash text) text))
   where
+    closed : ℕ → ℕ → ℕ
+    closed n end = if nat_lt 0 end then n + end else 0
     ended : ℕ → ℕ → ℕ
-    ended b n = if nat_lt 0 b && slice_index text (b + n) == 10 then b + n + 1 else 0
+    ended b n = if nat_lt 0 b then closed (b + n) (line_end (drop (b + n) text)) else 0
 
 -- what follows all splices that begin a text, behind the first k of its bytes
 abbrev pub unspliced : ℕ → List ℕ → List ℕ
@@ -43,10 +58,15 @@ unspliced zero (b ∷ text) = if splice (b ∷ text) == 0 then b ∷ text else u
 abbrev pub is_spliced_slash : List ℕ → Bool
 is_spliced_slash text = nat_lt 0 (splice text) && slice_index (unspliced 0 text) 0 == 47
 
--- a splice stands on the first line of the text
-abbrev pub is_spliced : List ℕ → Bool
-is_spliced [] = false
-is_spliced (b ∷ text) = is_in_line b && (nat_lt 0 (splice (b ∷ text)) || is_spliced text)
+-- a compiler ends a line where the text begins, and the lexis does not: byte 13, with no byte 10 behind it
+abbrev pub is_lone_return : List ℕ → Bool
+is_lone_return text = line_end text == 1 && slice_index text 0 == 13
+
+-- the first line of the text goes on or ends elsewhere for a compiler: a splice or a lone byte 13 stands on it
+abbrev pub is_other_line : List ℕ → Bool
+is_other_line [] = false
+is_other_line (b ∷ text) =
+    is_in_line b && (nat_lt 0 (splice (b ∷ text)) || is_lone_return (b ∷ text) || is_other_line text)
 
 -- ## Comments on a line that is skipped
 
