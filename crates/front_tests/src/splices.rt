@@ -75,7 +75,10 @@ static SPLICES: [(&[u8], &str); 53] = [
     (b"#pragma a\rint y;\n", "1:1 refused Lexical\n"),
     (b"#\rline 3\nint y;\n", "1:1 refused Lexical\n"),
     (b"int x; /* *\\\r/ int y; /* */\n", "1:8 refused Lexical\n"),
-    (b"int x; /* *\\ \r??/\r\n/ int y; */\n", "1:8 refused Lexical\n"),
+    (
+        b"int x; /* *\\ \r??/\r\n/ int y; */\n",
+        "1:8 refused Lexical\n",
+    ),
     // Bytes 13 that change no comment and no skipped line.
     (b"int x;\rint y;\r// a\r\nint z;\r\n", "taken"),
     (b"int x; // a\r\n#pragma b\r\nint y;\r\n", "taken"),

@@ -45,6 +45,7 @@ splice text = ended (backslash text) (prefix_len is_inner_blank (drop (backslash
   where
     closed : ℕ → ℕ → ℕ
     closed n end = if nat_lt 0 end then n + end else 0
+
     ended : ℕ → ℕ → ℕ
     ended b n = if nat_lt 0 b then closed (b + n) (line_end (drop (b + n) text)) else 0
 
