@@ -137,9 +137,12 @@ same $'alarms 0\nalarms 0\nstatus 0' \
 same $'alarms 0\nstatus 9' "$(told "$top/analyse" "$work/error.c" "$work/none.c")" "a file behind one that fails"
 
 # A byte 13 with no byte 10 behind it is told of, and others are not. What a pipe gives beyond the limit is not lost.
-printf '# 7 "a.h"\nint n;\r\nint k; // a\rint l;\n' >"$work/return.c"
+printf '# 7 "a.h"\nint n;\r\nint k;\rint l;\n' >"$work/return.c"
 same $'alarms 0\nstatus 0' "$(told "$top/analyse" --preprocessed "$work/return.c")" "a byte 13"
 grep -q '^analyse: a.h:8:1: a byte 13 stands in this line' "$work/err"
+printf '# 7 "a.h"\nint n;\r\nint k; // a\rint l;\n' >"$work/return.c"
+same $'a.h:8:8: refused Lexical\nstatus 2' "$(told "$top/analyse" --preprocessed "$work/return.c")" \
+    "a byte 13 in a comment"
 printf 'int n;\r\n__task(1) void t(void) { n = 1; }\r\n' >"$work/returns.c"
 same $'alarms 0\nstatus 0' "$(told "$top/analyse" "$work/returns.c")" "bytes 13 and 10"
 if grep 'a byte 13' "$work/err"; then exit 1; fi
