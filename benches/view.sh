@@ -34,9 +34,20 @@ for compiler in gcc clang; do
     make -s -C "$work/$compiler" CC="$compiler -Werror" top="$top"
     same "share 25 level 0 pumping 0" "$("$work/$compiler/out/target")" "$compiler runs the project"
     for source in "$top"/examples/*.c; do
-        "$compiler" -std=c99 -fsyntax-only -Wall -Wextra -Werror -include "$top/include/cedratcleat.h" "$source"
+        "$compiler" -std=c99 -fsyntax-only -Wall -Wextra -Werror -DCEDRATCLEAT_ANY_TARGET \
+            -include "$top/include/cedratcleat.h" "$source"
     done
     echo "$compiler takes the examples"
+    # The header asks for the data model, and its message names the option that mends it.
+    printf 'int n;\n' >"$work/model.c"
+    takes() { "$compiler" -std=c99 -pedantic-errors -fsyntax-only -include "$top/include/cedratcleat.h" "$@" "$work/model.c"; }
+    takes -m32 -malign-double
+    for options in -m64:-m32 -m32:-malign-double '-m32 -malign-double -funsigned-char:-fsigned-char'; do
+        read -ra words <<<"${options%:*}"
+        if takes "${words[@]}" 2>"$work/err"; then exit 1; fi
+        grep -qe "compile .*${options##*:}" "$work/err"
+    done
+    echo "$compiler is asked for the data model"
 done
 
 # The alarms stand at the lines of the files.
@@ -149,6 +160,16 @@ if grep 'a byte 13' "$work/err"; then exit 1; fi
 { printf '#define N n\nint N;\n' && head -c 1048576 /dev/zero | tr '\0' '\n'; } >"$work/long.c"
 same $'alarms 0\nstatus 0' "$(told "$top/analyse" "$work/long.c")" "a long file that is short behind the preprocessor"
 same $'refused Limit source 1048576\nstatus 2' "$(told "$top/analyse" /dev/stdin < <(cat "$work/long.c"))" "a long pipe"
+
+# Structures that are packed are refused, and other directives are told of once.
+printf '# 7 "a.h"\n#pragma once\nint n;\n #pragma pack(1)\n' >"$work/pack.c"
+same $'a.h:9:1: refused Pragma\nstatus 2' "$(told "$top/analyse" --preprocessed "$work/pack.c")" "packed structures"
+same $'4:1 refused Pragma\nstatus 2' "$(told "$top/analyse" --plain --preprocessed "$work/pack.c")" "packed, plain"
+printf '# 7 "a.h"\n#pragma once\n#pragma interrupt t\n#pragma GCC diagnostic push\n#pragma interrupt u\nint n;\n' \
+    >"$work/pragmas.c"
+same $'alarms 0\nstatus 0' "$(told "$top/analyse" --preprocessed "$work/pragmas.c")" "other directives"
+grep -q '^analyse: a.h:8:1: #pragma interrupt, 2 times in all: the analyser skips it' "$work/err"
+[ "$(grep -c '#pragma' "$work/err")" = 1 ]
 
 # What does not run, where a look at the words is sure of it, and nothing where it is not.
 printf '# 7 "a.h"\nint n;\n__task(9) void isr(void) { n = 1; }\n__task(1) void loop(void) { while (1) __yield(); }\n' \
