@@ -8,7 +8,8 @@
 #
 # PROGRAM is the built analyser (./analyse --program), which reads a source from its standard input. Each time is the
 # least of three runs, in processor seconds, each run bound to one processor; a row says N, bytes of the source, seconds
-# and MB of both, and the two ratios. Frama-C and GNU time have to be installed.
+# and MB of both, and the two ratios. Only a report counts: where a run has none, since it refuses the source or fails,
+# the row says so, and the status is 1. Frama-C and GNU time have to be installed.
 set -eu
 [ $# -ge 1 ] || { sed -n 's/^#     /usage: /p' "$0"; exit 2; }
 command -v frama-c > /dev/null || { echo 'frama-c is not on the PATH' >&2; exit 2; }
@@ -60,12 +61,16 @@ least() { # COMMAND..
         END { printf "%.3f %.0f\n", least, most / 1024 }'
 }
 
+status=0
 printf '%5s %8s %9s %7s %9s %7s %7s %7s\n' N bytes eva_s eva_MB own_s own_MB time memory
 for n in $sizes; do
     text_of "$n" > input
     { cat words.h input; echo 'int main(void) { fast(); slow(); return 0; }'; } > alone.c
     eva=$(least frama-c -machdep gcc_x86_32 -eva -eva-no-print alone.c)
+    grep -q 'ANALYSIS SUMMARY\|eva:summary' out || { echo "$n: Eva gave no report: $(tail -n 1 err)" && status=1 && continue; }
     own=$(least "$program" analyse)
+    tail -n 1 out | grep -qx 'alarms [0-9]*' || { echo "$n: no report: $(tail -n 1 out)" && status=1 && continue; }
     echo "$n $(wc -c < input) $eva $own" | awk '{
         printf "%5s %8s %9s %7s %9s %7s %7.1f %7.1f\n", $1, $2, $3, $4, $5, $6, $3 / ($5 > 0 ? $5 : 0.001), $4 / $6 }'
 done
+exit "$status"

@@ -8,7 +8,8 @@
 #
 # PROGRAM is the built analyser (./analyse --program). Each time is the least of three runs, in processor seconds, each
 # run bound to one processor; a run below 0.3 seconds is made ten times in a row and divided. A row says N, bytes of the source, seconds
-# and MB of both, and the two ratios; then how the time grows from the least to the greatest N, and with 1 and with 4
+# and MB of both, and the two ratios (only a report counts: where a run has none, the row says so, and the status is 1);
+# then how the time grows from the least to the greatest N, and with 1 and with 4
 # workers on eight tasks (seconds by the clock). Frama-C and GNU time have to be installed.
 set -eu
 [ $# -ge 1 ] || { sed -n 's/^#     /usage: /p' "$0"; exit 2; }
@@ -47,12 +48,15 @@ least() { # COMMAND..
     for run in 1 2 3; do runs "$count" "$@"; done | sort -n | head -n 1
 }
 
+status=0
 printf '%5s %8s %9s %7s %9s %7s %7s %7s\n' N bytes eva_s eva_MB own_s own_MB time memory
 for n in $sizes; do
     "$program" generate "$n" < /dev/null > input
     alone > alone.c
     eva=$(least frama-c -machdep gcc_x86_32 -warn-invalid-pointer -eva -eva-no-print alone.c)
+    grep -q 'ANALYSIS SUMMARY\|eva:summary' out || { echo "$n: Eva gave no report: $(tail -n 1 err)" && status=1 && continue; }
     own=$(least "$program" analyse '<' input)
+    tail -n 1 out | grep -qx 'alarms [0-9]*' || { echo "$n: no report: $(tail -n 1 out)" && status=1 && continue; }
     echo "$n $(wc -c < input) $eva $own" | tee -a rows | awk '{
         printf "%5s %8s %9s %7s %9s %7s %7.1f %7.1f\n", $1, $2, $3, $4, $5, $6, $3 / ($5 > 0 ? $5 : 0.001), $4 / $6 }'
 done
@@ -72,6 +76,8 @@ awk 'BEGIN {
 for workers in 1 4; do
     for run in 1 2 3; do
         env time -o told -f '%e' "$program" analyse --workers "$workers" < input > out 2> err || true
+        grep -qx 'alarms [0-9]*' out || echo 'no report' >&2
         tail -n 1 told
     done | sort -n | head -n 1 | awk -v workers="$workers" '{ printf "eight tasks, workers %s: %s seconds\n", workers, $1 }'
 done
+exit "$status"
