@@ -39,6 +39,7 @@ use Rattle.temporary_types.specs.flow_graph.declared.operations.Into.TheVariants
 use Rattle.temporary_types.specs.flow_graph.declared.operations.Operation.{Operation}
 use Rattle.temporary_types.specs.flow_graph.declared.operations.Operation.TheVariants as Op
 use Rattle.temporary_types.specs.Sorts.{Sort, numbers, pointers, sort_of_scalar, Within, AreSorts}
+use Rattle.temporary_types.specs.Settled.{AreSettled}
 use Rattle.lowering_laws.specs.lowering.Table.{is_value_type, plans}
 use Rattle.lowering_laws.specs.lowering.Built.{Building, place, place_new, Passed, AfterPart, Later, Sites, is_return}
 use Rattle.lowering_laws.specs.lowering.Built.{nodes_by, result_of, result_at, place_result, plan_piece}
@@ -53,53 +54,92 @@ use Rattle.next_action_laws.proofs.WholeBodies.{local_place, static_place, scala
 use Rattle.lowering_laws.proofs.Lowered.{calls_stand}
 use Rattle.operation_laws.proofs.Within.{Grows, grows_on, grows_same}
 use Rattle.operation_laws.proofs.Following.{Follows, none_follows}
+use Rattle.operation_laws.proofs.Settling.{none_settles, Keeps, keeps_same, keeps_on, keeps_place, meet_keeps}
+use Rattle.operation_laws.proofs.Settling.{IsOpen}
 use Rattle.operation_laws.proofs.BuiltSorts.{grows_end, AreTemps, temps_grown, Fits, place_fits, place_more, new_is}
-use Rattle.operation_laws.proofs.BuiltSorts.{meet_fits, all_listed, Grown, PartBuilt, TempIs}
-use Rattle.operation_laws.proofs.BuiltPlans.{ResultIs, ResultBuilt, result_built, continued_fits, Through, plan_built}
+use Rattle.operation_laws.proofs.BuiltSorts.{meet_fits, all_listed, Grown, PartBuilt, TempIs, TempFrom, temp_from}
+use Rattle.operation_laws.proofs.BuiltPlans.{ResultIs, ResultBuilt, result_built, continued_fits, continued_keeps}
+use Rattle.operation_laws.proofs.BuiltPlans.{Through, plan_built}
 use Rattle.operation_laws.proofs.ExpressionSorts.{IsNamed, AreGiven, result_sort, IsStage}
 use Rattle.operation_laws.proofs.StatementSorts.{plans_fit}
 
 module _ (laid : LaidTree) where
-  -- after the end of a function: its value has the sort of its result
-  pub record Ended (ss : List Sort) (b : Building) (t : Option ℕ) (o : Option Sort) : Type 0 where
+  -- after the end of a function, which began when there were so many temporaries: its value has the sort of its result
+  pub record Ended (ss : List Sort) (n : ℕ) (a b : Building) (t : Option ℕ) (o : Option Sort) : Type 0 where
     pub sorts : List Sort
     pub grows : Grows ss sorts
     pub fits : Fits laid sorts b
     pub temp : TempIs laid sorts t o
+    pub kept : Keeps a b
+    pub own : TempFrom laid n t o
+
+  unended : (ss : List Sort) (n : ℕ) (b : Building) → Fits laid ss b → Ended ss n b b None None
+  unended ss n b f =
+      record { sorts = ss; grows = grows_same ss; fits = f; temp = tt; kept = keeps_same b; own = tt }
 
   -- a function that ends without `return`
   pub fallen_built : (t : CType) (res : Option ℕ) (ss : List Sort) (b : Building) → Fits laid ss b
-      → ResultIs laid ss (result_sort t) res
-      → Ended ss (fallen_piece t res b) (result_at (is_value_type t) res b) (result_sort t)
-  fallen_built (Types.Int t) res ss b f k =
-      let z : ResultBuilt laid ss (place_result res (λ r. Op.Any r (lo_of t) (hi_of t)) b) (numbers t) (result_of res b)
-      = result_built laid (numbers t) res (λ r. Op.Any r (lo_of t) (hi_of t)) (λ r. refl) ss b
-      (λ more g r. (tt, (low_in t, high_in t))) f k in
-      record { sorts = z.sorts; grows = z.grows; fits = z.fits; temp = z.result }
-  fallen_built (Types.Pointer q) res ss b f k =
-      let z : ResultBuilt laid ss (place_result res (λ r. Op.Const r nothing) b) pointers (result_of res b) =
-      result_built laid pointers res (λ r. Op.Const r nothing) (λ r. refl) ss b (λ more g r. (tt, tt)) f k in
-      record { sorts = z.sorts; grows = z.grows; fits = z.fits; temp = z.result }
-  fallen_built Types.Void res ss b f k = record { sorts = ss; grows = grows_same ss; fits = f; temp = tt }
-  fallen_built (Types.Array e n) res ss b f k = record { sorts = ss; grows = grows_same ss; fits = f; temp = tt }
-  fallen_built (Types.Struct n) res ss b f k = record { sorts = ss; grows = grows_same ss; fits = f; temp = tt }
+      → ResultIs laid ss (result_sort t) res → (n : ℕ) → IsOpen n b res
+      → Ended ss n b (fallen_piece t res b) (result_at (is_value_type t) res b) (result_sort t)
+  fallen_built (Types.Int t) res ss b f k n opened =
+      let op : ℕ → Operation = λ r. Op.Any r (lo_of t) (hi_of t) in
+      let z : ResultBuilt laid ss n b (place_result res op b) (numbers t) (result_of res b) =
+      result_built laid (numbers t) res op (λ r. refl) ss b (λ more g r. (tt, (low_in t, high_in t))) f k n b
+      (keeps_same b) opened (λ r u e. absurd (none-some u e)) in
+      record {
+        sorts = z.sorts;
+        grows = z.grows;
+        fits = z.fits;
+        temp = z.result;
+        kept = z.kept;
+        own = z.opened.0;
+      }
+  fallen_built (Types.Pointer q) res ss b f k n opened =
+      let op : ℕ → Operation = λ r. Op.Const r nothing in
+      let z : ResultBuilt laid ss n b (place_result res op b) pointers (result_of res b) =
+      result_built laid pointers res op (λ r. refl) ss b (λ more g r. (tt, tt)) f k n b (keeps_same b) opened
+      (λ r u e. absurd (none-some u e)) in
+      record {
+        sorts = z.sorts;
+        grows = z.grows;
+        fits = z.fits;
+        temp = z.result;
+        kept = z.kept;
+        own = z.opened.0;
+      }
+  fallen_built Types.Void res ss b f k n opened = unended ss n b f
+  fallen_built (Types.Array e m) res ss b f k n opened = unended ss n b f
+  fallen_built (Types.Struct m) res ss b f k n opened = unended ss n b f
 
   -- where there is no body
-  pub nothing_built : (ss : List Sort) (b : Building) → Fits laid ss b → Grown laid ss (nothing_piece b).at
+  pub nothing_built : (ss : List Sort) (b : Building) → Fits laid ss b → Grown laid ss b (nothing_piece b).at
   nothing_built ss b f =
       let more : List Sort = ss ++ pointers ∷ [] in
       record {
         sorts = more;
         grows = grows_end ss pointers;
         fits = place_more laid ss pointers (Op.Const b.temps nothing) b tt refl tt f;
+        kept = keeps_place b b (suc b.temps) (Op.Const b.temps nothing) (omega arith) (λ t e. absurd (none-some t e))
+            (keeps_same b);
       }
 
-  abbrev pub Closes : (List ℕ → Building → Building) → Type 0
-  Closes close = (ns : List ℕ) (ss : List Sort) (b : Building) → Fits laid ss b → Fits laid ss (close ns b)
+  -- an end at which control comes together, and nothing is given or copied
+  pub record Closes (close : List ℕ → Building → Building) : Type 0 where
+    pub fits : (ns : List ℕ) (ss : List Sort) (b : Building) → Fits laid ss b → Fits laid ss (close ns b)
+    pub keeps : (ns : List ℕ) (a b : Building) → Keeps a b → Keeps a (close ns b)
+
+  pub function_closes : Closes function_end
+  function_closes = record {
+    fits = λ ns ss b f. meet_fits laid ss (ns ++ b.node ∷ []) b f;
+    keeps = λ ns a b k. meet_keeps a (ns ++ b.node ∷ []) b k;
+  }
 
   pub ends_by : (t : Bool) → Closes (if t then task_end else function_end)
-  ends_by true ns ss b f = continued_fits laid ss ns b f
-  ends_by false ns ss b f = meet_fits laid ss (ns ++ b.node ∷ []) b f
+  ends_by true = record {
+    fits = λ ns ss b f. continued_fits laid ss ns b f;
+    keeps = λ ns a b k. continued_keeps laid a ns b k;
+  }
+  ends_by false = function_closes
 
 module _ (file : TypedFileTree) (order : List ℕ) (h : IsLayable file order)
     (within : is_exceeded file Limits.Cells ≡ false) (body : ℕ) (few : length file.mutexes ≤ 16)
@@ -137,8 +177,9 @@ module _ (file : TypedFileTree) (order : List ℕ) (h : IsLayable file order)
       → ((i : ℕ) (l : LocalEntry) → slice_get ls i ≡ Some l
       → slice_get (locals_of file (function_on c)) (k + i) ≡ Some l)
       → AreParameters scope ns ls → AreGiven scope ns ins → (ss : List Sort) (b : Building) → Fits L ss b
-      → AreTemps ss ts ins → Grown L ss (stores_piece L c k ts p b)
-  stores_built c u p k ns ls [] [] at' q g ss b f a = record { sorts = ss; grows = grows_same ss; fits = f }
+      → AreTemps ss ts ins → Grown L ss b (stores_piece L c k ts p b)
+  stores_built c u p k ns ls [] [] at' q g ss b f a =
+      record { sorts = ss; grows = grows_same ss; fits = f; kept = keeps_same b }
   stores_built c u p k ns ls [] (t ∷ ts) at' q g ss b f a = absurd a
   stores_built c u p k ns ls (s ∷ ins) [] at' q g ss b f a = absurd a
   stores_built c u p k [] ls (s ∷ ins) (t ∷ ts) at' q g ss b f a = absurd g
@@ -162,8 +203,14 @@ module _ (file : TypedFileTree) (order : List ℕ) (h : IsLayable file order)
       subst (λ (x : Scalar). Within s (sort_of_scalar x)) (sym cell.scalar) g.2 in
       let value : slice_get more t ≡ Some s = grows_end ss pointers t s a.0 in
       let f2 : Fits L more (place op b1) =
-      place_fits L more op b1 (((pointers, new, tt), (s, value, fits), place'.object), tt) f1 in
-      let r : Grown L more (stores_piece L c (suc k) ts p (place op b1)) =
+      place_fits L more op b1 (((pointers, new, tt), (s, value, fits), place'.object), tt)
+      (λ t' e. absurd (none-some t' e)) f1 in
+      let k1 : Keeps b b1 =
+      keeps_place b b (suc b.temps) (Op.Base b.temps o) (omega arith) (λ t' e. absurd (none-some t' e)) (keeps_same b)
+      in
+      let k2 : Keeps b (place op b1) =
+      keeps_place b b1 b1.temps op (omega arith) (λ t' e. absurd (none-some t' e)) k1 in
+      let r : Grown L more (place op b1) (stores_piece L c (suc k) ts p (place op b1)) =
       stores_built c u p (suc k) ns ls ins ts
       (λ i y e. let x : k + suc i ≡ suc k + i = omega arith in ap (slice_get (locals_of file (function_on c))) (sym x)
       ∙ at' (suc i) y e) q.1 g.3 more (place op b1) f2 (temps_grown ss more (grows_end ss pointers) ts ins a.1) in
@@ -171,6 +218,7 @@ module _ (file : TypedFileTree) (order : List ℕ) (h : IsLayable file order)
         sorts = r.sorts;
         grows = grows_on ss more r.sorts (grows_end ss pointers) r.grows;
         fits = r.fits;
+        kept = keeps_on b (place op b1) (stores_piece L c (suc k) ts p (place op b1)) k2 r.kept;
       }
 
   -- ## Bodies on their paths
@@ -178,25 +226,26 @@ module _ (file : TypedFileTree) (order : List ℕ) (h : IsLayable file order)
   abbrev result_on : ℕ → Option Sort
   result_on path = result_sort (result_type L (function_of_file file (function_on path)))
 
-  pub record PathBuilt (path : ℕ) (ss : List Sort) (x : AfterPart) : Type 0 where
+  pub record PathBuilt (path : ℕ) (ss : List Sort) (a : Building) (x : AfterPart) : Type 0 where
     pub sorts : List Sort
     pub grows : Grows ss sorts
     pub fits : Fits L sorts x.at
     pub temp : (b : TypedBodyTree) → (function_of_file file (function_on path)).body ≡ Some b
-        → TempIs L sorts x.temp (result_on path)
+        → TempIs L sorts x.temp (result_on path) × TempFrom L a.temps x.temp (result_on path)
+    pub kept : Keeps a x.at
 
   -- where paths are so deep
   abbrev Bodies : ℕ → Type 0
   Bodies depth = (close : List ℕ → Building → Building) → Closes L close → (path : ℕ) → IsBodyPath L body path
       → (function_on path < length file.functions → depth_of file order (function_on path) < depth)
-      → (ss : List Sort) (b : Building) → Fits L ss b → PathBuilt path ss (path_piece close L depth path b)
+      → (ss : List Sort) (b : Building) → Fits L ss b → PathBuilt path ss b (path_piece close L depth path b)
 
   calls_built : (depth : ℕ) → Bodies depth → (path : ℕ) → IsBodyPath L body path → (b : TypedBodyTree)
       → (function_of_file file (function_on path)).body ≡ Some b
       → depth_of file order (function_on path) < suc depth
       → (site : ℕ) (ins : List Sort) (o : Option Sort) → Call path site ins o → (ss : List Sort) (ts : List ℕ)
       (p : Place) (x : Building) → Fits L ss x → AreTemps ss ts ins
-      → PartBuilt L ss (sites_of L (path_piece function_end L depth) path site ts p x) o
+      → PartBuilt L ss x (sites_of L (path_piece function_end L depth) path site ts p x) o
   unfolding layout_of
   calls_built depth ih path u b e deep site ins o k ss ts p x fits a =
       let calls : List ℕ = calls_in file.calls (function_on path) in
@@ -216,7 +265,7 @@ module _ (file : TypedFileTree) (order : List ℕ) (h : IsLayable file order)
 
       by_body : (m : Option TypedBodyTree) → (function_of_file file k.0).body ≡ m → is_some m ≡ true → (c : ℕ)
           → function_on c ≡ k.0 → IsBodyPath L body c → Contains (calls_in file.calls (function_on path)) k.0
-          → PartBuilt L ss (path_piece function_end L depth c (stores_piece L c 0 ts p x)) o
+          → PartBuilt L ss x (path_piece function_end L depth c (stores_piece L c 0 ts p x)) o
       by_body None q d c is own has = absurd (false≢true d)
       by_body (Some b') q d c is own has =
           let f : ℕ = k.0 in
@@ -231,25 +280,30 @@ module _ (file : TypedFileTree) (order : List ℕ) (h : IsLayable file order)
           let r = regular f b' q in
           let own_locals : locals_of file (function_on c) ≡ b'.locals = ap (λ y. locals_of file y) is
           ∙ ap locals_in q in
-          let s : Grown L ss (stores_piece L c 0 ts p x) =
+          let stored : Building = stores_piece L c 0 ts p x in
+          let s : Grown L ss x stored =
           stores_built c own p 0 g.parameters b'.locals ins ts
           (λ i l z. let w : 0 + i ≡ i = omega arith in ap (slice_get (locals_of file (function_on c))) w
           ∙ ap (λ ls. slice_get ls i) own_locals ∙ z)
           (subst (λ (y : Function). AreParameters scope y.parameters b'.locals) same r.parameters) k.4 ss x fits a in
-          let y : PathBuilt c s.sorts (path_piece function_end L depth c (stores_piece L c 0 ts p x)) =
-          ih function_end (λ ns ss' b2 f2. meet_fits L ss' (ns ++ b2.node ∷ []) b2 f2) c own
-          (λ l. subst (λ z. depth_of file order z < depth) (sym is) (omega (arith, falls, deep))) s.sorts
-          (stores_piece L c 0 ts p x) s.fits in
+          let z : AfterPart = path_piece function_end L depth c stored in
+          let y : PathBuilt c s.sorts stored z =
+          ih function_end (function_closes L) c own
+          (λ l. subst (λ z. depth_of file order z < depth) (sym is) (omega (arith, falls, deep))) s.sorts stored s.fits
+          in
           let gives : result_on c ≡ o =
           ap (λ z. result_sort (result_type L (function_of_file file z))) is
           ∙ (ap (λ (z : Function). result_sort (ctype_of scope z.result)) same ∙ sym k.5) in
+          let value : TempIs L y.sorts z.temp o × TempFrom L stored.temps z.temp o =
+          subst (λ r. TempIs L y.sorts z.temp r × TempFrom L stored.temps z.temp r) gives
+          (y.temp b' (ap (λ z. (function_of_file file z).body) is ∙ q)) in
           record {
             sorts = y.sorts;
             grows = grows_on ss s.sorts y.sorts s.grows y.grows;
             fits = y.fits;
-            temp = subst
-                (λ z. TempIs L y.sorts (path_piece function_end L depth c (stores_piece L c 0 ts p x)).temp z) gives
-                (y.temp b' (ap (λ z. (function_of_file file z).body) is ∙ q));
+            temp = value.0;
+            kept = keeps_on x stored z.at s.kept y.kept;
+            own = temp_from L x.temps stored.temps z.temp o s.kept.0 value.1;
           }
 
   -- what is known on a path
@@ -295,16 +349,17 @@ module _ (file : TypedFileTree) (order : List ℕ) (h : IsLayable file order)
       → (function_on path < length file.functions → depth_of file order (function_on path) < suc depth)
       → (o : Option TypedBodyTree) → (function_of_file file (function_on path)).body ≡ o → (ss : List Sort)
       (b : Building) → Fits L ss b
-      → PathBuilt path ss
+      → PathBuilt path ss b
       (function_piece (sites_of L (path_piece function_end L depth) path) L path close
       (result_type L (function_at L path)) o b)
   function_built depth ih close closes path u deep None e ss b f =
-      let y : Grown L ss (nothing_piece b).at = nothing_built L ss b f in
+      let y : Grown L ss b (nothing_piece b).at = nothing_built L ss b f in
       record {
         sorts = y.sorts;
         grows = y.grows;
         fits = y.fits;
         temp = λ b' q. absurd (none-some b' (sym e ∙ q));
+        kept = y.kept;
       }
   function_built depth ih close closes path u deep (Some b') e ss b f =
       let fn : ℕ = function_on path in
@@ -316,29 +371,32 @@ module _ (file : TypedFileTree) (order : List ℕ) (h : IsLayable file order)
       let call : Sites = sites_of L (path_piece function_end L depth) path in
       let t : CType = result_type L F in
       let x : Passed = plan_piece call (plans L path b'.statements) Later None b in
-      let y : Through L (Call path) call (calls_built depth ih path u b' e (deep lf)) (result_sort t) ss x =
-      plan_built L (Call path) call (calls_built depth ih path u b' e (deep lf)) (result_sort t)
+      let y : Through L (Call path) call (calls_built depth ih path u b' e (deep lf)) (result_sort t) b.temps ss b x =
+      plan_built L (Call path) call (calls_built depth ih path u b' e (deep lf)) (result_sort t) b.temps
       (plans L path b'.statements)
       (plans_fit L path b'.locals (is_defined_object file) (calls_in file.calls fn) (Call path) (stage path u b' e)
       (cells path u b' e) F.result false false b'.statements ok (sites fn b' e).0 (regular fn b' e).statements) Later
-      None ss b f tt in
-      let z : Ended L y.sorts (fallen_piece t x.result x.at) (result_at (is_value_type t) x.result x.at) (result_sort t)
-      = fallen_built L t x.result y.sorts x.at y.fits y.result in
+      None ss b f tt (omega arith) in
+      let fallen : Building = fallen_piece t x.result x.at in
+      let z : Ended L y.sorts b.temps x.at fallen (result_at (is_value_type t) x.result x.at) (result_sort t)
+      = fallen_built L t x.result y.sorts x.at y.fits y.result b.temps y.opened in
       record {
         sorts = z.sorts;
         grows = grows_on ss y.sorts z.sorts y.grows z.grows;
-        fits = closes (nodes_by is_return x.pending) z.sorts (fallen_piece t x.result x.at) z.fits;
-        temp = λ b2 q. z.temp;
+        fits = closes.fits (nodes_by is_return x.pending) z.sorts fallen z.fits;
+        temp = λ b2 q. (z.temp, z.own);
+        kept = closes.keeps (nodes_by is_return x.pending) b fallen (keeps_on b x.at fallen y.kept z.kept);
       }
 
   whole_built : (depth : ℕ) → Bodies depth
   whole_built zero close closes path u deep ss b f =
-      let y : Grown L ss (nothing_piece b).at = nothing_built L ss b f in
+      let y : Grown L ss b (nothing_piece b).at = nothing_built L ss b f in
       record {
         sorts = y.sorts;
         grows = y.grows;
         fits = y.fits;
         temp = λ b' q. let lt = there (function_on path) b' q in let d = deep lt in absurd (omega (arith, d));
+        kept = y.kept;
       }
   whole_built (suc depth) close closes path u deep ss b f =
       function_built depth (whole_built depth) close closes path u deep (function_of_file file (function_on path)).body
@@ -346,14 +404,14 @@ module _ (file : TypedFileTree) (order : List ℕ) (h : IsLayable file order)
 
   pub graph_sorts : body < length (bodies_of file)
       → (sorts : List Sort) × (length sorts ≡ (built L body).temps) × AreSorts L sorts (graph_of L body)
-      × Follows (built L body).temps (graph_of L body)
+      × Follows (built L body).temps (graph_of L body) × AreSettled (graph_of L body)
   graph_sorts lt =
       let first = first_of file body lt in
       let path : ℕ = first_path L body in
       let u : IsBodyPath L body path = record { within = first.0; same = first.1 } in
       let close : List ℕ → Building → Building =
       if nat_lt body (length file.tasks) then task_end else function_end in
-      let y : PathBuilt path [] (path_piece close L (length file.functions) path entry) =
+      let y : PathBuilt path [] entry (path_piece close L (length file.functions) path entry) =
       whole_built (length file.functions) close (ends_by L (nat_lt body (length file.tasks))) path u
-      (depth_below file order (function_on path)) [] entry (refl, tt, none_follows) in
-      (y.sorts, y.fits.0, all_listed L y.sorts (graph_of L body) y.fits.1, y.fits.2)
+      (depth_below file order (function_on path)) [] entry (refl, tt, none_follows, none_settles) in
+      (y.sorts, y.fits.0, all_listed L y.sorts (graph_of L body) y.fits.1, y.fits.2, y.fits.3.settled)

@@ -1,4 +1,4 @@
--- The graphs of a file that is typed and laid out have sorts.
+-- The graphs of a file that is typed and laid out have sorts, and their copies are settled.
 use Rattle.std.proofs.Common.{◌≡◌, refl, sym, subst, ℕ, ◌<◌, ◌≤◌, Bool, true, false, List, length, arith}
 use Rattle.std.specs.Prelude.{cond, find, Option, Some, None, Ok}
 use Rattle.std.proofs.lemmas.Option.{none-some, slice_get_within}
@@ -20,6 +20,7 @@ use Rattle.lowering_laws.proofs.Founded.{file_layable}
 use Rattle.lowering_laws.proofs.Lowered.{is_layout}
 use Rattle.lowering_laws.proofs.TableGraphs.{few_mutexes}
 use Rattle.temporary_types.specs.PointerMarks.{pointer_marks, Tells}
+use Rattle.temporary_types.specs.Settled.{AreSettled}
 use Rattle.temporary_types.proofs.Telling.{told}
 use Rattle.operation_laws.specs.SortedGraphs.{HasSorts}
 use Rattle.operation_laws.proofs.Following.{Follows}
@@ -53,10 +54,11 @@ few_cells laid h =
 
 -- ## Files
 
--- the temporaries of the graph of a body have sorts and are given, and copies follow what gives their sources
+-- the temporaries of the graph of a body have sorts and are given, and copies follow what gives their sources, and are
+-- settled
 abbrev IsSorted : LaidTree → ℕ → Type 0
 IsSorted laid body = HasSorts laid (built laid body).temps (graph_of laid body)
-    × Follows (built laid body).temps (graph_of laid body)
+    × Follows (built laid body).temps (graph_of laid body) × AreSettled (graph_of laid body)
 
 layout_sorts : (main : Option Name) (items : List ItemTree) (file : TypedFileTree) → IsTyped main items (Ok file)
     → is_exceeded file Limits.Cells ≡ false → length (layout_of file).file.mutexes ≤ 16 → (body : ℕ)
@@ -66,7 +68,7 @@ layout_sorts main items file typed within few body lt =
     let o = file_layable main items file typed in
     let x = graph_sorts file o.0 o.1 within body few (bodies_are_well_formed main items file typed)
     (sites_stand main items file typed) (bodies_are_regular main items file typed) lt in
-    (record { sorts = x.0; each = x.1; fit = x.2 }, x.3)
+    (record { sorts = x.0; each = x.1; fit = x.2 }, x.3, x.4)
 
 pub file_sorts : (laid : LaidTree) → IsLaidFile laid → (body : ℕ) → body < length laid.bodies → IsSorted laid body
 file_sorts laid h body =

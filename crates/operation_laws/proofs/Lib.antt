@@ -1,6 +1,7 @@
 pub mod Within
 pub mod StepSorts
 pub mod Following
+pub mod Settling
 pub mod BuiltSorts
 pub mod BuiltPlans
 pub mod Conversions

@@ -3,6 +3,7 @@ ghost use Rattle.std.specs.Prelude.{ℕ, ◌<◌, length};
 ghost use Rattle.temporary_types.specs.tm_laid.Layouts.{LaidTree};
 ghost use Rattle.lowering_laws.specs.lowering.Built.{built, graph_of};
 ghost use Rattle.lowering_laws.specs.LaidFiles.{IsLaidFile};
+ghost use Rattle.temporary_types.specs.Settled.{AreSettled};
 ghost use Rattle.temporary_types.specs.PointerMarks.{AreCopiesOfGiven, pointer_marks, Tells};
 ghost use Rattle.operation_laws.specs.SortedGraphs.{HasSorts};
 
@@ -26,4 +27,11 @@ pub fn pointers_are_told_in_graphs()
     ensures { (laid : LaidTree) → IsLaidFile laid → (body : ℕ) → body < length laid.bodies
         → (h : HasSorts laid (built laid body).temps (graph_of laid body)) → (temp : ℕ)
         → Tells h.sorts (pointer_marks (graph_of laid body) (built laid body).temps) temp }
+{}
+
+/// In the order of the edges of such a graph, no edge gives a temporary from the first copy of it on: what a copy takes
+/// is whole.
+pub fn copies_are_settled()
+    ensures { (laid : LaidTree) → IsLaidFile laid → (body : ℕ) → body < length laid.bodies
+        → AreSettled (graph_of laid body) }
 {}

@@ -33,6 +33,7 @@ use Rattle.program_systems.specs.edge_actions.Layouts.{spots_of}
 use Rattle.program_systems.specs.edge_filters.Tests.{IsTestable}
 use Rattle.program_systems.specs.typed_values.Types.{HaveEnds}
 use Rattle.operation_laws.specs.temporary_types.Sorts.{Sort, FitsSorts, AreSorts}
+use Rattle.program_systems.specs.state_fits.Fits.{SpotsSeen}
 use Rattle.program_systems.specs.state_fits.Typed.{PointsToObject, NamesObject, NamesObjects, SpotsAgree}
 use Rattle.operation_laws.specs.typed_file_laws.Lawful.{IsNumber}
 use Rattle.operation_laws.specs.lowering_laws.LaidFiles.{IsLaidFile}
@@ -42,6 +43,7 @@ use Rattle.operation_laws.proofs.low.lowering_laws.Ranges.{leads_on}
 use Rattle.operation_laws.proofs.low.lowering_laws.GraphLaws.{none_live}
 use Rattle.operation_laws.proofs.low.lowering_laws.Configured.{configurable}
 use Rattle.operation_laws.proofs.low.lowering_laws.TableGraphs.{constants_of_file, tests_of_file}
+use Rattle.operation_laws.specs.temporary_types.Settled.{AreSettled}
 use Rattle.operation_laws.proofs.FileSorts.{file_sorts}
 use Rattle.program_systems.specs.task_equations.Bodies.{Body, no_edge, node_at, live_at}
 use Rattle.program_systems.specs.task_equations.Premises.{IsBody}
@@ -52,8 +54,8 @@ use Rattle.program_systems.specs.program_equations.Readings.{read_layout}
 use Rattle.program_systems.specs.program_equations.Programs.{ProgramBodies, body_at, IsBodyIn, IsNumbered, IsProgramOf}
 use Rattle.program_systems.specs.program_equations.Programs.{IsTested}
 use Rattle.program_systems.specs.program_equations.Programs.{IsBodyAt}
-use Rattle.program_systems.specs.program_equations.laws.ReadAlike.{spots_read, sorts_read, agree_read}
-use Rattle.program_laws.proofs.LaidCells.{cells_agree, cells_within}
+use Rattle.program_systems.specs.program_equations.laws.ReadAlike.{spots_read, sorts_read, agree_read, seen_read}
+use Rattle.program_laws.proofs.LaidCells.{cells_agree, cells_seen}
 
 -- ## Operations
 
@@ -231,6 +233,7 @@ module _ (laid : LaidTree) (is : IsLaidFile laid) where
       spots =
           subst (λ l. SpotsAgree l b.task) (sym laid_is)
           (agree_read laid b.task (cells_agree laid is b.task));
+      seen = subst (λ l. SpotsSeen l b.task) (sym laid_is) (seen_read laid b.task (cells_seen laid is b.task));
       operations =
           subst (λ l. (k : ℕ) → k < length b.edges → FitsSorts l (sorts_at t) (get_or b.edges k no_edge).op)
           (sym laid_is)
@@ -238,6 +241,7 @@ module _ (laid : LaidTree) (is : IsLaidFile laid) where
           (of_edges (λ op. FitsSorts laid (sorts_at t) op) (sorts_fit t in_bodies) k le));
       objects = λ k le. names b.laid (get_or b.edges k no_edge).op
           (of_edges HasPlainConstant (constants_of_file laid is t) k le);
+      settled = subst AreSettled (sym edges_are) (file_sorts laid is t in_bodies).2;
     }
 
     never : NeverReturns graph
@@ -281,6 +285,7 @@ module _ (laid : LaidTree) (is : IsLaidFile laid) where
       within =
           subst (λ l. (scalar : Scalar) (spot : Spot) → IsSpotOf (spots_of l t scalar) spot
           → spot.cell < length l.abstract_cells) (sym of.laid)
-          (λ scalar spot there. cells_within laid is t scalar spot
-          (subst (λ spots. IsSpotOf spots spot) (spots_read laid t scalar) there));
+          (λ scalar spot there.
+          (let seen = cells_seen laid is t scalar spot
+          (subst (λ spots. IsSpotOf spots spot) (spots_read laid t scalar) there) in seen.cell));
     }

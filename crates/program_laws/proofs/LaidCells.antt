@@ -18,13 +18,14 @@ use Rattle.program_systems.specs.transfer_rows.Actions.{Spot}
 use Rattle.program_systems.specs.transfer_rows.Meanings.{IsSpotOf}
 use Rattle.program_systems.specs.edge_actions.Layouts.{spots_of}
 use Rattle.program_systems.specs.typed_values.Types.{IsOfType}
+use Rattle.program_systems.specs.state_fits.Fits.{SpotsSeen}
 use Rattle.program_systems.specs.state_fits.Typed.{SpotsAgree}
 use Rattle.operation_laws.specs.lowering_laws.LaidFiles.{IsLaidFile}
 use Rattle.operation_laws.proofs.low.lowering_laws.Founded.{file_layable}
 use Rattle.operation_laws.proofs.low.next_action_laws.RegularFiles.{initial_values_fit}
 use Rattle.operation_laws.proofs.FileSorts.{few_cells}
 use Rattle.program_systems.specs.program_equations.Entries.{initial_at}
-use Rattle.program_laws.proofs.SpotsOfCells.{AreCells, AreAmong, spots_agree, spots_within}
+use Rattle.program_laws.proofs.SpotsOfCells.{AreCells, AreAmong, spots_agree, spots_seen}
 use Rattle.program_laws.proofs.InitialCells.{initial_fits}
 
 -- the abstract cells of objects stand one behind the other
@@ -65,10 +66,8 @@ module _ (laid : LaidTree) (is : IsLaidFile laid) where
   pub cells_agree : (task : ℕ) → SpotsAgree laid task
   cells_agree task = spots_agree laid cells_are task
 
-  pub cells_within : (task : ℕ) (scalar : Scalar) (spot : Spot) → IsSpotOf (spots_of laid task scalar) spot
-      → spot.cell < length laid.abstract_cells
-  cells_within task scalar spot there =
-      spots_within laid cells_are (of_layout AreAmong (abstracts_among is.file)) task scalar spot there
+  pub cells_seen : (task : ℕ) → SpotsSeen laid task
+  cells_seen task = spots_seen laid cells_are (of_layout AreAmong (abstracts_among is.file)) task
 
   -- cells hold values of their types at first
   abbrev HoldsAtFirst : LaidTree → Type 0

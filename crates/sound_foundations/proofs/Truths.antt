@@ -23,7 +23,8 @@ use Rattle.operation_laws.specs.temporary_types.Sorts.{sort_of_scalar}
 use Rattle.operation_laws.specs.temporary_types.PointerMarks.{pointer_marks, IsGivenIn, is_pointers}
 use Rattle.operation_laws.proofs.low.temporary_types.Telling.{told}
 use Rattle.program_equations.specs.transfer_rows.Accesses.{is_among}
-use Rattle.program_equations.specs.Programs.{behind_given, temporaries_in, marked_from, pointers_in}
+use Rattle.operation_laws.specs.temporary_types.Temporaries.{behind_given, temporaries_in}
+use Rattle.program_equations.specs.Programs.{marked_from, pointers_in}
 use Rattle.operation_laws.specs.lowering.Built.{built, graph_of}
 use Rattle.operation_laws.specs.lowering_laws.LaidFiles.{IsLaidFile}
 use Rattle.operation_laws.specs.SortedGraphs.{HasSorts}

@@ -16,7 +16,8 @@ use Rattle.program_reports.specs.transfer_rows.Accesses.{is_among}
 use Rattle.program_reports.specs.transfer_rows.Reports.{targets_of, IsListed}
 use Rattle.program_reports.specs.interfere_set.Stores.{Interferences, are_apart}
 use Rattle.program_reports.specs.cell_env.Cells.{IsWithin}
-use Rattle.program_reports.specs.least_tables.Solutions.{NodeTable}
+use Rattle.program_reports.specs.table_covers.Solutions.{NodeTable}
+use Rattle.program_reports.specs.state_fits.laws.FileSets.{in_sixteen}
 use Rattle.program_reports.specs.task_equations.Bodies.{node_at, copy_at}
 use Rattle.program_reports.specs.task_equations.Equations.{action_along, around_along}
 use Rattle.program_reports.specs.program_equations.Programs.{ProgramBodies, body_at, IsProgram}
@@ -111,7 +112,8 @@ module _ (p : ProgramBodies) (is : IsProgram p) (n : ℕ) (number : TaskOf n →
         action = action_is p is t (within i) q here.0 e.edge e.answer k num;
         operation = ap (λ d. d.op) num.edge;
         node = ap (node_at b) num.from ∙ num.node;
-        held = subst (λ (r : ConfiguredNode). IsWithin r.held 65535) num.node (body.held here.0 known.0);
+        held = subst (λ (r : ConfiguredNode). IsWithin r.held 65535) num.node
+            (let r = node_at b here.0 in in_sixteen b.laid r.held (body.held here.0 known.0));
       }
 
   -- a class that is listed is an alarm at the place of its edge

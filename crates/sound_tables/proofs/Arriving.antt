@@ -22,13 +22,14 @@ use Rattle.program_reports.specs.transfer_rows.Covering.{AreIn, HasTemp, HasCell
 use Rattle.program_reports.specs.transfer_rows.Covering.{IsFresh, IsStored}
 use Rattle.program_reports.proofs.low.transfer_rows.CoverSteps.{none_some}
 use Rattle.program_reports.specs.typed_values.Types.{IsOfType}
-use Rattle.program_reports.specs.least_tables.Solutions.{NodeTable, IsSolution}
+use Rattle.program_reports.specs.table_covers.Solutions.{NodeTable, IsSolution}
 use Rattle.program_reports.specs.temporary_types.Sorts.{Sort}
-use Rattle.program_reports.specs.state_fits.Typed.{types_of}
+use Rattle.program_reports.specs.temporary_types.Sorts.{types_of}
+use Rattle.program_reports.specs.state_fits.Kinds.{OfTypes}
 use Rattle.program_reports.specs.state_fits.Fits.{FitsTemp, FitsCell, FitsPlace, IsSeenCell}
 use Rattle.program_reports.specs.task_equations.Bodies.{node_at, live_at}
 use Rattle.program_reports.specs.task_equations.Equations.{equations_of}
-use Rattle.program_reports.specs.task_equations.Premises.{FitsNode}
+use Rattle.program_reports.specs.task_equations.laws.Extents.{node_typed}
 use Rattle.program_reports.specs.program_equations.Programs.{ProgramBodies, body_at, IsProgram}
 use Rattle.program_reports.specs.program_equations.Systems.{states, FitsBody, FitsProgram}
 use Rattle.program_shape.specs.tm_soundness.Numbered.{TaskOf}
@@ -44,7 +45,7 @@ use Rattle.sound_tables.proofs.Raised.{up_in, up_own, up_pending, down_fresh, do
 -- ## States that fit
 
 module _ (laid : LaidTree) (task : ℕ) (types : ℕ → Scalar) (live : List ℕ) (s : State)
-    (fits : FitsPlace laid task types live s) where
+    (fits : FitsPlace laid task (OfTypes laid types) live s) where
   size_by : (scalar : Scalar) (v : Values) → IsOfType laid scalar v → (object : ℕ) (o : OffsetSet)
       → get v.pointers.objects object ≡ Some o → o.size ≡ sizes_of laid object
   size_by (Int t) v h object o at =
@@ -52,7 +53,7 @@ module _ (laid : LaidTree) (task : ℕ) (types : ℕ → Scalar) (live : List �
       (ap (λ (q : Pointers). get q.objects object) h.1 ∙ get-empty nat_cmp object) at)
   size_by (Pointer class) v h object o at = (h.2 object o at).1
 
-  size_at : (t : ℕ) (a : Option Temp) → FitsTemp laid types live t a → (object : ℕ) (o : OffsetSet)
+  size_at : (t : ℕ) (a : Option Temp) → FitsTemp (OfTypes laid types) live t a → (object : ℕ) (o : OffsetSet)
       → get (temp_value a).pointers.objects object ≡ Some o → o.size ≡ sizes_of laid object
   size_at t None h object o at =
       absurd (none_some (get (temp_value None).pointers.objects object) o (get-empty nat_cmp object) at)
@@ -73,7 +74,7 @@ module _ (laid : LaidTree) (task : ℕ) (types : ℕ → Scalar) (live : List �
   pub live_has : (t : ℕ) → is_among live t ≡ true → HasTemp s t
   live_has t is =
       let k = some_of (get s.temps t) (λ none. true_false (is_among live t) is
-      (subst (FitsTemp laid types live t) none (fits.temps t))) in
+      (subst (FitsTemp (OfTypes laid types) live t) none (fits.temps t))) in
       record { entry = k.0; stands = k.1 }
 
   -- a cell that is static or the task's own has an entry
@@ -102,7 +103,8 @@ module _ (p : ProgramBodies) (is : IsProgram p) (n : ℕ) (number : TaskOf n →
   reached q = state_at p n number rank tables q
 
   abbrev pub Fits : TaskOf n → ℕ → State → Type 0
-  Fits i place s = FitsPlace p.laid (number i) (types_of (sorts_at i)) (live_at (body_at p (number i)) place) s
+  Fits i place s =
+      FitsPlace p.laid (number i) (OfTypes p.laid (types_of (sorts_at i))) (live_at (body_at p (number i)) place) s
 
   -- a state that fits a node fits its place
   pub fits_place : (i : TaskOf n) (k : ℕ) (q : ConfiguredNode) (s : State) → node_at (body_at p (number i)) k ≡ q
@@ -110,11 +112,13 @@ module _ (p : ProgramBodies) (is : IsProgram p) (n : ℕ) (number : TaskOf n →
   fits_place i k q s node fits =
       let b = body_at p (number i) in
       let at = is.each (number i) (within i) in
-      let h : FitsNode b (sorts_at i) k s = fits (sorts_at i) at.body in
+      let h = node_typed b (sorts_at i) at.body k s fits in
       subst (λ (r : ConfiguredNode). Fits i r.place s) node
-      (subst (λ t. (let r = node_at b k in FitsPlace p.laid t (types_of (sorts_at i)) (live_at b r.place) s))
+      (subst (λ t. (let r = node_at b k in
+      FitsPlace p.laid t (OfTypes p.laid (types_of (sorts_at i))) (live_at b r.place) s))
       at.numbered.number
-      (subst (λ l. (let r = node_at b k in FitsPlace l b.task (types_of (sorts_at i)) (live_at b r.place) s))
+      (subst (λ l. (let r = node_at b k in
+      FitsPlace l b.task (OfTypes l (types_of (sorts_at i))) (live_at b r.place) s))
       at.numbered.laid h))
 
   -- the state of a node fits its place

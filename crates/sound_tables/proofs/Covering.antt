@@ -9,6 +9,7 @@ use Rattle.std.specs.Int.{bit_at}
 use Rattle.std.proofs.lemmas.Nat.Bits.{bit_at_or, bit_at_above}
 use Rattle.program_reports.specs.cell_env.Cells.{IsWithin}
 use Rattle.program_reports.specs.state_fits.Fits.{FitsCell}
+use Rattle.program_reports.specs.state_fits.laws.FileSets.{in_sixteen}
 use Rattle.program_shape.specs.tm_laid.declared.objects.LaidObject.{LaidObject}
 use Rattle.program_shape.specs.tm_laid.Layouts.{no_object}
 use Rattle.program_reports.specs.edge_actions.Layouts.{is_owned_by}
@@ -233,7 +234,8 @@ pub cell_pending : (laid : LaidTree) (task x : ℕ) (a : Option Cell) (c : Cell)
     → IsWithin c.pending 65535
 cell_pending laid task x None c fits e = absurd (cc)
 cell_pending laid task x (Some d) c fits e =
-    subst (λ (z : Cell). IsWithin z.pending 65535) (let f : d ≡ c = cc in f) fits.1.pending
+    subst (λ (z : Cell). IsWithin z.pending 65535) (let f : d ≡ c = cc in f)
+    (in_sixteen laid d.pending fits.1.pending)
 
 -- ## Rows
 

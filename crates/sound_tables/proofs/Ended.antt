@@ -16,7 +16,7 @@ use Rattle.program_shape.specs.tm_lattice.Tables.{IsBelow, joined_at}
 use Rattle.program_reports.specs.transfer_rows.StateForms.{Cell, State, IsStateForm, IsStateUnder, IsCellUnder}
 use Rattle.program_reports.specs.transfer_rows.StateForms.{own_value, own_of}
 use Rattle.program_reports.proofs.low.transfer_rows.CoverSteps.{none_has}
-use Rattle.program_reports.specs.least_tables.Solutions.{NodeTable}
+use Rattle.program_reports.specs.table_covers.Solutions.{NodeTable}
 use Rattle.program_reports.specs.state_fits.laws.PlacesFit.{states_join}
 use Rattle.program_reports.specs.program_equations.Entries.{is_left, is_end, ended_below}
 

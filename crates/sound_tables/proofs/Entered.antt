@@ -11,7 +11,7 @@ use Rattle.program_reports.specs.pointer_dom.Values.{Values, IsValueIn}
 use Rattle.program_reports.specs.interfere_set.Stores.{Interferences}
 use Rattle.program_reports.specs.transfer_rows.StateForms.{State}
 use Rattle.program_reports.specs.edge_actions.Layouts.{is_shared_cell, open_value}
-use Rattle.program_reports.specs.least_tables.Solutions.{NodeTable, IsSolution}
+use Rattle.program_reports.specs.table_covers.Solutions.{NodeTable, IsSolution}
 use Rattle.program_reports.specs.task_equations.Equations.{equations_of}
 use Rattle.program_reports.specs.program_equations.Programs.{ProgramBodies, body_at, IsProgram}
 use Rattle.program_reports.specs.program_equations.Entries.{initial_of, entry_state, first_state}

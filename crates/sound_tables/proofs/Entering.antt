@@ -16,8 +16,9 @@ use Rattle.program_reports.specs.transfer_rows.StateForms.{Temp, State, own_of}
 use Rattle.program_reports.specs.transfer_rows.Accesses.{is_among}
 use Rattle.program_reports.specs.transfer_rows.Meanings.{Valuation}
 use Rattle.program_reports.specs.transfer_rows.Covering.{AreIn, IsFresh, IsStored}
-use Rattle.program_reports.specs.least_tables.Solutions.{NodeTable, IsSolution}
-use Rattle.program_reports.specs.state_fits.Typed.{types_of}
+use Rattle.program_reports.specs.table_covers.Solutions.{NodeTable, IsSolution}
+use Rattle.program_reports.specs.temporary_types.Sorts.{types_of}
+use Rattle.program_reports.specs.state_fits.Kinds.{OfTypes}
 use Rattle.program_reports.specs.state_fits.Fits.{FitsTemp}
 use Rattle.program_reports.specs.task_equations.Bodies.{Body, node_at, live_at}
 use Rattle.program_reports.specs.task_equations.Equations.{equations_of}
@@ -110,7 +111,7 @@ module _ (p : ProgramBodies) (is : IsProgram p) (n : ℕ) (number : TaskOf n →
         fresh_lowered = down_fresh p.laid t types live s arrival.state low high arrival.under;
         stored_lowered = down_stored p.laid t types live s arrival.state low high arrival.under;
         no_temps = λ u e at.
-            let k = subst (FitsTemp p.laid types live u) at (high.temps u) in
+            let k = subst (FitsTemp (OfTypes p.laid types) live u) at (high.temps u) in
             true_false (is_among [] u) (subst (λ l. is_among l u ≡ true) begins-with k.0) refl;
       }
 

@@ -7,7 +7,7 @@ use Rattle.std.proofs.lemmas.Bool.{cases_lt}
 use Rattle.program_shape.specs.flow_graph.Operations.{Temps}
 use Rattle.program_reports.specs.interfere_set.Stores.{no_interference}
 use Rattle.program_reports.specs.transfer_rows.StateForms.{State}
-use Rattle.program_reports.specs.least_tables.Solutions.{at}
+use Rattle.program_reports.specs.table_covers.Solutions.{at}
 use Rattle.program_reports.specs.program_equations.Programs.{ProgramBodies, body_at, HasSection}
 use Rattle.program_reports.specs.program_equations.Entries.{first_state, later_state, ended}
 use Rattle.program_reports.specs.program_equations.Systems.{task_entry}

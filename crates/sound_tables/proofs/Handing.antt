@@ -9,7 +9,7 @@ use Rattle.program_shape.specs.mutex_configs.declared.nodes.ConfiguredNode.{Conf
 use Rattle.program_reports.specs.pointer_dom.Values.{IsValueIn}
 use Rattle.program_reports.specs.interfere_set.Stores.{Interferences}
 use Rattle.program_reports.specs.transfer_rows.StateForms.{State, IsStateForm, own_of}
-use Rattle.program_reports.specs.least_tables.Solutions.{NodeTable, at}
+use Rattle.program_reports.specs.table_covers.Solutions.{NodeTable, at}
 use Rattle.program_reports.specs.task_equations.Bodies.{Body}
 use Rattle.program_reports.specs.program_equations.Programs.{ProgramBodies, body_at, HasSection, IsProgram}
 use Rattle.program_reports.specs.program_equations.Entries.{entry_state, later_state, first_state, ended, is_left}
@@ -48,7 +48,7 @@ module _ (p : ProgramBodies) (is : IsProgram p) (has : HasSection p) (section : 
 
   if_form : (n : ℕ) (a : Option State) → IfSome a (FitsBody b n) → IfSome a IsStateForm
   if_form n None h = tt
-  if_form n (Some s) h = let f = h (is.sorts p.tasks) (is.each p.tasks has).body in f.form
+  if_form n (Some s) h = h.form
 
   pub forms : (n : ℕ) → n < length b.nodes → IfSome (at section n) IsStateForm
   forms n lt = let solved = whole.begins has in if_form n (at section n) (solved.fits n lt)

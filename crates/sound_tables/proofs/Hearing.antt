@@ -5,7 +5,7 @@ use Rattle.program_reports.specs.pointer_dom.Values.{IsValueIn}
 use Rattle.program_reports.specs.interfere_set.Stores.{Interferences, reader_of, visible, handed}
 use Rattle.program_reports.specs.transfer_rows.StateForms.{State}
 use Rattle.program_reports.specs.transfer_rows.Reports.{weak_of, sync_of}
-use Rattle.program_reports.specs.least_tables.Solutions.{NodeTable}
+use Rattle.program_reports.specs.table_covers.Solutions.{NodeTable}
 use Rattle.program_reports.specs.program_equations.Programs.{ProgramBodies}
 use Rattle.program_shape.specs.tm_soundness.Numbered.{TaskOf}
 use Rattle.program_shape.specs.Shape.{Copy, Has, from_of}

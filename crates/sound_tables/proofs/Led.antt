@@ -28,11 +28,11 @@ use Rattle.program_reports.specs.interfere_set.Stores.{Interferences}
 use Rattle.program_reports.specs.transfer_rows.StateForms.{State, IsStateUnder}
 use Rattle.program_reports.specs.transfer_rows.Actions.{Around}
 use Rattle.program_reports.specs.transfer_rows.Rows.{after}
-use Rattle.program_reports.specs.least_tables.declared.links.Link.{Link}
-use Rattle.program_reports.specs.least_tables.Systems.{System, IsLawfulSystem, no_link, from_of, to_of}
-use Rattle.program_reports.specs.least_tables.Solutions.{NodeTable, brought, IsSolution}
-use Rattle.program_reports.specs.least_tables.Solutions as solutions
-use Rattle.program_reports.specs.least_tables.laws.Closing as closing
+use Rattle.program_reports.specs.table_covers.declared.links.Link.{Link}
+use Rattle.program_reports.specs.table_covers.Systems.{System, IsLawfulSystem, no_link, from_of, to_of}
+use Rattle.program_reports.specs.table_covers.Solutions.{NodeTable, brought, IsSolution}
+use Rattle.program_reports.specs.table_covers.Solutions as solutions
+use Rattle.program_reports.specs.table_covers.laws.Closing as closing
 use Rattle.program_reports.specs.state_fits.laws.PlacesFit.{states_order, states_join}
 use Rattle.program_reports.specs.task_equations.Bodies.{Body, no_copy, edge_of, node_at, copy_at}
 use Rattle.program_reports.specs.task_equations.Equations.{equations_of, link_of, action_along, around_along, led}

@@ -3,7 +3,7 @@ use Rattle.std.specs.Prelude.{ℕ, Option, Some, None}
 use Rattle.program_shape.specs.concrete_values.declared.values.Value.{Value}
 use Rattle.program_shape.specs.flow_graph.Operations.{Temps}
 use Rattle.program_reports.specs.transfer_rows.StateForms.{State}
-use Rattle.program_reports.specs.least_tables.Solutions.{NodeTable}
+use Rattle.program_reports.specs.table_covers.Solutions.{NodeTable}
 use Rattle.program_reports.specs.program_equations.Programs.{ProgramBodies}
 use Rattle.program_shape.specs.tm_soundness.Numbered.{TaskOf}
 use Rattle.program_shape.specs.tm_soundness.Shape.{Shape, Content}

@@ -21,7 +21,8 @@ use Rattle.program_reports.specs.transfer_rows.Accesses.{is_among}
 use Rattle.program_reports.specs.transfer_rows.Covering.{AreIn}
 use Rattle.program_reports.proofs.low.transfer_rows.CoverSteps.{none_has}
 use Rattle.program_reports.specs.typed_values.Types.{IsOfType}
-use Rattle.program_reports.specs.state_fits.Typed.{type_of_sort, type_of_some, types_of}
+use Rattle.program_reports.specs.temporary_types.Sorts.{type_of_sort, type_of_some, types_of}
+use Rattle.program_reports.specs.state_fits.Kinds.{OfTypes}
 use Rattle.program_reports.specs.state_fits.Fits.{FitsTemp, FitsPlace}
 use Rattle.program_reports.specs.state_fits.laws.Exact.{wider_type}
 use Rattle.program_reports.specs.temporary_types.Sorts.{Sort, numbers, pointers, Holds}
@@ -74,8 +75,9 @@ typed_value laid pointers v h (APointer (Pointers.To o k')) k =
     (Pointers.To o k', refl, offset_by laid o k' (get v.pointers.objects o) (h.1 o) (h.2 o) k)
 
 module _ (laid : LaidTree) (task : ℕ) (sorts : List Sort) (live : List ℕ) (s : State)
-    (fits : FitsPlace laid task (types_of sorts) live s) (temps : Temps) (ins : AreIn s (scalars_as temps)) where
-  fitting : (u : ℕ) (a : Option Temp) (e : Temp) → a ≡ Some e → FitsTemp laid (types_of sorts) live u a
+    (fits : FitsPlace laid task (OfTypes laid (types_of sorts)) live s) (temps : Temps)
+    (ins : AreIn s (scalars_as temps)) where
+  fitting : (u : ℕ) (a : Option Temp) (e : Temp) → a ≡ Some e → FitsTemp (OfTypes laid (types_of sorts)) live u a
       → IsOfType laid (types_of sorts u) e.value
   fitting u None e is h = absurd (cc)
   fitting u (Some d) e is h =

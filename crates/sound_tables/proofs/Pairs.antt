@@ -20,9 +20,10 @@ use Rattle.program_reports.specs.transfer_rows.Reports.{weak_of, sync_of, left_b
 use Rattle.program_reports.specs.transfer_rows.Contributions.{added, entry_at}
 use Rattle.program_reports.proofs.low.transfer_rows.Contributing.{weak_added, sync_added}
 use Rattle.program_reports.proofs.low.transfer_rows.CoverSteps.{none_has}
-use Rattle.program_reports.specs.least_tables.declared.links.Link.{Link}
-use Rattle.program_reports.specs.least_tables.Systems.{no_link, from_of}
-use Rattle.program_reports.specs.least_tables.Solutions.{NodeTable, IsSolution}
+use Rattle.program_reports.specs.table_covers.declared.links.Link.{Link}
+use Rattle.program_reports.specs.table_covers.Systems.{no_link, from_of}
+use Rattle.program_reports.specs.table_covers.Solutions.{NodeTable, IsSolution}
+use Rattle.program_reports.specs.state_fits.laws.FileSets.{in_sixteen}
 use Rattle.program_reports.specs.task_equations.Bodies.{no_copy, copy_at}
 use Rattle.program_reports.specs.task_equations.Equations.{equations_of, link_of, added_along, around_along}
 use Rattle.program_reports.specs.program_equations.Programs.{ProgramBodies, body_at, HasSection, IsProgram}
@@ -199,7 +200,7 @@ module _ (p : ProgramBodies) (is : IsProgram p) (section : List (Option State)) 
     weak_out = λ i j held found x l fresh v other apart why h.
         let k = entry_of (scalar_as v) x store.weak (number j) l h in
         entry_seen (reader_of (number i) held found p.priorities) fresh (number j) l
-        (whole.fits.weak.sets (number j) l k.written k.cells k.at_writer k.at_set)
+        (in_sixteen p.laid l (whole.fits.weak.sets (number j) l k.written k.cells k.at_writer k.at_set))
         (λ same. other (number_same p.tasks j i same)) apart why x store whole.fits.form (scalar_as v) h;
     sync_out = λ i j m x v other h.
         entry_handed (number i) m x (number j) store whole.fits.form

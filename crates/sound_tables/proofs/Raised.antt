@@ -18,6 +18,7 @@ use Rattle.program_reports.specs.transfer_rows.Meanings.{Valuation}
 use Rattle.program_reports.specs.transfer_rows.Covering.{AreIn, IsCopyOf, IsPending, IsFresh, IsStored}
 use Rattle.program_reports.proofs.low.transfer_rows.CoverSteps.{none_has}
 use Rattle.program_reports.specs.state_fits.Fits.{FitsTemp, FitsCell, FitsPlace}
+use Rattle.program_reports.specs.state_fits.Kinds.{OfTypes}
 
 same_some : {A : Type 0} (a b : A) → Some a ≡ Some b → a ≡ b
 same_some a b e = cc
@@ -26,10 +27,12 @@ true_false : (b : Bool) → b ≡ true → b ≡ false → ⊥
 true_false b t f = cc
 
 module _ (laid : LaidTree) (task : ℕ) (types : ℕ → Scalar) (live : List ℕ) (s r : State)
-    (s-fits : FitsPlace laid task types live s) (r-fits : FitsPlace laid task types live r) (under : IsStateUnder s r)
+    (s-fits : FitsPlace laid task (OfTypes laid types) live s)
+    (r-fits : FitsPlace laid task (OfTypes laid types) live r) (under : IsStateUnder s r)
   where
-    temp_by : (t : ℕ) (a b : Option Temp) (e : Temp) → FitsTemp laid types live t a → FitsTemp laid types live t b
-        → IsBelow IsTempUnder a b → b ≡ Some e → (d : Temp) × (a ≡ Some d) × IsTempUnder d e
+    temp_by : (t : ℕ) (a b : Option Temp) (e : Temp) → FitsTemp (OfTypes laid types) live t a
+        → FitsTemp (OfTypes laid types) live t b → IsBelow IsTempUnder a b → b ≡ Some e
+        → (d : Temp) × (a ≡ Some d) × IsTempUnder d e
     temp_by t None None e x y le is = absurd (cc)
     temp_by t None (Some d) e x y le is = absurd (true_false (is_among live t) y.0 x)
     temp_by t (Some d) None e x y le is = absurd le

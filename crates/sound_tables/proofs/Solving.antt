@@ -50,8 +50,9 @@ use Rattle.program_reports.proofs.low.transfer_rows.Covers.{load_covers, load_an
 use Rattle.program_reports.proofs.low.transfer_rows.Covers.{lock_covers, unlock_covers, held_covers, free_covers}
 use Rattle.program_reports.proofs.low.transfer_rows.Covers.{yield_covers}
 use Rattle.program_reports.specs.edge_actions.Layouts.{is_shared_cell, is_smashed_cell, spots_of}
-use Rattle.program_reports.specs.least_tables.Solutions.{NodeTable, IsSolution}
-use Rattle.program_reports.specs.state_fits.Typed.{types_of}
+use Rattle.program_reports.specs.table_covers.Solutions.{NodeTable, IsSolution}
+use Rattle.program_reports.specs.temporary_types.Sorts.{types_of}
+use Rattle.program_reports.specs.state_fits.Kinds.{OfTypes}
 use Rattle.program_reports.specs.state_fits.Fits.{IsSeenCell, FitsPlace}
 use Rattle.program_reports.specs.task_equations.Bodies.{live_at}
 use Rattle.program_reports.specs.task_equations.Equations.{equations_of, tests_pointer}
@@ -119,7 +120,7 @@ module _ (p : ProgramBodies) (is : IsProgram p) (n : ℕ) (number : TaskOf n →
     pub at : at_from e ≡ Some state
     pub ins : AreIn state (scalars_as temps)
     pub copies : CopiesStand state
-    pub fits : FitsPlace p.laid (number e.actor) (types_of (is.sorts (number e.actor)))
+    pub fits : FitsPlace p.laid (number e.actor) (OfTypes p.laid (types_of (is.sorts (number e.actor))))
         (live_at (body_at p (number e.actor)) e.edge.from) state
 
   here : (e : Edges) (temps : Temps) → T.inside (P.from e) temps → IsHere e temps

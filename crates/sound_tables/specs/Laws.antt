@@ -3,7 +3,7 @@ use Rattle.std.specs.Prelude.{◌≡◌, ℕ, ◌<◌, List, length, Option, Som
 use Rattle.program_shape.specs.tm_cint.declared.Class.{Class}
 use Rattle.program_shape.specs.tm_cint.declared.Class.TheVariants.{Race}
 use Rattle.program_shape.specs.tm_terms.declared.places.Place.{Place}
-use Rattle.program_reports.specs.least_tables.Solutions.{NodeTable}
+use Rattle.program_reports.specs.table_covers.Solutions.{NodeTable}
 use Rattle.program_reports.specs.Reports.{IsAlarm}
 use Rattle.program_shape.specs.tm_soundness.Reports.{IsRaceListed}
 use Rattle.program_reports.specs.interfere_set.Stores.{Interferences}

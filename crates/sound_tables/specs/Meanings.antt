@@ -13,7 +13,8 @@ use Rattle.program_reports.specs.transfer_rows.Actions.{Action, skips, gives, re
 use Rattle.program_reports.specs.transfer_rows.Meanings.{Valuation, put, MayGive, Fails as MayFail, Passes, IsOperand}
 use Rattle.program_reports.specs.transfer_rows.Meanings.{IsFiltered}
 use Rattle.program_reports.specs.transfer_rows.Covering.{AreIn}
-use Rattle.program_reports.specs.state_fits.Typed.{types_of}
+use Rattle.program_reports.specs.temporary_types.Sorts.{types_of}
+use Rattle.program_reports.specs.state_fits.Kinds.{OfTypes}
 use Rattle.program_reports.specs.state_fits.Fits.{FitsPlace}
 use Rattle.program_reports.specs.temporary_types.Sorts.{Sort}
 use Rattle.program_reports.specs.task_equations.Bodies.{live_at}
@@ -55,10 +56,10 @@ sizes_of laid object = (object_at laid object).cells
 -- the place.
 pub record HaveMeanings (p : ProgramBodies) (t : ℕ) (sorts : List Sort) : Type 0 where
   pub does : (e : Edge) → (let b = body_at p t in Among e b.edges) → (s : State)
-      → FitsPlace p.laid t (types_of sorts) (live_at (body_at p t) e.from) s → (temps temps' : Temps)
+      → FitsPlace p.laid t (OfTypes p.laid (types_of sorts)) (live_at (body_at p t) e.from) s → (temps temps' : Temps)
       → AreIn s (scalars_as temps) → Does p.laid e.op temps temps'
       → (answer : Bool) → Means (sizes_of p.laid) (action_at p t answer e.op) (scalars_as temps) (scalars_as temps')
   pub fails : (e : Edge) → (let b = body_at p t in Among e b.edges) → (s : State)
-      → FitsPlace p.laid t (types_of sorts) (live_at (body_at p t) e.from) s → (temps : Temps) (class : Class)
-      → AreIn s (scalars_as temps) → Fails p.laid e.op temps class
+      → FitsPlace p.laid t (OfTypes p.laid (types_of sorts)) (live_at (body_at p t) e.from) s → (temps : Temps)
+      (class : Class) → AreIn s (scalars_as temps) → Fails p.laid e.op temps class
       → (answer : Bool) → FailsAs (sizes_of p.laid) (action_at p t answer e.op) (scalars_as temps) class

@@ -21,7 +21,7 @@ use Rattle.program_reports.specs.transfer_rows.Meanings.{Valuation}
 use Rattle.program_reports.specs.transfer_rows.Covering.{AreIn, HasCell, IsCopyOf, IsPending, IsFresh, IsStored}
 use Rattle.program_reports.specs.edge_actions.Layouts.{is_shared_cell, is_smashed_cell}
 use Rattle.program_reports.specs.edge_actions.Edges.{action_of}
-use Rattle.program_reports.specs.least_tables.Solutions.{NodeTable}
+use Rattle.program_reports.specs.table_covers.Solutions.{NodeTable}
 use Rattle.program_reports.specs.task_equations.Bodies.{live_at}
 use Rattle.program_reports.specs.task_equations.Equations.{tests_pointer}
 use Rattle.program_reports.specs.program_equations.Programs.{ProgramBodies, body_at}

@@ -7,8 +7,7 @@ use Rattle.temporary_types.specs.tm_typed.declared.types.Scalar.TheVariants as S
 use Rattle.temporary_types.specs.tm_laid.Layouts.{LaidTree}
 use Rattle.temporary_types.specs.flow_graph.declared.operations.Operation.{Operation}
 use Rattle.temporary_types.specs.flow_graph.declared.operations.Operation.TheVariants as Op
-use Rattle.temporary_types.specs.Sorts.{Sort, numbers, pointers, FitsSorts}
-use Rattle.state_fits.specs.Typed.{types_of}
+use Rattle.temporary_types.specs.Sorts.{Sort, numbers, pointers, FitsSorts, types_of}
 
 abbrev at : Place
 at = record { line = 1; col = 1 }

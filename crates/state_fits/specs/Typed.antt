@@ -1,8 +1,6 @@
 -- What an operation names, and which cells an access reaches.
-use Rattle.std.specs.Prelude.{ℕ, ◌<◌, List, length, Option, Some, None, slice_get}
-use Rattle.temporary_types.specs.tm_cint.declared.int_types.IntType.TheVariants as Ints
+use Rattle.std.specs.Prelude.{ℕ, ◌<◌, length}
 use Rattle.temporary_types.specs.tm_typed.declared.types.Scalar.{Scalar}
-use Rattle.temporary_types.specs.tm_typed.declared.types.Scalar.TheVariants as Scalars
 use Rattle.temporary_types.specs.tm_laid.Layouts.{LaidTree, abstract_at}
 use Rattle.edge_actions.specs.transfer_rows.Actions.{Spot}
 use Rattle.edge_actions.specs.transfer_rows.Meanings.{IsSpotOf}
@@ -14,23 +12,6 @@ use Rattle.temporary_types.specs.concrete_values.declared.values.Value.TheVarian
 use Rattle.typed_values.specs.Types.{HaveSameValues}
 use Rattle.temporary_types.specs.flow_graph.declared.operations.Operation.{Operation}
 use Rattle.temporary_types.specs.flow_graph.declared.operations.Operation.TheVariants as Op
-use Rattle.temporary_types.specs.Sorts.{Sort, numbers, pointers}
-
--- ## Types of temporaries
-
--- The type of what is of a sort: pointers of all types are alike, so that the first class stands for all.
-abbrev pub type_of_sort : Sort → Scalar
-type_of_sort (numbers t) = Scalars.Int t
-type_of_sort pointers = Scalars.Pointer 0
-
--- that of a temporary without a sort, which nothing uses, is `int`
-abbrev pub type_of_some : Option Sort → Scalar
-type_of_some None = Scalars.Int Ints.Int
-type_of_some (Some s) = type_of_sort s
-
--- the types of temporaries with these sorts
-abbrev pub types_of : List Sort → ℕ → Scalar
-types_of sorts temp = type_of_some (slice_get sorts temp)
 
 -- ## Objects
 

@@ -1,3 +1,4 @@
+pub mod FileSets
 pub mod StoresFit
 pub mod EffectsFit
 pub mod ActionsFit
@@ -5,6 +6,8 @@ pub mod ExactTypes
 pub mod OperationsFit
 pub mod Exact
 pub mod Given
+pub mod ExtentKinds
+pub mod OperationsWithin
 pub mod AfterFits
 pub mod PlacesFit
 pub mod TopStates

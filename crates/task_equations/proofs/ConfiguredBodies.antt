@@ -1,8 +1,8 @@
 -- A body of a configured graph keeps what the equations ask of it.
 use Rattle.std.specs.Prelude.{◌≡◌, ◌≢◌, ℕ, ◌<◌, List, All}
 use Rattle.std.proofs.Common.{sym, ap, subst, ◌∙◌}
-use Rattle.std.proofs.lemmas.List.Elements.{All-contains_itself}
-use Rattle.state_fits.specs.temporary_types.Sorts.{Sort}
+use Rattle.std.proofs.lemmas.List.Elements.{All-contains_itself, All-from_get_or}
+use Rattle.state_fits.specs.temporary_types.Sorts.{Sort, FitsSorts}
 use Rattle.mutex_configs.specs.flow_graph.declared.graphs.Edge.{Edge}
 use Rattle.mutex_configs.specs.flow_graph.declared.graphs.Graph.{Graph}
 use Rattle.mutex_configs.specs.flow_graph.Graphs.{Edges}
@@ -11,9 +11,8 @@ use Rattle.mutex_configs.specs.graph_facts.Heads.{IsHeadUpTo}
 use Rattle.mutex_configs.specs.declared.nodes.ConfiguredNode.{ConfiguredNode}
 use Rattle.mutex_configs.specs.declared.nodes.ConfiguredGraph.{ConfiguredGraph}
 use Rattle.mutex_configs.specs.Graphs.{IsGraph}
-use Rattle.mutex_configs.specs.Sets.{IsOfSixteen}
 use Rattle.mutex_configs.specs.Nodes.{AreNodes, IsConfigured, entry_node, all_copies}
-use Rattle.task_equations.specs.Bodies.{Body, no_copy, node_at}
+use Rattle.task_equations.specs.Bodies.{Body, no_edge, no_copy, node_at}
 use Rattle.task_equations.specs.Equations.{cells_rounded}
 use Rattle.task_equations.specs.Premises.{IsBody}
 use Rattle.task_equations.specs.Configured.{NeverReturns, IsBodyOf, IsTypedBody}
@@ -45,15 +44,18 @@ module _ (g : Graph) (c : ConfiguredGraph) (b : Body) (sorts : List Sort) (graph
   configured_body = record {
     some = (entry_first b.edges b.nodes nodes_are).0;
     copies = λ k lt. copies_are b copies_of k no_copy lt;
-    held = λ n lt. held_reached b.edges (all_edges (λ (e : Edge). IsOfSixteen e.op) graph.mutexes) (node_at b n)
+    held = λ n lt. held_reached b.laid sorts b.edges
+        (All-from_get_or (λ (e : Edge). FitsSorts b.laid sorts e.op) b.edges no_edge typed.operations) (node_at b n)
         ((nodes_are.reached (node_at b n)).0 (All-contains_itself b.nodes n entry_node lt));
     entry =
         ap (λ (q : ConfiguredNode). cells_rounded b.heads b.written q.place) (entry_first b.edges b.nodes nodes_are).1
         ∙ entry_plain b.edges b.heads b.written (all_edges (λ (e : Edge). e.to ≢ 0) never) heads_are;
     marks = typed.marks;
     spots = typed.spots;
+    seen = typed.seen;
     operations = typed.operations;
     objects = typed.objects;
+    settled = typed.settled;
     flow = λ k lt t is other. flows b.edges g.nodes b.live live_are
         (all_edges (λ (e : Edge). e.from < g.nodes) graph.from) (all_edges (λ (e : Edge). e.to < g.nodes) graph.to)
         k lt t is other;

@@ -5,9 +5,9 @@ use Rattle.std.specs.FinMap as map
 use Rattle.std.specs.FinMap.{get, insert}
 use Rattle.std.specs.Option.{option_map}
 use Rattle.mutex_configs.specs.strided_dom.Progression.{single}
-use Rattle.least_tables.specs.tm_lattice.Tables.{changed_table}
-use Rattle.least_tables.specs.tm_lattice.laws.TableLaws.{get-insert_here, get-insert_there}
-use Rattle.least_tables.specs.tm_lattice.laws.SelectedLaws.{changed_at, get-changed_table}
+use Rattle.table_covers.specs.tm_lattice.Tables.{changed_table}
+use Rattle.table_covers.specs.tm_lattice.laws.TableLaws.{get-insert_here, get-insert_there}
+use Rattle.table_covers.specs.tm_lattice.laws.SelectedLaws.{changed_at, get-changed_table}
 use Rattle.mutex_configs.specs.tm_cint.declared.int_types.IntType.TheVariants.{Int}
 use Rattle.mutex_configs.specs.tm_terms.declared.places.Place.{Place}
 use Rattle.mutex_configs.specs.tm_typed.declared.types.Scalar.TheVariants as Scalars

@@ -7,6 +7,8 @@ use Rattle.mutex_configs.specs.graph_facts.Heads.{AreHeads}
 use Rattle.mutex_configs.specs.declared.nodes.ConfiguredGraph.{ConfiguredGraph}
 use Rattle.state_fits.specs.typed_values.Types.{HaveEnds}
 use Rattle.state_fits.specs.temporary_types.Sorts.{Sort, FitsSorts}
+use Rattle.state_fits.specs.temporary_types.Settled.{AreSettled}
+use Rattle.state_fits.specs.Fits.{SpotsSeen}
 use Rattle.state_fits.specs.Typed.{SpotsAgree, NamesObjects}
 use Rattle.task_equations.specs.Bodies.{Body, no_edge}
 
@@ -22,10 +24,12 @@ pub record IsBodyOf (g : Graph) (c : ConfiguredGraph) (b : Body) : Type 0 where
   pub live : AreLive g.edges.items g.nodes b.live
   pub heads : AreHeads g.edges.items b.heads
 
--- Thresholds have the ends of the types, accesses find cells of theirs, operations fit the sorts of temporaries, and
--- constant pointers lead to objects that there are.
+-- Thresholds have the ends of the types, accesses find cells of theirs that the body sees, operations fit the sorts of
+-- temporaries, constant pointers lead to objects that there are, and no edge gives a temporary anew that was copied.
 pub record IsTypedBody (b : Body) (sorts : List Sort) : Type 0 where
   pub marks : HaveEnds b.marks
   pub spots : SpotsAgree b.laid b.task
+  pub seen : SpotsSeen b.laid b.task
   pub operations : (k : ℕ) → k < length b.edges → (let e = get_or b.edges k no_edge in FitsSorts b.laid sorts e.op)
   pub objects : (k : ℕ) → k < length b.edges → (let e = get_or b.edges k no_edge in NamesObjects b.laid e.op)
+  pub settled : AreSettled b.edges

@@ -16,8 +16,8 @@ use Rattle.state_fits.specs.transfer_rows.Rows.{after}
 use Rattle.state_fits.specs.transfer_rows.Contributions.{added}
 use Rattle.state_fits.specs.edge_actions.Layouts.{is_shared_cell, is_smashed_cell}
 use Rattle.state_fits.specs.edge_actions.Edges.{action_of}
-use Rattle.least_tables.specs.declared.links.Link.{Link}
-use Rattle.least_tables.specs.Systems.{System}
+use Rattle.table_covers.specs.declared.links.Link.{Link}
+use Rattle.table_covers.specs.Systems.{System}
 use Rattle.task_equations.specs.Bodies.{Body, edge_of, node_at, copy_at, live_at}
 use Rattle.state_fits.specs.value_heights.Heights.{value_height}
 use Rattle.state_fits.specs.Tops.{top_state}

@@ -8,12 +8,12 @@ ghost use Rattle.mutex_configs.specs.flow_graph.declared.graphs.Graph.{Graph};
 ghost use Rattle.mutex_configs.specs.declared.nodes.ConfiguredGraph.{ConfiguredGraph};
 ghost use Rattle.mutex_configs.specs.Graphs.{IsGraph};
 ghost use Rattle.mutex_configs.specs.Nodes.{IsConfigured};
-ghost use Rattle.least_tables.specs.Systems.{IsLawfulSystem};
+ghost use Rattle.table_covers.specs.Systems.{IsLawfulSystem};
 ghost use Rattle.state_fits.specs.temporary_types.Sorts.{Sort};
 ghost use Rattle.state_fits.specs.Fits.{FitsStore};
 ghost use Rattle.task_equations.specs.Bodies.{Body};
 ghost use Rattle.task_equations.specs.Equations.{equations_of};
-ghost use Rattle.task_equations.specs.Premises.{IsBody, FitsNode};
+ghost use Rattle.task_equations.specs.Premises.{IsBody, FitsBody};
 ghost use Rattle.task_equations.specs.Configured.{NeverReturns, IsBodyOf, IsTypedBody};
 
 /// The equations of a body over a store that fits are a system of equations: what each copy of an edge brings fits and
@@ -21,8 +21,8 @@ ghost use Rattle.task_equations.specs.Configured.{NeverReturns, IsBodyOf, IsType
 /// heights of the states that fit a node are limited. So they have one least solution.
 pub fn equations_are_lawful()
     ensures { (b : Body) (sorts : List Sort) → IsBody b sorts → (tasks : ℕ) (store : Interferences)
-        → FitsStore b.laid tasks store → (entry : Option State) → IfSome entry (FitsNode b sorts 0)
-        → IsLawfulSystem IsStateForm IsStateUnder (joined_state joined_values) (FitsNode b sorts)
+        → FitsStore b.laid tasks store → (entry : Option State) → IfSome entry (FitsBody b 0)
+        → IsLawfulSystem IsStateForm IsStateUnder (joined_state joined_values) (FitsBody b)
         (equations_of b entry store) }
 {}
 

@@ -1,4 +1,5 @@
 mod MarkSteps
+mod Counting
 pub mod Telling
 mod Tried
 pub mod low

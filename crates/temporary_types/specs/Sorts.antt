@@ -154,3 +154,19 @@ FitsSorts laid sorts op = Works laid sorts op × GivesTo sorts op (given op)
 -- Temporaries have these sorts: each operation of the graph fits them.
 abbrev pub AreSorts : LaidTree → List Sort → Edges → Type 0
 AreSorts laid sorts graph = All (λ e. FitsSorts laid sorts e.op) graph
+
+-- ## Types of temporaries
+
+-- The type of what is of a sort: pointers of all types are alike, so that the first class stands for all.
+abbrev pub type_of_sort : Sort → Scalar
+type_of_sort (numbers t) = Scalars.Int t
+type_of_sort pointers = Scalars.Pointer 0
+
+-- that of a temporary without a sort, which nothing uses, is `int`
+abbrev pub type_of_some : Option Sort → Scalar
+type_of_some None = Scalars.Int Ints.Int
+type_of_some (Some s) = type_of_sort s
+
+-- the types of temporaries with these sorts
+abbrev pub types_of : List Sort → ℕ → Scalar
+types_of sorts temp = type_of_some (slice_get sorts temp)

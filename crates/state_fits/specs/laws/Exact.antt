@@ -19,7 +19,8 @@ use Rattle.value_heights.specs.pointer_dom.Values.{Values}
 use Rattle.typed_values.specs.Types.{IsOfType, HoldsNumber, HoldsPointers, HaveSameValues}
 use Rattle.state_fits.specs.laws.ExactTypes.{IsConstantOf, FitsTypes, HasSort, IsExact}
 use Rattle.temporary_types.specs.Sorts.{Sort, numbers, pointers, sort_of_scalar, Within, IsOfSort, Holds, FitsSorts}
-use Rattle.state_fits.specs.Typed.{type_of_sort, type_of_some, types_of, NamesObject}
+use Rattle.temporary_types.specs.Sorts.{type_of_sort, type_of_some, types_of}
+use Rattle.state_fits.specs.Typed.{NamesObject}
 
 -- ## Wider types
 

@@ -5,7 +5,6 @@ use Rattle.std.specs.Prelude.{cond, Result, Ok}
 use Rattle.std.specs.FinMap as map
 use Rattle.std.specs.FinMap.{get-empty}
 use Rattle.std.specs.Ordering.{nat_cmp}
-use Rattle.std.proofs.lemmas.Bool.{false≢true}
 use Rattle.std.proofs.lemmas.Int.{ints}
 use Rattle.value_heights.specs.strided_dom.Progression.{Progression, single}
 use Rattle.temporary_types.specs.tm_cint.declared.Class.{Class}
@@ -31,33 +30,32 @@ use Rattle.value_heights.specs.pointer_dom.Values.{Values}
 use Rattle.typed_values.specs.operator_values.Integers.{operated, operated_is}
 use Rattle.typed_values.specs.operator_values.SetsOfPointers.{equality, equality_is}
 use Rattle.edge_actions.specs.transfer_rows.StateForms.{State, temp_value, value_of, only_numbers}
-use Rattle.edge_actions.specs.transfer_rows.Actions.{Spot}
-use Rattle.edge_actions.specs.transfer_rows.Meanings.{IsSpotOf}
-use Rattle.edge_actions.specs.transfer_rows.Accesses.{leads, is_among, targets_at}
+use Rattle.edge_actions.specs.transfer_rows.Accesses.{is_among, targets_at}
 use Rattle.edge_actions.specs.transfer_rows.Calculations.{calculated}
-use Rattle.edge_actions.proofs.low.transfer_rows.Steps.{among_cons}
 use Rattle.edge_actions.specs.Layouts.{spots_of, open_value}
 use Rattle.edge_actions.specs.Edges.{action_of}
 use Rattle.typed_values.specs.Types.{IsOfType, HaveSameValues}
 use Rattle.typed_values.specs.laws.TypeLaws.{none_of_type, same_type}
 use Rattle.typed_values.specs.laws.NumbersInTypes.{operated_values, converted_values}
-use Rattle.state_fits.specs.Typed.{SpotsAgree, type_of_sort, types_of, NamesObjects}
+use Rattle.state_fits.specs.Typed.{SpotsAgree, NamesObjects}
+use Rattle.state_fits.specs.Kinds.{OfTypes}
 use Rattle.state_fits.specs.laws.ExactTypes.{FitsTypes, HasSort, IsExact}
-use Rattle.state_fits.specs.laws.ActionsFit.{ActionFits}
+use Rattle.state_fits.specs.laws.ActionsFit.{spot_of, ActionFits}
 use Rattle.state_fits.specs.laws.OperationsFit.{operation_fits}
 use Rattle.temporary_types.specs.Sorts.{Sort, numbers, sort_of_scalar, Within, FitsSorts, outcome_type}
+use Rattle.temporary_types.specs.Sorts.{type_of_sort, types_of}
 use Rattle.state_fits.specs.laws.Exact.{wider_type, same_self, has_type, exact_fits}
 
 -- ## Comparisons give 0 or 1
 
-truth_in : (b : Bool) → IsIn Ints.Bool (truth b)
+pub truth_in : (b : Bool) → IsIn Ints.Bool (truth b)
 truth_in true = record { at_least = omega (arith, ints); at_most = omega (arith, ints) }
 truth_in false = record { at_least = omega (arith, ints); at_most = omega (arith, ints) }
 
 compared_in : (v : ℤ) (b : Bool) → (let r : Result ℤ Class = Ok (truth b) in r ≡ Ok v) → IsIn Ints.Bool v
 compared_in v b e = subst (λ z. IsIn Ints.Bool z) (let same : truth b ≡ v = cc in same) (truth_in b)
 
-outcome_values : (op : BinOp) (t : IntType) (a b : Progression) → AreValues (outcome_type op t) (operated op t a b)
+pub outcome_values : (op : BinOp) (t : IntType) (a b : Progression) → AreValues (outcome_type op t) (operated op t a b)
 outcome_values Bins.Lt t a b = record { all = λ v p. compared_in v _ ((operated_is Bins.Lt t a b).sound v p).is }
 outcome_values Bins.Le t a b = record { all = λ v p. compared_in v _ ((operated_is Bins.Le t a b).sound v p).is }
 outcome_values Bins.Gt t a b = record { all = λ v p. compared_in v _ ((operated_is Bins.Gt t a b).sound v p).is }
@@ -81,24 +79,10 @@ equal_in true p q v h = ⊎_elim (λ e. subst (λ z. IsIn Ints.Bool z) (sym e.0)
 equal_in false p q v h = ⊎_elim (λ e. subst (λ z. IsIn Ints.Bool z) (sym e.0) (truth_in true))
     (λ e. subst (λ z. IsIn Ints.Bool z) (sym e.0) (truth_in false)) h.truth
 
-equal_values : (equal : Bool) (p q : Pointers) → AreValues Ints.Bool (equality equal p q)
+pub equal_values : (equal : Bool) (p q : Pointers) → AreValues Ints.Bool (equality equal p q)
 equal_values equal p q = record { all = λ v h. equal_in equal p q v ((equality_is equal p q).sound v h) }
 
 -- ## Cells that an access may reach
-
-spot_of : (spots : List Spot) (p : Pointers) (x : ℕ) → is_among (targets_at spots p) x ≡ true
-    → (spot : Spot) × ((IsSpotOf spots spot) × (x ≡ spot.cell))
-spot_of [] p x h = absurd (false≢true h)
-spot_of (spot ∷ spots) p x h = by_lead (λ k. spot_of spots p x k) (leads p spot.object spot.offset) h
-  where
-    by_lead : (is_among (targets_at spots p) x ≡ true → (s : Spot) × ((IsSpotOf spots s) × (x ≡ s.cell))) → (b : Bool)
-        → is_among (cond b (spot.cell ∷ targets_at spots p) (targets_at spots p)) x ≡ true
-        → (s : Spot) × ((IsSpotOf (spot ∷ spots) s) × (x ≡ s.cell))
-    by_lead later true k = elim (among_cons spot.cell x (targets_at spots p) k) [
-      | inl here ↦ (spot, (inl refl, here))
-      | inr there ↦ let r = later there in (r.0, (inr r.1.0, r.1.1))
-    ]
-    by_lead later false k = let r = later k in (r.0, (inr r.1.0, r.1.1))
 
 flipped : (s u : Scalar) → HaveSameValues s u → HaveSameValues u s
 flipped (Scalars.Int t) (Scalars.Int u) h = sym h
@@ -107,7 +91,7 @@ flipped (Scalars.Pointer c) (Scalars.Int u) h = absurd h
 flipped (Scalars.Pointer c) (Scalars.Pointer d) h = tt
 
 module _ (laid : LaidTree) (task : ℕ) (agree : SpotsAgree laid task) where
-  target_type : (scalar : Scalar) (p : Pointers) (x : ℕ)
+  pub target_type : (scalar : Scalar) (p : Pointers) (x : ℕ)
       → is_among (targets_at (spots_of laid task scalar) p) x ≡ true
       → (let a = abstract_at laid x in HaveSameValues a.scalar scalar)
   target_type scalar p x h =
@@ -132,7 +116,7 @@ module _ (laid : LaidTree) (task : ℕ) (agree : SpotsAgree laid task) where
   bare_typed scalar t =
       subst (λ z. IsOfType laid scalar (temp_value z)) (sym (get-empty nat_cmp t)) (none_of_type laid scalar)
 
-  open_typed : (to address : ℕ) (scalar : Scalar) → (p : Place)
+  pub open_typed : (to address : ℕ) (scalar : Scalar) → (p : Place)
       → IsOfType laid scalar (open_value scalar)
   unfolding ActionFits FitsTypes
   open_typed to address scalar p =
@@ -156,7 +140,7 @@ module _ (laid : LaidTree) (task : ℕ) (agree : SpotsAgree laid task) where
   module _ (sorts : List Sort) (s : State) (typed : (t : ℕ) → IsOfType laid (types_of sorts t) (value_of s t))
       (pointers' answer : Bool) where
     abbrev Fits : Operation → Type 0
-    Fits op = ActionFits laid (types_of sorts) s (action_of laid task pointers' answer op)
+    Fits op = ActionFits laid (OfTypes laid (types_of sorts)) s (action_of laid task pointers' answer op)
 
     -- what is given to a temporary whose sort has it all
     given_type : (to : ℕ) (a own : Sort) (v : Values) → HasSort sorts to own → Within a own

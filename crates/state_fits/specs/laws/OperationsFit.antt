@@ -54,8 +54,10 @@ use Rattle.typed_values.specs.laws.TypeLaws.{typed_values, typed_objects, same_t
 use Rattle.typed_values.specs.laws.NumbersInTypes.{operated_values, converted_values, equality_values}
 use Rattle.typed_values.specs.laws.ObjectsKept.{part_objects, element_objects, moved_objects, reached_objects}
 use Rattle.state_fits.specs.Typed.{PointsToObject, SpotsAgree}
+use Rattle.state_fits.specs.Kinds.{OfTypes}
 use Rattle.state_fits.specs.laws.ExactTypes.{IsConstantOf, FitsTypes}
-use Rattle.state_fits.specs.laws.ActionsFit.{target_of, FilterFits, ActionFits}
+use Rattle.state_fits.specs.Fits.{SpotsSeen}
+use Rattle.state_fits.specs.laws.ActionsFit.{target_of, LoadsSeen, FilterFits, ActionFits}
 
 of_constant : (to : ℕ) (v : Values) → IsAction (gives to (constant v)) → IsValues v
 of_constant to v (gives_is (constant_is h)) = h
@@ -63,7 +65,7 @@ of_constant to v (gives_is (constant_is h)) = h
 of_range : (spots : List Spot) (to address : ℕ) (v : Values) → IsAction (loads_any spots to address v) → IsValues v
 of_range spots to address v (loads_any_is h) = h
 
-one_number : (n x : ℤ) → Has (single n) x → x ≡ n
+pub one_number : (n x : ℤ) → Has (single n) x → x ≡ n
 unfolding Has
 one_number n x h = h
 
@@ -205,7 +207,7 @@ module _ (laid : LaidTree) where
           null_is = of_constant 0 (constant_value laid (Constant.Pointer Pointers.Null))
               (edge_is laid task false false (Op.Const 0 (Constant.Pointer Pointers.Null)))
 
-      filter_fits : (pointers : Bool) (test : Test) → FilterFits laid types (filter_of pointers test)
+      filter_fits : (pointers : Bool) (test : Test) → FilterFits laid (filter_of pointers test)
       filter_fits true (Tests.Numbers operator of left right) = tt
       filter_fits false (Tests.Numbers operator of left right) = tt
       filter_fits true (Tests.Pointers equal left right) = (tt, tt)
@@ -219,7 +221,7 @@ module _ (laid : LaidTree) where
 
       module _ (s : State) (typed : (t : ℕ) → IsOfType laid (types t) (value_of s t)) (pointers answer : Bool) where
         abbrev Fits : Operation → Type 0
-        Fits op = ActionFits laid types s (action_of laid task pointers answer op)
+        Fits op = ActionFits laid (OfTypes laid types) s (action_of laid task pointers answer op)
 
         is_pointers : (t : ℕ) → IsPointers (value_of s t).pointers
         is_pointers t = typed_values laid (types t) (value_of s t) (typed t)
@@ -334,3 +336,30 @@ module _ (laid : LaidTree) where
   targets_are_given task pointers answer (Op.Unlock mutex place) = refl
   targets_are_given task pointers answer Op.Yield = refl
   targets_are_given task pointers answer (Op.Probe to mutex place) = refl
+
+  -- what an operation loads from, the body sees
+  pub loads_seen : (task : ℕ) → SpotsSeen laid task → (pointers answer : Bool) (op : Operation)
+      → LoadsSeen laid task (action_of laid task pointers answer op)
+  loads_seen task seen pointers answer Op.Skip = tt
+  loads_seen task seen pointers answer (Op.Const to value) = tt
+  loads_seen task seen pointers answer (Op.Copy to from) = tt
+  loads_seen task seen pointers answer (Op.Un to operator of from place) = tt
+  loads_seen task seen pointers answer (Op.Bin to operator of left right place) = tt
+  loads_seen task seen pointers answer (Op.BinPointers to equal left right) = tt
+  loads_seen task seen pointers answer (Op.Convert to was of from) = tt
+  loads_seen task seen pointers answer (Op.Base to object) = tt
+  loads_seen task seen pointers answer (Op.Offset to from cells) = tt
+  loads_seen task seen pointers answer (Op.Index to from count cells by place) = tt
+  loads_seen task seen pointers answer (Op.Move to from cells minus by place) = tt
+  loads_seen task seen pointers answer (Op.Deref to from target path place) = tt
+  loads_seen task seen pointers answer (Op.Load to address scalar place) = λ spot h. seen scalar spot h
+  loads_seen task seen pointers answer (Op.LoadAny to address scalar place) = tt
+  loads_seen task seen pointers answer (Op.Store address value scalar into place) = tt
+  loads_seen task seen pointers answer (Op.Any to low high) = tt
+  loads_seen task seen pointers answer (Op.Clear object) = tt
+  loads_seen task seen pointers answer (Op.Usable pointer place) = tt
+  loads_seen task seen pointers answer (Op.Assume test) = tt
+  loads_seen task seen pointers answer (Op.Lock mutex place) = tt
+  loads_seen task seen pointers answer (Op.Unlock mutex place) = tt
+  loads_seen task seen pointers answer Op.Yield = tt
+  loads_seen task seen pointers answer (Op.Probe to mutex place) = tt

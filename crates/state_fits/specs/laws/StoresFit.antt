@@ -13,6 +13,19 @@ use Rattle.edge_actions.specs.interfere_set.laws.Joins.{IsOf, of_entry}
 use Rattle.typed_values.specs.Types.{IsOfType}
 use Rattle.typed_values.specs.laws.TypeLaws.{none_of_type, joined_of_type}
 
+-- What holds of none and of joins holds of the join of all parts of a list of which it holds.
+module _ (Is : Values → Type 0) (none : Is no_value) (joins : (v w : Values) → Is v → Is w → Is (joined_values v w))
+  where
+    onto_is : {A : Type 0} (part : A → Values) (v : Values) (xs : List A) → Is v
+        → ((x : A) → IsOf xs x → Is (part x)) → Is (joined_onto part v xs)
+    onto_is part v [] p each = p
+    onto_is part v (x ∷ xs) p each =
+        onto_is part (joined_values v (part x)) xs (joins v (part x) p (each x (inl refl))) (λ y h. each y (inr h))
+
+    pub all_is : {A : Type 0} (part : A → Values) (xs : List A) → ((x : A) → IsOf xs x → Is (part x))
+        → Is (joined_all part xs)
+    all_is part xs each = onto_is part no_value xs none each
+
 module _ (laid : LaidTree) (scalar : Scalar) where
   abbrev Is : Values → Type 0
   Is v = IsOfType laid scalar v
@@ -21,16 +34,9 @@ module _ (laid : LaidTree) (scalar : Scalar) where
   cond_typed true v w p q = p
   cond_typed false v w p q = q
 
-  onto_typed : {A : Type 0} (part : A → Values) (v : Values) (xs : List A) → Is v
-      → ((x : A) → IsOf xs x → Is (part x)) → Is (joined_onto part v xs)
-  onto_typed part v [] p each = p
-  onto_typed part v (x ∷ xs) p each =
-      onto_typed part (joined_values v (part x)) xs (joined_of_type laid scalar v (part x) p (each x (inl refl)))
-      (λ y h. each y (inr h))
-
-  pub all_typed : {A : Type 0} (part : A → Values) (xs : List A) → ((x : A) → IsOf xs x → Is (part x))
+  all_typed : {A : Type 0} (part : A → Values) (xs : List A) → ((x : A) → IsOf xs x → Is (part x))
       → Is (joined_all part xs)
-  all_typed part xs each = onto_typed part no_value xs (none_of_type laid scalar) each
+  all_typed part xs each = all_is Is (none_of_type laid scalar) (joined_of_type laid scalar) part xs each
 
   or_none_typed : (a : Option Values) → ((v : Values) → a ≡ Some v → Is v) → Is (value_or_none a)
   or_none_typed None h = none_of_type laid scalar

@@ -38,6 +38,8 @@ use Rattle.typed_values.specs.Types.{AreObjects, IsOfType}
 use Rattle.state_fits.specs.Tops.{below, table_over, all_offsets, all_pointers, all_values, top_temp, top_cell}
 use Rattle.state_fits.specs.Tops.{top_state}
 use Rattle.state_fits.specs.Fits.{FitsTemp, FitsCell, FitsPlace}
+use Rattle.state_fits.specs.Kinds.{OfTypes}
+use Rattle.state_fits.specs.laws.FileSets.{in_sixteen}
 
 -- ## Tables over keys
 
@@ -158,7 +160,7 @@ pub heights : IsHeight IsStateForm IsStateUnder (state_height value_height)
 heights = state_heights (λ v. IsValues v) (λ v w. IsValuesBelow v w) value_height value_heights
 
 module _ (laid : LaidTree) (task : ℕ) (types : ℕ → Scalar) (live : List ℕ) where
-  temp_below : (t : ℕ) (a : Option Temp) → FitsTemp laid types live t a
+  temp_below : (t : ℕ) (a : Option Temp) → FitsTemp (OfTypes laid types) live t a
       → IsBelow IsTempUnder a (get (table_over (top_temp laid) live) t)
   temp_below t None h = tt
   temp_below t (Some e) h =
@@ -180,7 +182,7 @@ module _ (laid : LaidTree) (task : ℕ) (types : ℕ → Scalar) (live : List �
       (below_has (length laid.abstract_cells) x h.0.cell)))
       (record {
         value = v;
-        pending = h.1.pending;
+        pending = in_sixteen laid c.pending h.1.pending;
         fresh = λ e. absurd (let k : false ≡ true = e in cc);
         stored = λ e. absurd (let k : false ≡ true = e in cc);
       })
@@ -192,12 +194,12 @@ module _ (laid : LaidTree) (task : ℕ) (types : ℕ → Scalar) (live : List �
         (below (length laid.abstract_cells)) (λ k h. all_are laid);
   }
 
-  pub fits_below : (s : State) → FitsPlace laid task types live s → IsStateUnder s (top_state laid live)
+  pub fits_below : (s : State) → FitsPlace laid task (OfTypes laid types) live s → IsStateUnder s (top_state laid live)
   fits_below s h = record {
     temps = λ t. temp_below t (get s.temps t) (h.temps t);
     cells = λ x. cell_below x (get s.cells x) (h.cells x);
   }
 
-  pub fits_within : (s : State) → FitsPlace laid task types live s
+  pub fits_within : (s : State) → FitsPlace laid task (OfTypes laid types) live s
       → state_height value_height s ≤ state_height value_height (top_state laid live)
   fits_within s h = heights.climbs s (top_state laid live) h.form top_is (fits_below s h)

@@ -4,12 +4,12 @@ use Rattle.std.specs.Prelude.{Option, Some, None, IfSome, refl}
 use Rattle.std.proofs.Common.{sym, ap, subst, ◌∙◌, arith}
 use Rattle.std.proofs.lemmas.List.{get_or-map, length-map}
 use Rattle.std.proofs.lemmas.Bool.{true≢false}
-use Rattle.least_tables.specs.tm_lattice.Tables.{IsBelow}
-use Rattle.mutex_configs.specs.tm_typed.declared.types.Scalar.{Scalar}
+use Rattle.table_covers.specs.tm_lattice.Tables.{IsBelow}
 use Rattle.state_fits.specs.temporary_types.Sorts.{Sort}
-use Rattle.state_fits.specs.Typed.{types_of}
+use Rattle.state_fits.specs.temporary_extents.declared.extents.Extent.{Extent}
+use Rattle.state_fits.specs.temporary_extents.Extents.{extents_in}
 use Rattle.mutex_configs.specs.declared.nodes.EdgeCopy.{EdgeCopy}
-use Rattle.state_fits.specs.pointer_dom.Values.{joined_values, rounded_values}
+use Rattle.state_fits.specs.pointer_dom.Values.{Values, joined_values, rounded_values}
 use Rattle.state_fits.specs.cell_env.States.{joined_state}
 use Rattle.state_fits.specs.interfere_set.Stores.{Interferences, IsStoreBelow}
 use Rattle.state_fits.specs.interfere_set.laws.StoreLaws.{store_order}
@@ -18,17 +18,21 @@ use Rattle.state_fits.specs.transfer_rows.StateForms.{State, IsStateForm, IsStat
 use Rattle.state_fits.specs.transfer_rows.Rows.{after}
 use Rattle.state_fits.proofs.low.transfer_rows.RowsRise.{after_rises}
 use Rattle.state_fits.proofs.low.edge_actions.ActionForms.{edge_is}
-use Rattle.least_tables.specs.declared.links.Link.{Link}
-use Rattle.least_tables.specs.Systems.{IsLawfulSystem, no_link, from_of, to_of}
-use Rattle.state_fits.specs.Fits.{FitsPlace, FitsStore}
+use Rattle.table_covers.specs.declared.links.Link.{Link}
+use Rattle.table_covers.specs.Systems.{IsLawfulSystem, no_link, from_of, to_of}
+use Rattle.state_fits.specs.temporary_types.Sorts.{types_of}
+use Rattle.state_fits.specs.Fits.{AreKinds, FitsPlace, FitsStore}
+use Rattle.state_fits.specs.Kinds.{InExtents}
 use Rattle.state_fits.specs.Edges.{FitsEdge}
+use Rattle.state_fits.specs.laws.ExtentKinds.{extents_are_kinds}
 use Rattle.state_fits.specs.laws.AfterFits.{edge_fits}
 use Rattle.state_fits.specs.laws.PlacesFit.{states_order, states_round, joined_fits, rounded_fits}
 use Rattle.state_fits.specs.laws.TopStates.{heights, fits_within}
 use Rattle.task_equations.specs.Bodies.{Body, no_copy, edge_of, node_at, copy_at, live_at}
 use Rattle.task_equations.specs.Equations.{tests_pointer, action_along, around_along, led, after_along, link_of}
 use Rattle.task_equations.specs.Equations.{cells_at, rounded_at, equations_of}
-use Rattle.task_equations.specs.Premises.{IsCopyOf, IsBody, FitsNode}
+use Rattle.task_equations.specs.Premises.{IsCopyOf, IsBody, FitsBody}
+use Rattle.task_equations.specs.laws.Extents.{in_sorts, are_closed, node_typed}
 
 -- ## Links
 
@@ -49,8 +53,14 @@ module _ (b : Body) where
 
 module _ (b : Body) (sorts : List Sort) (is : IsBody b sorts) (tasks : ℕ) (store : Interferences)
     (store-fits : FitsStore b.laid tasks store) where
-  abbrev types : ℕ → Scalar
-  types = types_of sorts
+  abbrev extents : List Extent
+  extents = extents_in b.edges
+
+  abbrev Holds : ℕ → Values → Type 0
+  Holds = InExtents b.laid extents
+
+  abbrev kinds : AreKinds b.laid Holds
+  kinds = extents_are_kinds b.laid extents
 
   -- ## What a copy brings
 
@@ -62,27 +72,30 @@ module _ (b : Body) (sorts : List Sort) (is : IsBody b sorts) (tasks : ℕ) (sto
         operation = is.operations c.edge h.edge;
         objects = is.objects c.edge h.edge;
         spots = is.spots;
+        seen = is.seen;
         held = is.held c.from h.from;
+        shares = λ x. refl;
         arrives = λ t. refl;
         flow = λ t live other.
             subst (λ p. is_among (live_at b p) t ≡ true) (sym h.leaves) (is.flow c.edge h.edge t live other);
       }
 
-  led_fits : (c : EdgeCopy) → IsCopyOf b c → (s : State) → FitsNode b sorts c.from s
+  led_fits : (c : EdgeCopy) → IsCopyOf b c → (s : State) → FitsBody b c.from s
       → (to : Option ℕ) → c.to ≡ to → (a : Option State)
       → after (around_along b c) (action_along b c) s store ≡ a
-      → IfSome (led to a) (FitsNode b sorts (unwrap_or to c.from))
+      → IfSome (led to a) (FitsBody b (unwrap_or to c.from))
   led_fits c h s fits None e a at = tt
   led_fits c h s fits (Some n) e None at = tt
   led_fits c h s fits (Some n) e (Some t) at =
       let edge = edge_of b c in
       let q = node_at b c.from in
-      subst (λ p. FitsPlace b.laid b.task types (live_at b p) t) (sym (h.leads n e))
-      (edge_fits b.laid b.task tasks sorts (around_along b c) edge.op (live_at b q.place) (live_at b edge.to)
-      (edge_along c h) store store-fits (tests_pointer b.pointers edge.op) c.answer s fits t at)
+      subst (λ p. FitsPlace b.laid b.task Holds (live_at b p) t) (sym (h.leads n e))
+      (edge_fits b.laid b.task tasks sorts extents (around_along b c) edge.op (live_at b q.place) (live_at b edge.to)
+      (edge_along c h) store store-fits (in_sorts b sorts is) (are_closed b sorts is c.edge h.edge)
+      (tests_pointer b.pointers edge.op) c.answer s fits t at)
 
-  along_fits : (c : EdgeCopy) → IsCopyOf b c → (s : State) → FitsNode b sorts c.from s
-      → IfSome (after_along b store c s) (FitsNode b sorts (unwrap_or c.to c.from))
+  along_fits : (c : EdgeCopy) → IsCopyOf b c → (s : State) → FitsBody b c.from s
+      → IfSome (after_along b store c s) (FitsBody b (unwrap_or c.to c.from))
   along_fits c h s fits =
       led_fits c h s fits c.to refl (after (around_along b c) (action_along b c) s store) refl
 
@@ -103,10 +116,10 @@ module _ (b : Body) (sorts : List Sort) (is : IsBody b sorts) (tasks : ℕ) (sto
 
   -- ## Rounding
 
-  round_fits : (live : List ℕ) (cells : Option (List ℕ)) (s : State) → FitsPlace b.laid b.task types live s
-      → FitsPlace b.laid b.task types live (rounded_at b.marks cells s)
+  round_fits : (live : List ℕ) (cells : Option (List ℕ)) (s : State) → FitsPlace b.laid b.task Holds live s
+      → FitsPlace b.laid b.task Holds live (rounded_at b.marks cells s)
   round_fits live None s h = h
-  round_fits live (Some cells) s h = rounded_fits b.laid b.task types live b.marks cells s is.marks h
+  round_fits live (Some cells) s h = rounded_fits b.laid b.task Holds kinds live b.marks cells s is.marks h
 
   round_extensive : (cells : Option (List ℕ)) (s : State) → IsStateForm s
       → IsStateUnder s (rounded_at b.marks cells s)
@@ -129,9 +142,9 @@ module _ (b : Body) (sorts : List Sort) (is : IsBody b sorts) (tasks : ℕ) (sto
 
   -- ## The system
 
-  module _ (entry : Option State) (entry-fits : IfSome entry (FitsNode b sorts 0)) where
+  module _ (entry : Option State) (entry-fits : IfSome entry (FitsBody b 0)) where
     pub equations_are_lawful : IsLawfulSystem IsStateForm IsStateUnder (joined_state joined_values)
-        (FitsNode b sorts) (equations_of b entry store)
+        (FitsBody b) (equations_of b entry store)
     equations_are_lawful = record {
       some_node = is.some;
       from_node = λ e lt. (let k = in_copies b e lt in
@@ -143,10 +156,10 @@ module _ (b : Body) (sorts : List Sort) (is : IsBody b sorts) (tasks : ℕ) (sto
       after_fits = λ e s lt h.
           let k = in_copies b e lt in
           let c = copy_at b e in
-          subst (λ n. IfSome (after_along b store c s) (FitsNode b sorts n)) (sym (to_is b e k))
-          (along_fits c (is.copies e k) s (subst (λ n. FitsNode b sorts n s) (from_is b e k) h));
+          subst (λ n. IfSome (after_along b store c s) (FitsBody b n)) (sym (to_is b e k))
+          (along_fits c (is.copies e k) s (subst (λ n. FitsBody b n s) (from_is b e k) h));
       joined_fits = λ n s t h k. (let q = node_at b n in
-          joined_fits b.laid b.task types (live_at b q.place) s t h k);
+          joined_fits b.laid b.task Holds kinds (live_at b q.place) s t h k);
       outward_fits = λ n s h. (let q = node_at b n in round_fits (live_at b q.place) (cells_at b n) s h);
       monotone = λ e s t lt h k le. along_rises (copy_at b e) s t h.form k.form le;
       extensive = λ n s h. round_extensive (cells_at b n) s h.form;
@@ -154,7 +167,8 @@ module _ (b : Body) (sorts : List Sort) (is : IsBody b sorts) (tasks : ℕ) (sto
       idempotent = λ n s h. round_again (cells_at b n) s h.form;
       plain = λ n s e h. round_plain (cells_at b n) s e;
       first_plain = ap is_some is.entry;
-      within = λ n s h. (let q = node_at b n in fits_within b.laid b.task types (live_at b q.place) s h);
+      within = λ n s h. (let q = node_at b n in
+          fits_within b.laid b.task (types_of sorts) (live_at b q.place) s (node_typed b sorts is n s h));
       climbs = λ s t s-is t-is le. heights.climbs s t s-is t-is le;
       strictly = λ s t s-is t-is le flat. heights.strictly s t s-is t-is le flat;
     }
