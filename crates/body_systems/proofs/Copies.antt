@@ -19,13 +19,14 @@ use Rattle.edge_actions.specs.declared.views.EdgeView.{EdgeView}
 use Rattle.edge_effects.specs.declared.views.After.{After}
 use Rattle.edge_effects.specs.Effects.{IsAfter}
 use Rattle.mutex_configs.specs.declared.nodes.EdgeCopy.{EdgeCopy}
-use Rattle.least_tables.specs.declared.links.Link.{Link}
-use Rattle.least_tables.specs.Systems.{no_link, from_of}
+use Rattle.table_covers.specs.declared.links.Link.{Link}
+use Rattle.table_covers.specs.Systems.{no_link, from_of}
 use Rattle.task_equations.specs.Bodies.{Body, no_copy, edge_of, node_at, copy_at, live_at}
 use Rattle.task_equations.specs.Equations.{tests_pointer, action_along, around_along, led}
 use Rattle.task_equations.specs.Equations.{after_along, link_of}
 use Rattle.task_equations.specs.Equations.{added_along}
 use Rattle.task_equations.specs.Premises.{IsCopyOf}
+use Rattle.task_equations.specs.laws.Extents.{node_typed}
 use Rattle.program_equations.specs.Systems.{FitsBody}
 use Rattle.program_equations.specs.laws.ReadAlike.{action_read}
 use Rattle.body_systems.specs.Systems.{SystemOf, body_of, contributed_by, IsSystemOf}
@@ -70,7 +71,8 @@ module _ (v : SystemOf) (c : EdgeCopy) (view : EdgeView) (is : IsViewOf v c view
     operable =
         let e = edge_of body c in
         let q = node_at body c.from in
-        place_operable body.laid body.task keeps.sorts (live_at body q.place) s (fits keeps.sorts keeps.body) e.op
+        place_operable body.laid body.task keeps.sorts (live_at body q.place) s
+        (node_typed body keeps.sorts keeps.body c.from s fits) e.op
         (keeps.body.operations c.edge copy.edge) (keeps.tests c.edge copy.edge)
 
     pub copy_applicable : IsApplicable view s v.store

@@ -1,7 +1,7 @@
--- The heads of places (Indices), what counts and lists over edges step by (Counts), the temporaries that hold pointers
+-- The heads of places (Indices), what the list of links steps by (Links), the temporaries that hold pointers
 -- (Pointers), and the views of copies (Copies).
 mod Indices
-mod Counts
+mod Links
 mod Pointers
 mod Copies
 pub mod low

@@ -8,9 +8,10 @@ use Rattle.graph_facts.specs.Heads.{AreHeads}
 use Rattle.region_cells.specs.Written.{AreAllWritten}
 use Rattle.mutex_configs.specs.declared.nodes.ConfiguredGraph.{ConfiguredGraph}
 use Rattle.temporary_types.specs.PointerMarks.{pointer_marks}
-use Rattle.least_tables.specs.declared.links.Link.{Link}
+use Rattle.table_covers.specs.declared.links.Link.{Link}
 use Rattle.task_equations.specs.Equations.{link_of}
-use Rattle.program_equations.specs.Programs.{temporaries_in, marked_from}
+use Rattle.temporary_types.specs.Temporaries.{temporaries_in}
+use Rattle.program_equations.specs.Programs.{marked_from}
 
 -- The links of a body, the live temporaries at each place, for each temporary whether it holds pointers, and the heads
 -- with the abstract cells that are written in their regions.

@@ -1,7 +1,7 @@
 -- The facts of a body (Facts), its equations as the code holds them (Systems), and what the code keeps (reading).
 -- The crates below, passed on to those above.
 pub use Rattle.transfer_mem.specs.edge_filters
-pub use Rattle.least_tables.specs as least_tables
+pub use Rattle.table_covers.specs as table_covers
 pub use Rattle.program_equations.specs as program_equations
 pub use Rattle.region_cells.specs as region_cells
 pub use Rattle.task_equations.specs.state_fits

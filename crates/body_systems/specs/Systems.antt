@@ -10,7 +10,7 @@ use Rattle.interfere_set.specs.Stores.{Interferences}
 use Rattle.edge_actions.specs.transfer_rows.StateForms.{State}
 use Rattle.temporary_types.specs.Sorts.{Sort}
 use Rattle.task_equations.specs.state_fits.Fits.{FitsStore}
-use Rattle.least_tables.specs.Systems.{System}
+use Rattle.table_covers.specs.Systems.{System}
 use Rattle.task_equations.specs.Bodies.{Body, no_edge, copy_at}
 use Rattle.task_equations.specs.Equations.{equations_of, link_of, added_along}
 use Rattle.task_equations.specs.Premises.{IsBody}

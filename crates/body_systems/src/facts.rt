@@ -1,24 +1,22 @@
 //! What is computed once of a body.
 ghost use Rattle.std.specs.Prelude.{◌≡◌, ◌<◌, ◌≤◌, ℕ, [], length, map, get_or, option_map, IfOk, All};
-ghost use Rattle.flow_graph.specs.Operations.{given};
 ghost use Rattle.graph_facts.specs.declared.regions.Head.{Head as AHead};
 ghost use Rattle.tm_laid.specs.Layouts.{laid_tree};
 ghost use Rattle.graph_facts.specs.Lists.{numbers};
 ghost use Rattle.graph_facts.specs.Edges.{AreInRange};
 ghost use Rattle.edge_actions.specs.transfer_rows.Accesses.{is_among};
 ghost use Rattle.task_equations.specs.Equations.{link_of, tests_pointer, cells_rounded};
-ghost use Rattle.program_equations.specs.Programs.{behind_given, temporaries_in};
 ghost use Rattle.body_systems.specs.Facts.{pointers_of, AreFactsOf};
 ghost use Rattle.body_systems.specs.reading.Indices.{index_at, index_from};
 
 use flow_graph::{Graph, Operation, Test};
-use graph_facts::{Head, LiveTemporaries, given, heads, live_temporaries};
-use least_tables::Link;
+use graph_facts::{Head, LiveTemporaries, heads, live_temporaries};
 use mutex_configs::{ConfiguredGraph, EdgeCopy};
 use region_cells::written_cells;
 use std::alloc::Global;
 use std::marker::Model;
-use temporary_types::pointer_temps;
+use table_covers::Link;
+use temporary_types::{count_of_temporaries, pointer_temps};
 use tm_laid::Laid;
 use tm_lattice::NoMemory;
 
@@ -190,31 +188,6 @@ fn links_of(alloc: Global, copies: &[EdgeCopy]) -> Result<Vec<Link>, NoMemory>
         links.push(link_of(*copy))?;
     }
     Ok(links)
-}
-
-// One more than the temporary that an operation gives, if it gives one.
-fn behind_given(operation: Operation) -> Result<u32, NoMemory>
-    ensures { IfOk result (λ n. n ≡ behind_given (given operation)) }
-{
-    match given(operation) {
-        None => Ok(0),
-        Some(temporary) => match temporary.checked_add(1) {
-            Some(behind) => Ok(behind),
-            None => Err(NoMemory),
-        },
-    }
-}
-
-// One more than the greatest temporary that edges give.
-fn count_of_temporaries(graph: &Graph) -> Result<u32, NoMemory>
-    ensures { IfOk result (λ count. count ≡ temporaries_in graph.now.edges.items) }
-{
-    let mut count = 0u32;
-    for number in 0..graph.edges.len() {
-        let behind = behind_given(graph.edges[number].op)?;
-        count = count.max(behind);
-    }
-    Ok(count)
 }
 
 // For each place the index of its head.

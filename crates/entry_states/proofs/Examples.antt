@@ -18,7 +18,7 @@ use Rattle.pointer_dom.specs.Values.{Values, no_value, joined_values}
 use Rattle.cell_env.specs.States.{joined_state}
 use Rattle.edge_actions.specs.transfer_rows.StateForms.{Cell, State, only_numbers, only_pointers}
 use Rattle.edge_actions.specs.Layouts.{open_value}
-use Rattle.body_systems.specs.least_tables.Solutions.{at}
+use Rattle.body_systems.specs.table_covers.Solutions.{at}
 use Rattle.body_systems.specs.program_equations.Entries.{initial_of, first_state, later_state, ended_in}
 
 abbrev object : Option ℕ → ℕ → ℕ → ℕ → LaidObject

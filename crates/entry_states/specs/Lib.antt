@@ -5,7 +5,7 @@ pub use Rattle.edge_actions.specs as edge_actions
 pub use Rattle.edge_effects.specs as edge_effects
 pub use Rattle.body_systems.specs.edge_filters
 pub use Rattle.edge_actions.specs.filters
-pub use Rattle.body_systems.specs.least_tables
+pub use Rattle.body_systems.specs.table_covers
 pub use Rattle.body_systems.specs.program_equations
 pub use Rattle.body_systems.specs.region_cells
 pub use Rattle.body_systems.specs.state_fits

@@ -3,7 +3,7 @@ ghost use Rattle.std.specs.Prelude.{◌≡◌, ◌<◌, All, IfOk, get_or, lengt
 ghost use Rattle.tm_lattice.specs.Tables.{joined_at};
 ghost use Rattle.pointer_dom.specs.Values.{joined_values};
 ghost use Rattle.cell_env.specs.States.{joined_state};
-ghost use Rattle.body_systems.specs.least_tables.Solutions.{at};
+ghost use Rattle.body_systems.specs.table_covers.Solutions.{at};
 ghost use Rattle.mutex_configs.specs.declared.nodes.ConfiguredNode.{ConfiguredNode as ANode};
 ghost use Rattle.mutex_configs.specs.Nodes.{entry_node};
 ghost use Rattle.body_systems.specs.program_equations.Entries.{ended_in};

@@ -7,7 +7,7 @@ use Rattle.std.specs.declared.result.Result.{Result}
 use Rattle.std.proofs.lemmas.Option.{get_or_from_slice_get}
 use Rattle.tm_lattice.specs.declared.memory.NoMemory.{NoMemory}
 use Rattle.interfere_set.specs.Stores.{Interferences, IsStoreBelow, joined_store, rounded_store}
-use Rattle.least_tables.specs.Solutions.{IsSolution}
+use Rattle.table_covers.specs.Solutions.{IsSolution}
 use Rattle.shared_programs.specs.program_equations.Programs.{ProgramBodies, body_at, IsProgram}
 use Rattle.shared_programs.specs.program_equations.Systems.{states, FitsBody, IsSection}
 use Rattle.shared_programs.specs.program_equations.Solutions.{table_at, tables_of}

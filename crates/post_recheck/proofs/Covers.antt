@@ -8,10 +8,10 @@ use Rattle.interfere_set.specs.Stores.{Interferences, IsStoreBelow, no_interfere
 use Rattle.interfere_set.specs.Stores.{rounded_store}
 use Rattle.interfere_set.specs.laws.StoreLaws.{store_order, store_join, store_closure}
 use Rattle.shared_programs.specs.transfer_rows.StateForms.{State}
-use Rattle.least_tables.specs.declared.links.Link.{Link}
-use Rattle.least_tables.specs.Systems.{from_of}
-use Rattle.least_tables.specs.Solutions.{NodeTable}
-use Rattle.least_tables.specs.laws.AddedTotals as totals
+use Rattle.table_covers.specs.declared.links.Link.{Link}
+use Rattle.table_covers.specs.Systems.{from_of}
+use Rattle.table_covers.specs.Solutions.{NodeTable}
+use Rattle.table_covers.specs.laws.AddedTotals as totals
 use Rattle.shared_programs.specs.task_equations.Bodies.{copy_at}
 use Rattle.shared_programs.specs.task_equations.Equations.{added_along, link_of}
 use Rattle.shared_programs.specs.program_equations.Programs.{ProgramBodies, body_at, IsProgram}

@@ -6,12 +6,12 @@ use Rattle.std.proofs.Common.{sym, ap, subst, ◌∙◌, arith}
 use Rattle.std.proofs.lemmas.Bool.{cases_lt, false≢true}
 use Rattle.shared_programs.proofs.low.edge_actions.Lists.{lt_from, lt_test}
 use Rattle.shared_programs.specs.transfer_rows.StateForms.{State}
-use Rattle.least_tables.specs.Systems.{System, IsLawfulSystem}
-use Rattle.least_tables.specs.Solutions.{at, AreFitting, IsFirstUncovered}
-use Rattle.least_tables.specs.declared.covers.Uncovered.{Uncovered}
-use Rattle.least_tables.specs.declared.covers.Uncovered.TheVariants.{Entry as the_entry}
-use Rattle.least_tables.specs.declared.covers.Uncovered.TheVariants.{Edge as the_edge}
-use Rattle.least_tables.proofs.Rechecks.{entry_covered, edge_covered}
+use Rattle.table_covers.specs.Systems.{System, IsLawfulSystem}
+use Rattle.table_covers.specs.Solutions.{at, AreFitting, IsFirstUncovered}
+use Rattle.table_covers.specs.declared.covers.Uncovered.{Uncovered}
+use Rattle.table_covers.specs.declared.covers.Uncovered.TheVariants.{Entry as the_entry}
+use Rattle.table_covers.specs.declared.covers.Uncovered.TheVariants.{Edge as the_edge}
+use Rattle.table_covers.proofs.Rechecks.{entry_covered, edge_covered}
 use Rattle.shared_programs.specs.state_fits.laws.PlacesFit.{states_order, states_join}
 use Rattle.shared_programs.specs.program_equations.Programs.{ProgramBodies, body_at, IsProgram}
 use Rattle.shared_programs.specs.program_equations.Entries.{first_state, ended}

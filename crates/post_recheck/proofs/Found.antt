@@ -6,12 +6,12 @@ use Rattle.std.proofs.lemmas.List.{get_or-map, length-map}
 use Rattle.interfere_set.specs.Stores.{Interferences, no_interference, joined_store}
 use Rattle.shared_programs.specs.transfer_rows.StateForms.{State}
 use Rattle.shared_programs.specs.temporary_types.Sorts.{Sort}
-use Rattle.least_tables.specs.declared.covers.Uncovered.{Uncovered}
-use Rattle.least_tables.specs.declared.covers.Uncovered.TheVariants.{Entry as the_entry}
-use Rattle.least_tables.specs.declared.covers.Uncovered.TheVariants.{Edge as the_edge}
-use Rattle.least_tables.specs.Systems.{System}
-use Rattle.least_tables.specs.Solutions.{NodeTable, at, AreFitting, IsSolution, IsFirstUncovered}
-use Rattle.least_tables.specs.Passes.{added_below}
+use Rattle.table_covers.specs.declared.covers.Uncovered.{Uncovered}
+use Rattle.table_covers.specs.declared.covers.Uncovered.TheVariants.{Entry as the_entry}
+use Rattle.table_covers.specs.declared.covers.Uncovered.TheVariants.{Edge as the_edge}
+use Rattle.table_covers.specs.Systems.{System}
+use Rattle.table_covers.specs.Solutions.{NodeTable, at, AreFitting, IsSolution, IsFirstUncovered}
+use Rattle.table_covers.specs.Passes.{added_below}
 use Rattle.shared_programs.specs.task_equations.Bodies.{Body, copy_at}
 use Rattle.shared_programs.specs.task_equations.Equations.{equations_of, link_of, added_along}
 use Rattle.shared_programs.specs.task_equations.Premises.{IsBody}

@@ -3,7 +3,7 @@ use Rattle.std.proofs.Common.{ℕ, ◌<◌}
 use Rattle.std.proofs.Common.{sym, subst}
 use Rattle.tm_lattice.specs.Rounds.{IsClosed}
 use Rattle.interfere_set.specs.laws.StoreLaws.{store_order}
-use Rattle.least_tables.specs.Solutions.{IsLeastSolution}
+use Rattle.table_covers.specs.Solutions.{IsLeastSolution}
 use Rattle.shared_programs.specs.program_equations.Programs.{ProgramBodies, body_at, IsProgram}
 use Rattle.shared_programs.specs.program_equations.Systems.{states, stores, FitsBody, task_system, added_at}
 use Rattle.shared_programs.specs.program_equations.Systems.{IsLeastSection}

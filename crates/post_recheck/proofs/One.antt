@@ -2,10 +2,10 @@
 use Rattle.std.proofs.Common.{◌≡◌, ℕ, ◌<◌, length, refl, inl, inr}
 use Rattle.std.proofs.Common.{sym, ap, subst, ◌∙◌, arith}
 use Rattle.std.proofs.lemmas.Bool.{cases_lt}
-use Rattle.least_tables.specs.Solutions.{IsSolution, IsFirstUncovered}
-use Rattle.least_tables.specs.declared.covers.Uncovered.{Uncovered}
-use Rattle.least_tables.specs.declared.covers.Uncovered.TheVariants.{Entry as the_entry}
-use Rattle.least_tables.specs.declared.covers.Uncovered.TheVariants.{Edge as the_edge}
+use Rattle.table_covers.specs.Solutions.{IsSolution, IsFirstUncovered}
+use Rattle.table_covers.specs.declared.covers.Uncovered.{Uncovered}
+use Rattle.table_covers.specs.declared.covers.Uncovered.TheVariants.{Entry as the_entry}
+use Rattle.table_covers.specs.declared.covers.Uncovered.TheVariants.{Edge as the_edge}
 use Rattle.shared_programs.specs.program_equations.Programs.{ProgramBodies, body_at, IsProgram}
 use Rattle.shared_programs.specs.program_equations.Systems.{states, FitsBody, section_system}
 use Rattle.shared_programs.specs.program_equations.Solutions.{IsPair, IsSolvedAt, IsUncoveredAt, IsUncoveredStore}

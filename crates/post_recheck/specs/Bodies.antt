@@ -5,8 +5,8 @@ use Rattle.mutex_configs.specs.declared.programs.Program.{Program}
 use Rattle.tm_lattice.specs.declared.memory.NoMemory.{NoMemory}
 use Rattle.interfere_set.specs.Stores.{Interferences, no_interference}
 use Rattle.shared_programs.specs.transfer_rows.StateForms.{State}
-use Rattle.least_tables.specs.declared.covers.Uncovered.{Uncovered}
-use Rattle.least_tables.specs.Solutions.{IsFirstUncovered}
+use Rattle.table_covers.specs.declared.covers.Uncovered.{Uncovered}
+use Rattle.table_covers.specs.Solutions.{IsFirstUncovered}
 use Rattle.shared_programs.specs.program_equations.Programs.{ProgramBodies, body_at}
 use Rattle.shared_programs.specs.program_equations.Systems.{states, FitsBody, task_entry, added_at}
 use Rattle.shared_programs.specs.program_equations.Solutions.{table_at, tables_of, system_at, IsSolvedAt, edge_number}

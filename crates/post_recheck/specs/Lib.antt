@@ -4,7 +4,7 @@ pub use Rattle.shared_programs.specs.body_systems
 pub use Rattle.shared_programs.specs.edge_actions
 pub use Rattle.shared_programs.specs.edge_effects
 pub use Rattle.shared_programs.specs.filters
-pub use Rattle.least_tables.specs as least_tables
+pub use Rattle.table_covers.specs as table_covers
 pub use Rattle.shared_programs.specs.program_equations
 pub use Rattle.shared_programs.specs.program_systems
 pub use Rattle.shared_programs.specs.state_fits

@@ -5,16 +5,15 @@ ghost use Rattle.post_recheck.specs.Pairs.{pair_of};
 ghost use Rattle.post_recheck.specs.Bodies.{IsBodyCheck, IsGiven};
 ghost use Rattle.post_recheck.specs.reading.Numbers.{number_in, IsNumberedIn};
 
-use crate::contributions::joined_contributions;
 use crate::solutions::Table;
 use cell_env::State;
 use flow_graph::Edge;
 use interfere_set::Store;
-use least_tables::{Uncovered, first_uncovered};
 use mutex_configs::{EdgeCopy, Program};
 use pointer_dom::AbsValue;
 use shared_programs::{BodySystem, ProgramFacts, body_over_store, section_entry};
 use std::alloc::Global;
+use table_covers::{Uncovered, first_uncovered, joined_contributions};
 use tm_lattice::NoMemory;
 
 // What the check of a body finds.

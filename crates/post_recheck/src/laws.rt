@@ -1,7 +1,7 @@
 //! The laws of checks. They speak of definitions alone: no call is made.
 ghost use Rattle.std.specs.Prelude.{◌≡◌, ◌<◌, ℕ};
 ghost use Rattle.tm_lattice.specs.Rounds.{IsClosed};
-ghost use Rattle.least_tables.specs.Solutions.{IsLeastSolution};
+ghost use Rattle.table_covers.specs.Solutions.{IsLeastSolution};
 ghost use Rattle.shared_programs.specs.program_equations.Programs.{ProgramBodies, body_at, IsProgram};
 ghost use Rattle.shared_programs.specs.program_equations.Systems.{states, stores, FitsBody, task_system};
 ghost use Rattle.shared_programs.specs.program_equations.Systems.{IsLeastSection};

@@ -10,7 +10,6 @@
 mod answers;
 mod bodies;
 mod checking;
-mod contributions;
 mod laws;
 mod side_by_side;
 mod solutions;

@@ -21,7 +21,7 @@ use Rattle.task_equations.specs.mutex_configs.Nodes.{entry_node}
 use Rattle.edge_filters.specs.pointer_dom.Values.{Values, joined_values, no_value}
 use Rattle.edge_filters.specs.pointer_dom.laws.OffsetLaws.{hull_left, hull_right}
 use Rattle.edge_filters.specs.transfer_rows.StateForms.{Cell, State, only_numbers, own_value, own_of}
-use Rattle.task_equations.specs.least_tables.Solutions.{NodeTable}
+use Rattle.task_equations.specs.table_covers.Solutions.{NodeTable}
 use Rattle.program_equations.specs.Entries.{initial_of, entry_cell, entry_state, is_end, ended_in, later_state}
 
 abbrev place : Place

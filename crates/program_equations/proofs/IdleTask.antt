@@ -11,6 +11,8 @@ use Rattle.edge_filters.specs.transfer_rows.Actions.{Spot}
 use Rattle.edge_filters.specs.transfer_rows.Meanings.{IsSpotOf}
 use Rattle.edge_filters.specs.edge_actions.Layouts.{spots_of}
 use Rattle.task_equations.specs.typed_values.Types.{HaveEnds}
+use Rattle.task_equations.specs.state_fits.Fits.{file_set}
+use Rattle.task_equations.specs.state_fits.laws.FileSets.{none_within}
 use Rattle.task_equations.specs.Bodies.{Body, node_at}
 use Rattle.task_equations.specs.Premises.{IsBody}
 use Rattle.program_equations.specs.Programs.{ProgramBodies, IsBodyAt, IsProgram}
@@ -62,8 +64,8 @@ module _ (file : TypedFileTree) (marks : List ℤ) (ends : HaveEnds marks) where
   unfolding spots_of
   no_spot scalar spot h = h
 
-  none_held : (n : ℕ) → n < 1 → (let q = node_at idle n in IsWithin q.held 65535)
-  none_held zero lt = refl
+  none_held : (n : ℕ) → n < 1 → (let q = node_at idle n in IsWithin q.held (file_set layout))
+  none_held zero lt = none_within (file_set layout)
   none_held (suc n) lt = absurd (omega (arith, lt))
 
   idle_is : IsBody idle []
@@ -74,8 +76,10 @@ module _ (file : TypedFileTree) (marks : List ℤ) (ends : HaveEnds marks) where
     entry = refl;
     marks = ends;
     spots = λ scalar spot h. absurd (no_spot scalar spot h);
+    seen = λ scalar spot h. absurd (no_spot scalar spot h);
     operations = λ k lt. absurd (let none : k < 0 = lt in omega (arith, none));
     objects = λ k lt. absurd (let none : k < 0 = lt in omega (arith, none));
+    settled = tt;
     flow = λ k lt t live other. absurd (let none : k < 0 = lt in omega (arith, none));
   }
 

@@ -16,7 +16,7 @@ use Rattle.edge_filters.specs.transfer_rows.StateForms.{Cell, State, only_number
 use Rattle.edge_filters.specs.edge_actions.Edges.{only_null, pointer_within}
 use Rattle.edge_filters.specs.edge_actions.Layouts.{open_value, is_reachable, is_shared_cell}
 use Rattle.region_cells.specs.tm_laid.Layouts.{object_at}
-use Rattle.task_equations.specs.least_tables.Solutions.{NodeTable}
+use Rattle.task_equations.specs.table_covers.Solutions.{NodeTable}
 use Rattle.task_equations.specs.mutex_configs.declared.nodes.ConfiguredNode.{ConfiguredNode}
 use Rattle.task_equations.specs.mutex_configs.Nodes.{entry_node}
 use Rattle.task_equations.specs.Bodies.{Body}

@@ -3,12 +3,13 @@
 -- The crates below, passed on to those above.
 pub use Rattle.edge_filters.specs.cell_env
 pub use Rattle.edge_filters.specs.interfere_set
-pub use Rattle.task_equations.specs.least_tables
+pub use Rattle.task_equations.specs.table_covers
 pub use Rattle.task_equations.specs.mutex_configs
 pub use Rattle.edge_filters.specs.pointer_dom
 pub use Rattle.task_equations.specs.state_fits
 pub use Rattle.edge_filters.specs.strided_dom
 pub use Rattle.task_equations.specs as task_equations
+pub use Rattle.task_equations.specs.temporary_extents
 pub use Rattle.task_equations.specs.temporary_types
 pub use Rattle.region_cells.specs.tm_laid
 pub use Rattle.region_cells.specs.tm_lattice

@@ -1,13 +1,12 @@
 -- A program as its bodies, and what it keeps of which the equations are solved.
-use Rattle.std.specs.Prelude.{◌≡◌, ℕ, suc, ◌<◌, ◌≤◌, ℤ, Bool, true, false, max, List, [], ◌∷◌, ◌++◌, length, map}
-use Rattle.std.specs.Prelude.{get_or, Option, Some, None}
+use Rattle.std.specs.Prelude.{◌≡◌, ℕ, suc, ◌<◌, ◌≤◌, ℤ, Bool, true, false, List, [], ◌∷◌, ◌++◌, length, map}
+use Rattle.std.specs.Prelude.{get_or}
 use Rattle.region_cells.specs.tm_typed.declared.files.TypedTask.{TypedTask}
 use Rattle.region_cells.specs.tm_typed.declared.types.Scalar.{Scalar}
 use Rattle.region_cells.specs.tm_laid.Layouts.{LaidTree, abstract_at, cell_at}
 use Rattle.region_cells.specs.flow_graph.declared.graphs.Graph.{Graph}
 use Rattle.region_cells.specs.flow_graph.declared.operations.Operation.{Operation}
 use Rattle.region_cells.specs.flow_graph.declared.operations.Operation.TheVariants as Op
-use Rattle.region_cells.specs.flow_graph.Operations.{given}
 use Rattle.region_cells.specs.flow_graph.Graphs.{Edges}
 use Rattle.edge_filters.specs.transfer_rows.Actions.{Spot}
 use Rattle.edge_filters.specs.transfer_rows.Meanings.{IsSpotOf}
@@ -19,6 +18,7 @@ use Rattle.region_cells.specs.Written.{AreAllWritten}
 use Rattle.task_equations.specs.mutex_configs.declared.nodes.ConfiguredGraph.{ConfiguredGraph}
 use Rattle.task_equations.specs.temporary_types.Sorts.{Sort}
 use Rattle.task_equations.specs.temporary_types.PointerMarks.{pointer_marks}
+use Rattle.task_equations.specs.temporary_types.Temporaries.{temporaries_in}
 use Rattle.task_equations.specs.typed_values.Types.{IsOfType}
 use Rattle.task_equations.specs.Bodies.{Body, no_edge, node_at, live_at}
 use Rattle.task_equations.specs.Premises.{IsBody}
@@ -64,15 +64,6 @@ HasSection p = p.tasks < length p.bodies
 -- the priorities of the tasks, and that of the initial section, which hears nobody
 abbrev pub priorities_of : List TypedTask → List ℕ
 priorities_of tasks = map (λ t. t.priority) tasks ++ (0 ∷ [])
-
--- one more than the greatest temporary that edges give
-abbrev pub behind_given : Option ℕ → ℕ
-behind_given None = 0
-behind_given (Some temp) = suc temp
-
-abbrev pub temporaries_in : Edges → ℕ
-temporaries_in [] = 0
-temporaries_in (e ∷ graph) = max (behind_given (given e.op)) (temporaries_in graph)
 
 -- the numbers of the marks that are set, of which the first has this number
 abbrev pub marked_from : ℕ → List Bool → List ℕ

@@ -6,13 +6,13 @@ use Rattle.edge_filters.specs.interfere_set.Stores.{Interferences, no_interferen
 use Rattle.edge_filters.specs.transfer_rows.StateForms.{State}
 use Rattle.task_equations.specs.value_heights.Heights.{value_height}
 use Rattle.edge_filters.specs.cell_env.States.{state_height}
-use Rattle.task_equations.specs.least_tables.declared.links.Link.{Link}
-use Rattle.task_equations.specs.least_tables.declared.covers.Uncovered.{Uncovered}
-use Rattle.task_equations.specs.least_tables.declared.covers.Uncovered.TheVariants.{Entry as the_entry}
-use Rattle.task_equations.specs.least_tables.declared.covers.Uncovered.TheVariants.{Edge as the_edge}
-use Rattle.task_equations.specs.least_tables.Systems.{System}
-use Rattle.task_equations.specs.least_tables.Solutions.{NodeTable, at, IsSolution, IsFirstUncovered}
-use Rattle.task_equations.specs.least_tables.Whole as whole
+use Rattle.task_equations.specs.table_covers.declared.links.Link.{Link}
+use Rattle.task_equations.specs.table_covers.declared.covers.Uncovered.{Uncovered}
+use Rattle.task_equations.specs.table_covers.declared.covers.Uncovered.TheVariants.{Entry as the_entry}
+use Rattle.task_equations.specs.table_covers.declared.covers.Uncovered.TheVariants.{Edge as the_edge}
+use Rattle.task_equations.specs.table_covers.Systems.{System}
+use Rattle.task_equations.specs.table_covers.Solutions.{NodeTable, at, IsSolution, IsFirstUncovered}
+use Rattle.task_equations.specs.table_covers.Whole as whole
 use Rattle.task_equations.specs.state_fits.Tops.{top_state}
 use Rattle.task_equations.specs.Bodies.{Body, node_at, copy_at, live_at}
 use Rattle.task_equations.specs.Equations.{after_along, added_along, link_of, cells_at, rounded_at}

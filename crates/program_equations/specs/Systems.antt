@@ -8,15 +8,14 @@ use Rattle.edge_filters.specs.interfere_set.Stores.{Interferences, IsStore, IsSt
 use Rattle.edge_filters.specs.interfere_set.Stores.{no_interference}
 use Rattle.edge_filters.specs.interfere_set.laws.StoreLaws.{HasNoInterference}
 use Rattle.edge_filters.specs.transfer_rows.StateForms.{State, IsStateForm, IsStateUnder}
-use Rattle.task_equations.specs.temporary_types.Sorts.{Sort}
 use Rattle.task_equations.specs.state_fits.Fits.{FitsStore}
-use Rattle.task_equations.specs.least_tables.Systems.{System}
-use Rattle.task_equations.specs.least_tables.Solutions.{NodeTable, at, least_of, IsNodewiseBelow, IsSolution}
-use Rattle.task_equations.specs.least_tables.Solutions.{IsLeastSolution}
-use Rattle.task_equations.specs.least_tables.Passes.{added_below}
+use Rattle.task_equations.specs.table_covers.Systems.{System}
+use Rattle.task_equations.specs.table_covers.Solutions.{NodeTable, at, least_of, IsNodewiseBelow, IsSolution}
+use Rattle.task_equations.specs.table_covers.Solutions.{IsLeastSolution}
+use Rattle.task_equations.specs.table_covers.Passes.{added_below}
 use Rattle.task_equations.specs.Bodies.{Body, copy_at}
 use Rattle.task_equations.specs.Equations.{equations_of, link_of, added_along}
-use Rattle.task_equations.specs.Premises.{IsBody, FitsNode}
+pub use Rattle.task_equations.specs.Premises.{FitsBody}
 use Rattle.program_equations.specs.Programs.{ProgramBodies, body_at, HasSection}
 use Rattle.program_equations.specs.Entries.{first_state, ended, later_state}
 
@@ -45,10 +44,6 @@ stores = record {
 }
 
 -- ## What fits
-
--- a state fits a node of a body, whatever sorts its temporaries have
-abbrev pub FitsBody : Body → ℕ → State → Type 0
-FitsBody b n s = (sorts : List Sort) → IsBody b sorts → FitsNode b sorts n s
 
 abbrev pub FitsProgram : ProgramBodies → Interferences → Type 0
 FitsProgram p store = FitsStore p.laid p.tasks store

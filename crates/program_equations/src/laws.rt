@@ -8,13 +8,9 @@ ghost use Rattle.edge_filters.specs.interfere_set.Stores.{Interferences, no_inte
 ghost use Rattle.edge_filters.specs.transfer_rows.StateForms.{State, IsStateUnder};
 ghost use Rattle.edge_filters.specs.edge_actions.Layouts.{is_shared_cell};
 ghost use Rattle.task_equations.specs.typed_values.Types.{IsOfType};
-ghost use Rattle.task_equations.specs.least_tables.Systems.{IsLawfulSystem};
-ghost use Rattle.task_equations.specs.least_tables.Solutions.{NodeTable, at, least_of, IsLeastSolution};
-ghost use Rattle.task_equations.specs.temporary_types.Sorts.{Sort};
-ghost use Rattle.task_equations.specs.state_fits.Fits.{FitsStore};
-ghost use Rattle.task_equations.specs.Bodies.{Body};
+ghost use Rattle.task_equations.specs.table_covers.Systems.{IsLawfulSystem};
+ghost use Rattle.task_equations.specs.table_covers.Solutions.{NodeTable, at, least_of, IsLeastSolution};
 ghost use Rattle.task_equations.specs.Equations.{equations_of};
-ghost use Rattle.task_equations.specs.Premises.{IsBody};
 ghost use Rattle.program_equations.specs.Programs.{ProgramBodies, body_at, IsProgram};
 ghost use Rattle.program_equations.specs.Entries.{entry_state, first_state};
 ghost use Rattle.program_equations.specs.Systems.{states, stores, FitsBody, FitsProgram};
@@ -22,13 +18,10 @@ ghost use Rattle.program_equations.specs.Systems.{task_entry, task_system, least
 ghost use Rattle.program_equations.specs.Systems.{added_at, IsSection, IsSectionBelow, IsLeastSection};
 ghost use Rattle.program_equations.specs.Solutions.{IsWholeLawful, IsWholeLeast};
 
-/// The equations of a body over a store that fits are a system of equations in the states that fit the body, whatever
-/// sorts its temporaries have; so are those of each body of a program.
+/// The equations of each body of a program, over a store that fits, are a system of equations in the states that fit
+/// the body.
 pub fn equations_are_lawful()
-    ensures body { (b : Body) (sorts : List Sort) → IsBody b sorts → (tasks : ℕ) (store : Interferences)
-        → FitsStore b.laid tasks store → (entry : Option State) → IfSome entry (FitsBody b 0)
-        → IsLawfulSystem states.is_value states.leq states.joined (FitsBody b) (equations_of b entry store) }
-    ensures program { (p : ProgramBodies) → IsProgram p → (t : ℕ) → t < length p.bodies → (entry : Option State)
+    ensures { (p : ProgramBodies) → IsProgram p → (t : ℕ) → t < length p.bodies → (entry : Option State)
         (store : Interferences) → FitsProgram p store → IfSome entry (FitsBody (body_at p t) 0)
         → IsLawfulSystem states.is_value states.leq states.joined (FitsBody (body_at p t))
         (equations_of (body_at p t) entry store) }

@@ -9,7 +9,7 @@ use Rattle.mutex_configs.specs.declared.nodes.ConfiguredGraph.{ConfiguredGraph}
 use Rattle.mutex_configs.specs.declared.nodes.EdgeCopy.{EdgeCopy}
 use Rattle.mutex_configs.specs.declared.programs.Program.{Program}
 use Rattle.post_recheck.specs.transfer_rows.StateForms.{State}
-use Rattle.post_recheck.specs.least_tables.Solutions.{at}
+use Rattle.post_recheck.specs.table_covers.Solutions.{at}
 use Rattle.post_recheck.specs.task_equations.Bodies.{Body}
 use Rattle.post_recheck.specs.program_equations.Programs.{ProgramBodies, body_at, IsProgram}
 use Rattle.post_recheck.specs.program_equations.Solutions.{table_at, tables_of}

@@ -10,7 +10,7 @@ use Rattle.tm_terms.specs.declared.places.Place.{Place}
 use Rattle.transfer_int.specs.declared.outcomes.Classes.{Classes}
 use Rattle.transfer_int.specs.Outcomes.{notes}
 use Rattle.post_recheck.specs.transfer_rows.StateForms.{State}
-use Rattle.post_recheck.specs.least_tables.Solutions.{NodeTable}
+use Rattle.post_recheck.specs.table_covers.Solutions.{NodeTable}
 use Rattle.post_recheck.specs.task_equations.Bodies.{Body, copy_at}
 use Rattle.post_recheck.specs.program_equations.Programs.{ProgramBodies}
 use Rattle.access_races.specs.declared.accesses.Way.{Way}

@@ -12,7 +12,7 @@ use Rattle.post_recheck.specs.transfer_rows.StateForms.{State}
 use Rattle.post_recheck.specs.edge_effects.declared.views.After.{After}
 use Rattle.post_recheck.specs.edge_effects.Effects.{IsAfter}
 use Rattle.mutex_configs.specs.declared.nodes.EdgeCopy.{EdgeCopy}
-use Rattle.post_recheck.specs.least_tables.Solutions.{at}
+use Rattle.post_recheck.specs.table_covers.Solutions.{at}
 use Rattle.post_recheck.specs.task_equations.Bodies.{Body, no_copy, copy_at}
 use Rattle.post_recheck.specs.task_equations.Equations.{action_along, around_along}
 use Rattle.post_recheck.specs.program_equations.Systems.{FitsBody}

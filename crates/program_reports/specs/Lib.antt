@@ -4,7 +4,7 @@ pub use Rattle.cell_env.specs as cell_env
 pub use Rattle.post_recheck.specs.edge_actions
 pub use Rattle.post_recheck.specs.filters
 pub use Rattle.interfere_set.specs as interfere_set
-pub use Rattle.post_recheck.specs.least_tables
+pub use Rattle.post_recheck.specs.table_covers
 pub use Rattle.pointer_dom.specs as pointer_dom
 pub use Rattle.post_recheck.specs as post_recheck
 pub use Rattle.post_recheck.specs.program_equations

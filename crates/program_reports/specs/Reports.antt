@@ -12,7 +12,7 @@ use Rattle.mutex_configs.specs.declared.nodes.EdgeCopy.{EdgeCopy}
 use Rattle.interfere_set.specs.Stores.{are_apart}
 use Rattle.post_recheck.specs.transfer_rows.StateForms.{State}
 use Rattle.post_recheck.specs.transfer_rows.Reports.{targets_of, IsListed}
-use Rattle.post_recheck.specs.least_tables.Solutions.{NodeTable}
+use Rattle.post_recheck.specs.table_covers.Solutions.{NodeTable}
 use Rattle.post_recheck.specs.task_equations.Bodies.{edge_of, node_at, copy_at}
 use Rattle.post_recheck.specs.task_equations.Equations.{action_along, around_along}
 use Rattle.post_recheck.specs.program_equations.Programs.{ProgramBodies, body_at}

@@ -1,7 +1,7 @@
 //! What a body gives to a report.
 ghost use Rattle.std.specs.Prelude.{◌≡◌, ◌<◌, ◌⊎◌, ◌↔◌, true, length, Contains, OnOk};
 ghost use Rattle.tm_terms.specs.declared.alarms.Alarm.{Alarm as AnAlarm};
-ghost use Rattle.post_recheck.specs.least_tables.Solutions.{at};
+ghost use Rattle.post_recheck.specs.table_covers.Solutions.{at};
 ghost use Rattle.post_recheck.specs.program_equations.Solutions.{tables_of};
 ghost use Rattle.post_recheck.specs.body_systems.Systems.{body_of};
 ghost use Rattle.post_recheck.specs.program_systems.Analysable.{IsAnalysable};

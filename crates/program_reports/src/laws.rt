@@ -2,7 +2,7 @@
 ghost use Rattle.std.specs.Prelude.{◌≡◌, ℕ, List};
 ghost use Rattle.tm_terms.specs.declared.alarms.Alarm.{Alarm};
 ghost use Rattle.post_recheck.specs.transfer_rows.StateForms.{State};
-ghost use Rattle.post_recheck.specs.least_tables.Solutions.{NodeTable};
+ghost use Rattle.post_recheck.specs.table_covers.Solutions.{NodeTable};
 ghost use Rattle.post_recheck.specs.program_equations.Programs.{ProgramBodies, IsProgram};
 ghost use Rattle.program_reports.specs.Reports.{IsReport};
 ghost use Rattle.program_reports.specs.Laws.{Agree};

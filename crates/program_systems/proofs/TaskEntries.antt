@@ -8,7 +8,7 @@ use Rattle.mutex_configs.specs.flow_graph.declared.graphs.Graph.{Graph}
 use Rattle.mutex_configs.specs.declared.nodes.ConfiguredGraph.{ConfiguredGraph}
 use Rattle.mutex_configs.specs.declared.programs.Program.{Program}
 use Rattle.entry_states.specs.transfer_rows.StateForms.{State}
-use Rattle.entry_states.specs.least_tables.Solutions.{at}
+use Rattle.entry_states.specs.table_covers.Solutions.{at}
 use Rattle.entry_states.specs.task_equations.Bodies.{Body}
 use Rattle.entry_states.specs.program_equations.Readings.{read_layout}
 use Rattle.entry_states.specs.program_equations.Programs.{ProgramBodies, body_at}

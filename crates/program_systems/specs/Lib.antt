@@ -10,7 +10,7 @@ pub use Rattle.entry_states.specs.filters
 pub use Rattle.mutex_configs.specs.flow_graph
 pub use Rattle.mutex_configs.specs.graph_facts
 pub use Rattle.interfere_set.specs as interfere_set
-pub use Rattle.entry_states.specs.least_tables
+pub use Rattle.entry_states.specs.table_covers
 pub use Rattle.mutex_configs.specs as mutex_configs
 pub use Rattle.pointer_dom.specs as pointer_dom
 pub use Rattle.entry_states.specs.program_equations

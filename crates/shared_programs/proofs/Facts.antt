@@ -10,7 +10,7 @@ use Rattle.program_systems.specs.pointer_dom.contracts.abs_value.AbsValue as Abs
 use Rattle.program_systems.specs.pointer_dom.contracts.abs_value.AbsValueLattice.TheImpl as OfValues
 use Rattle.program_systems.specs.cell_env.contracts.states.State as State
 use Rattle.program_systems.specs.graph_facts.contracts.regions.Head as Head
-use Rattle.program_systems.specs.least_tables.contracts.links.Link as Link
+use Rattle.program_systems.specs.table_covers.contracts.links.Link as Link
 use Rattle.program_systems.specs.body_systems.contracts.facts.BodyFacts as BodyFacts
 use Rattle.program_systems.specs.body_systems.contracts.facts.BodyFacts.TheInside as FactsInside
 use Rattle.program_systems.specs.body_systems.contracts.states.BodyState as BodyState

@@ -16,8 +16,10 @@ use Rattle.program_equations.specs.value_heights.Heights.{value_height}
 use Rattle.program_equations.specs.value_heights.laws.ValueHeights.{value_heights}
 use Rattle.program_equations.specs.typed_values.Types.{IsOfType}
 use Rattle.program_equations.specs.state_fits.Tops.{all_values}
-use Rattle.program_equations.specs.state_fits.Fits.{FitsNested}
+use Rattle.program_equations.specs.state_fits.Fits.{file_set, FitsNested}
+use Rattle.program_equations.specs.temporary_types.Sorts.{IsMutex}
 use Rattle.program_equations.specs.state_fits.laws.TopStates.{all_are, values_below}
+use Rattle.program_equations.specs.state_fits.laws.FileSets.{in_sixteen}
 use Rattle.program_equations.specs.Programs.{ProgramBodies}
 use Rattle.program_equations.specs.Systems.{FitsProgram}
 use Rattle.program_equations.specs.laws.EntryStates.{typed_is}
@@ -99,14 +101,14 @@ module _ (p : ProgramBodies) where
             )),
       ))
 
-  sets_few : (l : ℕ) → IsWithin l 65535 → l < 65536
-  sets_few l within = let le : l ≤ 65535 = within_le l 65535 within in omega (arith, le)
+  sets_few : (l : ℕ) → IsWithin l (file_set p.laid) → l < 65536
+  sets_few l within = let le : l ≤ 65535 = within_le l 65535 (in_sixteen p.laid l within) in omega (arith, le)
 
   pub store_bounded : (store : Interferences) → FitsProgram p store
       → store_height value_height store ≤ store_limit p
   store_bounded store fits =
       let weak : table_height (table_height (table_height value_height)) store.weak ≤ entries_limit p 65536 =
-      entries_bounded 65536 (λ l. IsWithin l 65535) sets_few store.weak fits.weak in
+      entries_bounded 65536 (λ l. IsWithin l (file_set p.laid)) sets_few store.weak fits.weak in
       let sync : table_height (table_height (table_height value_height)) store.sync ≤ entries_limit p 16 =
-      entries_bounded 16 (λ m. m < 16) (λ m lt. lt) store.sync fits.sync in
+      entries_bounded 16 (IsMutex p.laid) (λ m h. h.1) store.sync fits.sync in
       omega (arith, weak, sync)

@@ -4,7 +4,7 @@ use Rattle.program_equations.specs.tm_lattice.Rounds.{IsHistory, IsClosed}
 use Rattle.program_equations.specs.interfere_set.Stores.{Interferences}
 use Rattle.program_equations.specs.interfere_set.laws.StoreLaws.{store_order, store_join, store_closure}
 use Rattle.program_equations.specs.state_fits.laws.PlacesFit.{states_order, states_join}
-use Rattle.program_equations.specs.least_tables.laws.WholeLeast as least
+use Rattle.program_equations.specs.table_covers.laws.WholeLeast as least
 use Rattle.program_equations.specs.Programs.{ProgramBodies, IsProgram}
 use Rattle.program_equations.specs.Systems.{states, stores, IsSection, IsSectionBelow, least_section, least_local}
 use Rattle.program_equations.specs.Solutions.{node_count, links_in, after_in, entry_in, outward_in, heads_in, suits_in}

@@ -4,7 +4,7 @@ use Rattle.program_equations.specs.tm_lattice.Rounds.{IsHistory, IsClosed}
 use Rattle.program_equations.specs.interfere_set.Stores.{Interferences, joined_store, rounded_store}
 use Rattle.program_equations.specs.transfer_rows.StateForms.{State}
 use Rattle.program_equations.specs.value_heights.Heights.{value_height}
-use Rattle.program_equations.specs.least_tables.Solutions.{NodeTable}
+use Rattle.program_equations.specs.table_covers.Solutions.{NodeTable}
 use Rattle.program_equations.specs.state_fits.Tops.{all_values}
 use Rattle.program_equations.specs.Programs.{ProgramBodies}
 use Rattle.program_equations.specs.Systems.{stores, pass_of}

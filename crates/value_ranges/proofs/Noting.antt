@@ -5,7 +5,7 @@ use Rattle.std.specs.FinMap.{entries}
 use Rattle.tm_laid.specs.Layouts.{LaidTree}
 use Rattle.interfere_set.specs.Stores.{Nested}
 use Rattle.post_recheck.specs.transfer_rows.StateForms.{State, own_of}
-use Rattle.post_recheck.specs.least_tables.Solutions.{at}
+use Rattle.post_recheck.specs.table_covers.Solutions.{at}
 use Rattle.value_ranges.specs.declared.cells.IntegerCell.{IntegerCell}
 use Rattle.value_ranges.specs.reading.Notes.{Noted, noted_at, IsWidened, AreWidened, AreIntegerCells, IsFirstBelow}
 use Rattle.value_ranges.specs.reading.Notes.{IsInValues, IsInNode}

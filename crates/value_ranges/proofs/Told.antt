@@ -15,7 +15,7 @@ use Rattle.interfere_set.specs.Stores.{Interferences, value_or_none, left_in}
 use Rattle.interfere_set.specs.laws.Joins.{IsOf, of_entry, entry_of}
 use Rattle.post_recheck.specs.transfer_rows.StateForms.{State, own_of}
 use Rattle.post_recheck.specs.transfer_rows.Contributions.{entry_at, at_task}
-use Rattle.post_recheck.specs.least_tables.Solutions.{at}
+use Rattle.post_recheck.specs.table_covers.Solutions.{at}
 use Rattle.post_recheck.specs.program_equations.Readings.{read_layout}
 use Rattle.post_recheck.specs.program_equations.Programs.{ProgramBodies}
 use Rattle.post_recheck.specs.program_equations.Solutions.{table_at, tables_of}

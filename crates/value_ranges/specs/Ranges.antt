@@ -8,7 +8,7 @@ use Rattle.tm_laid.specs.Layouts.{LaidTree, cell_at, abstract_at, is_shared}
 use Rattle.interfere_set.specs.Stores.{Interferences}
 use Rattle.post_recheck.specs.transfer_rows.StateForms.{State, own_of}
 use Rattle.post_recheck.specs.transfer_rows.Contributions.{entry_at}
-use Rattle.post_recheck.specs.least_tables.Solutions.{NodeTable}
+use Rattle.post_recheck.specs.table_covers.Solutions.{NodeTable}
 use Rattle.post_recheck.specs.program_equations.Programs.{ProgramBodies}
 use Rattle.value_ranges.specs.declared.object_bounds.ObjectBounds.{ObjectBounds}
 

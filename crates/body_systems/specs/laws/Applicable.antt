@@ -22,8 +22,8 @@ use Rattle.transfer_mem.specs.Applicable.{IsConstant, AreIntegers, IsOperable}
 use Rattle.task_equations.specs.typed_values.Types.{IsOfType}
 use Rattle.task_equations.specs.typed_values.laws.TypeLaws.{none_of_type}
 use Rattle.temporary_types.specs.Sorts.{Sort, numbers, pointers, IsOfSort, Holds, HoldsNumbers}
-use Rattle.temporary_types.specs.Sorts.{HoldsRight, FitsSorts}
-use Rattle.task_equations.specs.state_fits.Typed.{types_of}
+use Rattle.temporary_types.specs.Sorts.{HoldsRight, FitsSorts, types_of}
+use Rattle.task_equations.specs.state_fits.Kinds.{OfTypes}
 use Rattle.task_equations.specs.state_fits.Fits.{FitsTemp, FitsPlace}
 use Rattle.task_equations.specs.state_fits.laws.Exact.{wider_type, has_type}
 use Rattle.program_equations.specs.Programs.{IsTested}
@@ -117,8 +117,8 @@ module _ (laid : LaidTree) (sorts : List Sort) (s : State)
 -- ## States
 
 module _ (laid : LaidTree) (task : ℕ) (sorts : List Sort) (live : List ℕ) (s : State)
-    (fits : FitsPlace laid task (types_of sorts) live s) where
-  typed_at : (t : ℕ) (e : Option Temp) → FitsTemp laid (types_of sorts) live t e
+    (fits : FitsPlace laid task (OfTypes laid (types_of sorts)) live s) where
+  typed_at : (t : ℕ) (e : Option Temp) → FitsTemp (OfTypes laid (types_of sorts)) live t e
       → IsOfType laid (types_of sorts t) (temp_value e)
   typed_at t None h = none_of_type laid (types_of sorts t)
   typed_at t (Some e) h = h.1

@@ -2,9 +2,9 @@
 use Rattle.std.specs.Prelude.{ℕ, suc, ◌<◌, List, length, get_or}
 use Rattle.flow_graph.specs.Graphs.{Edges}
 use Rattle.mutex_configs.specs.declared.nodes.EdgeCopy.{EdgeCopy}
-use Rattle.least_tables.specs.declared.covers.Uncovered.{Uncovered}
-use Rattle.least_tables.specs.declared.covers.Uncovered.TheVariants.{Entry as the_entry}
-use Rattle.least_tables.specs.declared.covers.Uncovered.TheVariants.{Edge as the_edge}
+use Rattle.table_covers.specs.declared.covers.Uncovered.{Uncovered}
+use Rattle.table_covers.specs.declared.covers.Uncovered.TheVariants.{Entry as the_entry}
+use Rattle.table_covers.specs.declared.covers.Uncovered.TheVariants.{Edge as the_edge}
 use Rattle.shared_programs.specs.task_equations.Bodies.{no_copy}
 
 -- counted from 1, and 0 stands for the entry

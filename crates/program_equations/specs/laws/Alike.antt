@@ -9,10 +9,10 @@ use Rattle.std.proofs.lemmas.List.{length-append, get_or_append_left}
 use Rattle.std.specs.Option.{option_map}
 use Rattle.region_cells.specs.tm_lattice.declared.lattices.Lattice as lattice
 use Rattle.region_cells.specs.tm_lattice.Tables.{IsBelow}
-use Rattle.task_equations.specs.least_tables.declared.links.Link.{Link}
-use Rattle.task_equations.specs.least_tables.Systems.{System, IsLawfulSystem, from_of}
-use Rattle.task_equations.specs.least_tables.Solutions.{NodeTable, at, brought, IsSolution, IsLeastSolution}
-use Rattle.task_equations.specs.least_tables.Passes.{with_added, added_below}
+use Rattle.task_equations.specs.table_covers.declared.links.Link.{Link}
+use Rattle.task_equations.specs.table_covers.Systems.{System, IsLawfulSystem, from_of}
+use Rattle.task_equations.specs.table_covers.Solutions.{NodeTable, at, brought, IsSolution, IsLeastSolution}
+use Rattle.task_equations.specs.table_covers.Passes.{with_added, added_below}
 use Rattle.edge_filters.specs.transfer_rows.StateForms.{State}
 use Rattle.program_equations.specs.Systems.{listed}
 

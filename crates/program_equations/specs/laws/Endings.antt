@@ -6,9 +6,8 @@ use Rattle.std.proofs.Common.{sym, ap, subst, ◌∙◌, arith}
 use Rattle.std.specs.FinMap.{get}
 use Rattle.region_cells.specs.tm_lattice.Tables.{IsBelow, joined_at}
 use Rattle.region_cells.specs.tm_lattice.laws.TableLaws.{get-joined_table}
-use Rattle.region_cells.specs.tm_typed.declared.types.Scalar.{Scalar}
 use Rattle.region_cells.specs.tm_laid.Layouts.{LaidTree, abstract_at}
-use Rattle.edge_filters.specs.pointer_dom.Values.{IsValuesBelow, joined_values, no_value}
+use Rattle.edge_filters.specs.pointer_dom.Values.{Values, IsValuesBelow, joined_values, no_value}
 use Rattle.edge_filters.specs.pointer_dom.laws.ValueLaws.{values_nothing}
 use Rattle.edge_filters.specs.cell_env.Cells.{joined_cell}
 use Rattle.edge_filters.specs.cell_env.States.{joined_state}
@@ -17,7 +16,7 @@ use Rattle.edge_filters.specs.transfer_rows.StateForms.{IsStateUnder}
 use Rattle.task_equations.specs.typed_values.laws.TypeLaws.{none_of_type, joined_of_type}
 use Rattle.region_cells.specs.flow_graph.Graphs.{Edges}
 use Rattle.task_equations.specs.mutex_configs.declared.nodes.ConfiguredNode.{ConfiguredNode}
-use Rattle.task_equations.specs.least_tables.Solutions.{NodeTable}
+use Rattle.task_equations.specs.table_covers.Solutions.{NodeTable}
 use Rattle.task_equations.specs.state_fits.Fits.{FitsCell, FitsPlace}
 use Rattle.task_equations.specs.state_fits.laws.PlacesFit.{states_order, states_join}
 use Rattle.program_equations.specs.Entries.{is_end, ended_below, ended_in, later_state}
@@ -36,9 +35,9 @@ module _ (laid : LaidTree) where
   own_typed task x (Some c) h = h.1.value
 
   -- what fits a place has such values
-  pub place_ends : (task : ℕ) (types : ℕ → Scalar) (live : List ℕ) (s : State) → FitsPlace laid task types live s
-      → IsEnding s
-  place_ends task types live s fits = record {
+  pub place_ends : (task : ℕ) (Holds : ℕ → Values → Type 0) (live : List ℕ) (s : State)
+      → FitsPlace laid task Holds live s → IsEnding s
+  place_ends task Holds live s fits = record {
     form = fits.form;
     cells = λ x. own_typed task x (get s.cells x) (fits.cells x);
   }
@@ -156,10 +155,10 @@ module _ (laid : LaidTree) where
   -- ## What begins then
 
   module _ (task : ℕ) where
-    pub later_fits : (types : ℕ → Scalar) (a : Option State) → Ends a
-        → IfSome (later_state laid task a) (FitsPlace laid task types [])
-    later_fits types None h = tt
-    later_fits types (Some s) h = entry_fits laid task (own_of s) (λ x is. h.cells x) types
+    pub later_fits : (Holds : ℕ → Values → Type 0) (a : Option State) → Ends a
+        → IfSome (later_state laid task a) (FitsPlace laid task Holds [])
+    later_fits Holds None h = tt
+    later_fits Holds (Some s) h = entry_fits laid task (own_of s) (λ x is. h.cells x) Holds
 
     own_rises : (x : ℕ) (a b : Option Cell) → IsTyped laid x (own_value b) → IsBelow IsCellUnder a b
         → IsValuesBelow (own_value a) (own_value b)

@@ -29,7 +29,8 @@ use Rattle.edge_filters.proofs.low.edge_actions.Lists.{decided}
 use Rattle.edge_filters.proofs.low.edge_actions.Ranges.{one_range}
 use Rattle.task_equations.specs.typed_values.Types.{AreObjects, IsOfType}
 use Rattle.task_equations.specs.typed_values.laws.TypeLaws.{typed_values}
-use Rattle.task_equations.specs.state_fits.Fits.{FitsTemp, IsCellOf, FitsCell, FitsPlace}
+use Rattle.task_equations.specs.state_fits.Fits.{file_set, FitsTemp, FitsCopy, IsCellOf, FitsCell, FitsPlace}
+use Rattle.task_equations.specs.state_fits.laws.FileSets.{none_within}
 use Rattle.program_equations.specs.Entries.{entry_cell, entry_cells, entry_state}
 
 -- ## Values of cells that were not stored yet
@@ -127,7 +128,12 @@ module _ (laid : LaidTree) where
         | inl lt ↦ elim (decided (reach x)) [
           | inl h ↦
               let c : IsCellOf laid x (entry_cell laid shared x) =
-              record { value = value_typed x (is_shared_cell laid x) refl; pending = refl } in
+              record {
+                value = value_typed x (is_shared_cell laid x) refl;
+                pending = none_within (file_set laid);
+                local = λ none. refl;
+                shared = λ both. refl;
+              } in
               subst (FitsCell laid task x) (sym (entry_here shared count x lt h)) (record { cell = lt; seen = h }, c)
           | inr h ↦
               let none = no_entry_there shared count x (λ lt' h'. true≢false (sym h' ∙ h)) in
@@ -149,10 +155,11 @@ module _ (laid : LaidTree) where
       }
 
       -- it fits the entry of the body, where nothing is live
-      pub entry_fits : (types : ℕ → Scalar) → FitsPlace laid task types [] state
-      entry_fits types = record {
+      pub entry_fits : (Holds : ℕ → Values → Type 0) → FitsPlace laid task Holds [] state
+      entry_fits Holds = record {
         form = entry_is;
-        temps = λ t. subst (FitsTemp laid types [] t) (sym (get-empty nat_cmp t)) refl;
+        temps = λ t. subst (FitsTemp Holds [] t) (sym (get-empty nat_cmp t)) refl;
+        copies = λ t. subst (FitsCopy laid task) (sym (get-empty nat_cmp t)) tt;
         cells = cell_fits;
       }
 

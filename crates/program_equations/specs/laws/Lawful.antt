@@ -15,24 +15,23 @@ use Rattle.edge_filters.specs.transfer_rows.Rows.{after}
 use Rattle.edge_filters.proofs.low.transfer_rows.RowsRise.{after_rises}
 use Rattle.edge_filters.specs.edge_actions.Layouts.{spots_of}
 use Rattle.edge_filters.proofs.low.edge_actions.ActionForms.{edge_is}
-use Rattle.task_equations.specs.least_tables.declared.links.Link.{Link}
-use Rattle.task_equations.specs.least_tables.Systems.{no_link, from_of}
-use Rattle.task_equations.specs.least_tables.Solutions.{NodeTable, IsLeastSolution}
-use Rattle.task_equations.specs.least_tables.laws.Iterates as iterates
-use Rattle.task_equations.specs.least_tables.laws.AddedTotals as totals
-use Rattle.task_equations.specs.least_tables.Whole as whole
+use Rattle.task_equations.specs.table_covers.declared.links.Link.{Link}
+use Rattle.task_equations.specs.table_covers.Systems.{no_link, from_of}
+use Rattle.task_equations.specs.table_covers.Solutions.{NodeTable, IsLeastSolution}
+use Rattle.task_equations.specs.table_covers.laws.Iterates as iterates
+use Rattle.task_equations.specs.table_covers.laws.AddedTotals as totals
+use Rattle.task_equations.specs.table_covers.Whole as whole
 use Rattle.task_equations.specs.state_fits.Fits.{FitsStore}
 use Rattle.task_equations.specs.state_fits.laws.PlacesFit.{states_order, states_join}
 use Rattle.task_equations.specs.Bodies.{Body, no_copy, edge_of, copy_at}
 use Rattle.task_equations.specs.Equations.{tests_pointer, action_along, around_along, led, after_along, added_along}
 use Rattle.task_equations.specs.Equations.{link_of}
-use Rattle.task_equations.specs.Premises.{FitsNode}
 use Rattle.program_equations.specs.Programs.{ProgramBodies, body_at, IsProgram}
 use Rattle.program_equations.specs.Systems.{states, stores, FitsBody, FitsProgram, task_entry, task_system}
 use Rattle.program_equations.specs.Systems.{least_section, least_local, pass_of, IsSection, IsSectionBelow}
 use Rattle.program_equations.specs.Solutions.{passing, node_count, links_in, after_in, entry_in, outward_in, heads_in}
 use Rattle.program_equations.specs.Solutions.{suits_in, height_of, limit_in, added_in, IsWholeLawful}
-use Rattle.program_equations.specs.laws.Fitting.{body_is, body_is_lawful}
+use Rattle.program_equations.specs.laws.Fitting.{body_is_lawful}
 use Rattle.program_equations.specs.laws.Sections.{section_is, section_is_first}
 use Rattle.program_equations.specs.laws.StoresFit.{nothing_fits, joined_fits, added_fits, added_rises, bottom}
 use Rattle.program_equations.specs.laws.TaskEntries.{task_entry_fits, task_entry_rises}
@@ -77,7 +76,7 @@ module _ (p : ProgramBodies) (is : IsProgram p) where
       ap (λ (l : Link). l.from) (get_or-map link_of b.copies e no_copy no_link (in_copies t e lt))
 
   form : (t n : ℕ) (s : State) → t < p.tasks → FitsBody (body_at p t) n s → IsStateForm s
-  form t n s lt fits = (fits (is.sorts t) (body_is p is t (in_bodies t lt))).form
+  form t n s lt fits = fits.form
 
   -- what an edge adds fits the program
   edge_adds : (t e : ℕ) (s : State) → t < p.tasks → e < length (links t)
@@ -90,7 +89,7 @@ module _ (p : ProgramBodies) (is : IsProgram p) where
       subst (λ l. FitsStore l p.tasks (added t e s)) at.numbered.laid
       (added_fits b (is.sorts t) at.body reached p.tasks (subst (λ k. k < p.tasks) (sym at.numbered.number) lt)
       c (at.body.copies e (in_copies t e within)) s
-      (subst (λ n. FitsNode b (is.sorts t) n s) (from_is t e within) (fits (is.sorts t) at.body)))
+      (subst (λ n. FitsBody b n s) (from_is t e within) fits))
     where
       reached : (scalar : Scalar) (spot : Spot)
           → (let b = body_at p t in IsSpotOf (spots_of b.laid b.task scalar) spot)

@@ -13,7 +13,7 @@ use Rattle.edge_filters.specs.pointer_dom.Values.{Values}
 use Rattle.edge_filters.specs.interfere_set.Stores.{Nested, Interferences, no_interference, rounded_store}
 use Rattle.edge_filters.specs.interfere_set.laws.StoreLaws.{store_order, store_join, store_closure}
 use Rattle.task_equations.specs.typed_values.Types.{HaveEnds}
-use Rattle.task_equations.specs.least_tables.laws.WholeLeast as least
+use Rattle.task_equations.specs.table_covers.laws.WholeLeast as least
 use Rattle.task_equations.specs.state_fits.laws.PlacesFit.{states_order, states_join}
 use Rattle.program_equations.specs.Programs.{ProgramBodies, IsProgram}
 use Rattle.program_equations.specs.Systems.{states, stores, FitsProgram, least_section, least_local, pass_of, IsSection}

@@ -37,6 +37,7 @@ use Rattle.edge_filters.specs.edge_actions.Layouts.{spots_before, spots_of}
 use Rattle.edge_filters.specs.edge_actions.Layouts.{is_shared_cell, is_smashed_cell}
 use Rattle.edge_filters.specs.edge_actions.Edges.{pointer_value, constant_value, action_of}
 use Rattle.task_equations.specs.temporary_types.Sorts.{Sort, LeadsInto, Works, FitsSorts}
+use Rattle.task_equations.specs.state_fits.Fits.{SpotsSeen}
 use Rattle.task_equations.specs.state_fits.Typed.{PointsToObject, NamesObject, NamesObjects, SpotsAgree}
 use Rattle.program_equations.specs.Readings.{read_file, read_layout}
 use Rattle.program_equations.specs.Entries.{initial_value, initial_or_none, initial_at, initial_below, initial_of}
@@ -251,13 +252,11 @@ module _ (laid : LaidTree) where
   pub agree_read : (task : ℕ) → SpotsAgree laid task → SpotsAgree (read_layout laid) task
   agree_read task h scalar spot is = h scalar spot (subst (λ spots. IsSpotOf spots spot) (spots_read task scalar) is)
 
-  -- each cell that a body may reach is of an abstract cell that there is
-  pub within_read : (task : ℕ)
-      → ((scalar : Scalar) (spot : Spot) → IsSpotOf (spots_of laid task scalar) spot
-      → spot.cell < length laid.abstract_cells)
-      → (scalar : Scalar) (spot : Spot) → IsSpotOf (spots_of (read_layout laid) task scalar) spot
-      → spot.cell < length laid.abstract_cells
-  within_read task h scalar spot is = h scalar spot (subst (λ spots. IsSpotOf spots spot) (spots_read task scalar) is)
+  -- each cell that a body may reach is one that it sees
+  pub seen_read : (task : ℕ) → SpotsSeen laid task → SpotsSeen (read_layout laid) task
+  seen_read task h scalar spot is =
+      let r = h scalar spot (subst (λ spots. IsSpotOf spots spot) (spots_read task scalar) is) in
+      record { cell = r.cell; seen = r.seen }
 
   pub type_read : (scalar : Scalar) (v : Values) → IsOfType laid scalar v → IsOfType (read_layout laid) scalar v
   type_read (Scalars.Int t) v h = h

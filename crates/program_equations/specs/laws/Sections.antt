@@ -4,9 +4,9 @@ use Rattle.std.proofs.Common.{sym, ap, ◌∙◌}
 use Rattle.edge_filters.specs.transfer_rows.StateForms.{State}
 use Rattle.edge_filters.proofs.low.edge_actions.Lists.{lt_test}
 use Rattle.edge_filters.specs.interfere_set.Stores.{no_interference}
-use Rattle.task_equations.specs.least_tables.Systems.{IsLawfulSystem}
-use Rattle.task_equations.specs.least_tables.Solutions.{NodeTable, at, least_of, IsLeastSolution}
-use Rattle.task_equations.specs.least_tables.laws.Iterates as iterates
+use Rattle.task_equations.specs.table_covers.Systems.{IsLawfulSystem}
+use Rattle.task_equations.specs.table_covers.Solutions.{NodeTable, at, least_of, IsLeastSolution}
+use Rattle.task_equations.specs.table_covers.laws.Iterates as iterates
 use Rattle.task_equations.specs.state_fits.laws.PlacesFit.{states_order, states_join}
 use Rattle.task_equations.specs.Bodies.{Body}
 use Rattle.program_equations.specs.Programs.{ProgramBodies, body_at, HasSection, IsProgram}

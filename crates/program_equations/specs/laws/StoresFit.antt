@@ -39,14 +39,17 @@ use Rattle.task_equations.specs.typed_values.laws.TypeLaws.{none_of_type, joined
 use Rattle.edge_filters.specs.edge_actions.Layouts.{is_shared_cell, spots_of}
 use Rattle.edge_filters.specs.edge_actions.Edges.{action_of}
 use Rattle.task_equations.specs.temporary_types.Sorts.{Sort, FitsSorts}
-use Rattle.task_equations.specs.state_fits.Typed.{SpotsAgree, types_of}
-use Rattle.task_equations.specs.state_fits.Fits.{FitsTemp, FitsCell, FitsPlace, FitsNested, FitsStore}
+use Rattle.task_equations.specs.temporary_types.Sorts.{IsMutex, types_of}
+use Rattle.task_equations.specs.state_fits.Typed.{SpotsAgree}
+use Rattle.task_equations.specs.state_fits.Kinds.{OfTypes}
+use Rattle.task_equations.specs.laws.Extents.{node_typed}
+use Rattle.task_equations.specs.state_fits.Fits.{file_set, FitsTemp, FitsCell, FitsPlace, FitsNested, FitsStore}
 use Rattle.task_equations.specs.state_fits.laws.ActionsFit.{ActionFits}
 use Rattle.task_equations.specs.state_fits.laws.Given.{sorted_fits}
 use Rattle.task_equations.specs.mutex_configs.declared.nodes.EdgeCopy.{EdgeCopy}
 use Rattle.task_equations.specs.Bodies.{Body, edge_of, node_at, live_at}
 use Rattle.task_equations.specs.Equations.{tests_pointer, action_along, around_along, added_along}
-use Rattle.task_equations.specs.Premises.{IsCopyOf, IsBody, FitsNode}
+use Rattle.task_equations.specs.Premises.{IsCopyOf, IsBody, FitsBody}
 use Rattle.program_equations.specs.Systems.{stores}
 
 -- ## Entries of tables
@@ -205,24 +208,24 @@ module _ (laid : LaidTree) (tasks : ℕ) where
   pub nothing_fits : FitsStore laid tasks no_interference
   nothing_fits = record {
     form = store_nowhere;
-    weak = nothing_nested (λ l. IsWithin l 65535);
-    sync = nothing_nested (λ m. m < 16);
+    weak = nothing_nested (λ l. IsWithin l (file_set laid));
+    sync = nothing_nested (IsMutex laid);
   }
 
   pub joined_fits : (s t : Interferences) → FitsStore laid tasks s → FitsStore laid tasks t
       → FitsStore laid tasks (joined_store s t)
   joined_fits s t h k = record {
     form = store_join.value s t h.form k.form;
-    weak = join_nested (λ l. IsWithin l 65535) s.weak t.weak h.weak k.weak;
-    sync = join_nested (λ m. m < 16) s.sync t.sync h.sync k.sync;
+    weak = join_nested (λ l. IsWithin l (file_set laid)) s.weak t.weak h.weak k.weak;
+    sync = join_nested (IsMutex laid) s.sync t.sync h.sync k.sync;
   }
 
   pub rounded_fits : (marks : List ℤ) (s : Interferences) → HaveEnds marks → FitsStore laid tasks s
       → FitsStore laid tasks (rounded_store marks s)
   rounded_fits marks s ends h = record {
     form = store_closure.value marks s tt h.form;
-    weak = round_nested (λ l. IsWithin l 65535) marks ends s.weak h.weak;
-    sync = round_nested (λ m. m < 16) marks ends s.sync h.sync;
+    weak = round_nested (λ l. IsWithin l (file_set laid)) marks ends s.weak h.weak;
+    sync = round_nested (IsMutex laid) marks ends s.sync h.sync;
   }
 
   -- ## What is added
@@ -260,10 +263,11 @@ spot_of (spot ∷ spots) p x h = by_lead (λ k. spot_of spots p x k) (leads p sp
 module _ (laid : LaidTree) (task tasks : ℕ) (sorts : List Sort) (around : Around) (agree : SpotsAgree laid task)
     (within : (scalar : Scalar) (spot : Spot) → IsSpotOf (spots_of laid task scalar) spot
     → spot.cell < length laid.abstract_cells)
-    (writes : around.reader.task < tasks) (held : IsWithin around.reader.held 65535)
+    (writes : around.reader.task < tasks) (held : IsWithin around.reader.held (file_set laid))
     (shared : (x : ℕ) → around.is_shared x ≡ is_shared_cell laid x)
-    (s : State) (live : List ℕ) (fits : FitsPlace laid task (types_of sorts) live s) (pointers answer : Bool) where
-  typed_at : (t : ℕ) (a : Option Temp) → FitsTemp laid (types_of sorts) live t a
+    (s : State) (live : List ℕ) (fits : FitsPlace laid task (OfTypes laid (types_of sorts)) live s)
+    (pointers answer : Bool) where
+  typed_at : (t : ℕ) (a : Option Temp) → FitsTemp (OfTypes laid (types_of sorts)) live t a
       → IsOfType laid (types_of sorts t) (temp_value a)
   typed_at t None h = none_of_type laid (types_of sorts t)
   typed_at t (Some e) h = h.1
@@ -273,7 +277,7 @@ module _ (laid : LaidTree) (task tasks : ℕ) (sorts : List Sort) (around : Arou
 
   -- a store
   stored : (scalar : Scalar) (address source : ℕ)
-      → ActionFits laid (types_of sorts) s (storing (spots_of laid task scalar) address source)
+      → ActionFits laid (OfTypes laid (types_of sorts)) s (storing (spots_of laid task scalar) address source)
       → (x : ℕ) → is_no_value (weak_of around (storing (spots_of laid task scalar) address source) s x) ≡ false
       → FitsShared laid tasks x (weak_of around (storing (spots_of laid task scalar) address source) s x)
   unfolding weak_of ActionFits
@@ -312,17 +316,17 @@ module _ (laid : LaidTree) (task tasks : ℕ) (sorts : List Sort) (around : Arou
   operation_adds (Op.Store address source scalar into place) h =
       let action = storing (spots_of laid task scalar) address source in record {
         form = contributing.added_is around s fits.form action;
-        weak = under_fits laid tasks (λ l. IsWithin l 65535) around.reader.task around.reader.held _ writes held
-            (cells_fit laid tasks (weak_of around action s) _
+        weak = under_fits laid tasks (λ l. IsWithin l (file_set laid)) around.reader.task around.reader.held _ writes
+            held (cells_fit laid tasks (weak_of around action s) _
             (stored scalar address source
             (sorted_fits laid task agree sorts s typed pointers answer
             (Op.Store address source scalar into place) h tt)));
-        sync = nothing_nested laid tasks (λ m. m < 16);
+        sync = nothing_nested laid tasks (IsMutex laid);
       }
   operation_adds (Op.Unlock m place) h = record {
     form = contributing.added_is around s fits.form (unlocks m);
-    weak = nothing_nested laid tasks (λ l. IsWithin l 65535);
-    sync = under_fits laid tasks (λ m. m < 16) around.reader.task m _ writes h.0.1
+    weak = nothing_nested laid tasks (λ l. IsWithin l (file_set laid));
+    sync = under_fits laid tasks (IsMutex laid) around.reader.task m _ writes h.0
         (cells_fit laid tasks (sync_of around (unlocks m) s m) (keys s.cells) (unlocked m));
   }
   operation_adds Op.Skip h = nothing_fits laid tasks
@@ -351,14 +355,14 @@ module _ (laid : LaidTree) (task tasks : ℕ) (sorts : List Sort) (around : Arou
 pub added_fits : (b : Body) (sorts : List Sort) → IsBody b sorts
     → ((scalar : Scalar) (spot : Spot) → IsSpotOf (spots_of b.laid b.task scalar) spot
     → spot.cell < length b.laid.abstract_cells)
-    → (tasks : ℕ) → b.task < tasks → (c : EdgeCopy) → IsCopyOf b c → (s : State) → FitsNode b sorts c.from s
+    → (tasks : ℕ) → b.task < tasks → (c : EdgeCopy) → IsCopyOf b c → (s : State) → FitsBody b c.from s
     → FitsStore b.laid tasks (added_along b c s)
 added_fits b sorts is within tasks writes c copy s fits =
     let e = edge_of b c in
     let q = node_at b c.from in
     operation_adds b.laid b.task tasks sorts (around_along b c) is.spots within writes (is.held c.from copy.from)
-    (λ x. refl) s (live_at b q.place) fits (tests_pointer b.pointers e.op) c.answer e.op
-    (is.operations c.edge copy.edge)
+    (λ x. refl) s (live_at b q.place) (node_typed b sorts is c.from s fits) (tests_pointer b.pointers e.op) c.answer
+    e.op (is.operations c.edge copy.edge)
 
 -- ## Order
 

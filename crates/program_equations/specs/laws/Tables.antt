@@ -4,9 +4,9 @@ use Rattle.std.specs.Prelude.{◌≡◌, ℕ, ◌<◌, List, length, map, Option
 use Rattle.std.proofs.Common.{ap, subst, arith}
 use Rattle.edge_filters.specs.interfere_set.Stores.{Interferences, no_interference, joined_store}
 use Rattle.edge_filters.specs.transfer_rows.StateForms.{State}
-use Rattle.task_equations.specs.least_tables.Systems.{IsLawfulSystem}
-use Rattle.task_equations.specs.least_tables.Solutions.{NodeTable, least_of, IsLeastSolution}
-use Rattle.task_equations.specs.least_tables.laws.Iterates as iterates
+use Rattle.task_equations.specs.table_covers.Systems.{IsLawfulSystem}
+use Rattle.task_equations.specs.table_covers.Solutions.{NodeTable, least_of, IsLeastSolution}
+use Rattle.task_equations.specs.table_covers.laws.Iterates as iterates
 use Rattle.task_equations.specs.state_fits.laws.PlacesFit.{states_order, states_join}
 use Rattle.task_equations.specs.Bodies.{copy_at}
 use Rattle.task_equations.specs.Equations.{equations_of, link_of, added_along}

@@ -4,16 +4,16 @@ use Rattle.std.specs.Prelude.{Option, Some, None, IfSome, refl}
 use Rattle.std.proofs.Common.{sym, ap, subst, ◌∙◌, arith}
 use Rattle.std.proofs.lemmas.Bool.{eqb-true}
 use Rattle.region_cells.specs.tm_lattice.Tables.{IsBelow}
-use Rattle.region_cells.specs.tm_typed.declared.types.Scalar.{Scalar}
-use Rattle.region_cells.specs.tm_laid.Layouts.{abstract_at, cell_at}
+use Rattle.region_cells.specs.tm_laid.Layouts.{LaidTree, abstract_at, cell_at}
 use Rattle.edge_filters.specs.pointer_dom.Values.{Values, joined_values}
 use Rattle.edge_filters.specs.transfer_rows.StateForms.{State, own_of, IsStateUnder}
 use Rattle.edge_filters.specs.edge_actions.Layouts.{is_shared_cell}
 use Rattle.edge_filters.proofs.low.edge_actions.Lists.{lt_from}
 use Rattle.task_equations.specs.typed_values.laws.TypeLaws.{none_of_type, joined_of_type}
-use Rattle.task_equations.specs.least_tables.Solutions.{NodeTable, at}
+use Rattle.task_equations.specs.table_covers.Solutions.{NodeTable, at}
 use Rattle.task_equations.specs.state_fits.Fits.{FitsPlace}
-use Rattle.task_equations.specs.state_fits.Typed.{types_of}
+use Rattle.task_equations.specs.temporary_extents.Extents.{extents_in}
+use Rattle.task_equations.specs.state_fits.Kinds.{InExtents}
 use Rattle.task_equations.specs.state_fits.laws.PlacesFit.{states_order}
 use Rattle.task_equations.specs.Bodies.{Body, node_at, live_at}
 use Rattle.program_equations.specs.Programs.{ProgramBodies, body_at, HasSection, IsProgram}
@@ -23,7 +23,7 @@ use Rattle.program_equations.specs.Systems.{FitsBody, entry_after, task_entry, I
 use Rattle.program_equations.specs.laws.EntryStates.{IsTyped, entry_is, entry_fits}
 use Rattle.program_equations.specs.laws.Endings.{IsEnding, place_ends, end_is, end_rises, end_agrees, later_fits}
 use Rattle.program_equations.specs.laws.Endings.{later_rises}
-use Rattle.program_equations.specs.laws.Fitting.{body_is, laid_is}
+use Rattle.program_equations.specs.laws.Fitting.{laid_is}
 
 -- what holds of each state holds of one that may be there
 some_are : {P Q : State → Type 0} (a : Option State) → ((s : State) → P s → Q s) → IfSome a P → IfSome a Q
@@ -63,18 +63,23 @@ module _ (p : ProgramBodies) (is : IsProgram p) where
     starts : (let q = node_at body 0 in live_at body q.place ≡ [])
     starts = ap (live_at body) (is.each t lt).entry ∙ (is.each t lt).begins
 
-    pub fits_entry : (s : State) → ((types : ℕ → Scalar) → FitsPlace p.laid t types [] s) → FitsBody (body_at p t) 0 s
-    fits_entry s fits sorts sorted =
+    -- what temporaries of the body may hold
+    abbrev Holds : LaidTree → ℕ → Values → Type 0
+    Holds laid = InExtents laid (extents_in body.edges)
+
+    pub fits_entry : (s : State) → FitsPlace p.laid t (Holds p.laid) [] s → FitsBody (body_at p t) 0 s
+    fits_entry s fits =
         let q = node_at body 0 in
-        subst (λ l. FitsPlace l body.task (types_of sorts) (live_at body q.place) s) (sym (laid_is p is t lt))
-        (subst (λ k. FitsPlace p.laid k (types_of sorts) (live_at body q.place) s) (sym (is.each t lt).numbered.number)
-        (subst (λ live. FitsPlace p.laid t (types_of sorts) live s) (sym starts) (fits (types_of sorts))))
+        subst (λ l. FitsPlace l body.task (Holds l) (live_at body q.place) s) (sym (laid_is p is t lt))
+        (subst (λ k. FitsPlace p.laid k (Holds p.laid) (live_at body q.place) s) (sym (is.each t lt).numbered.number)
+        (subst (λ live. FitsPlace p.laid t (Holds p.laid) live s) (sym starts) fits))
 
     -- a state at the entry fits where cells of static storage have values of their types
     pub given_fits : (shared : ℕ → Values)
         → ((x : ℕ) → is_shared_cell p.laid x ≡ true → IsTyped p.laid x (shared x))
         → FitsBody (body_at p t) 0 (entry_state p.laid t shared)
-    given_fits shared typed = fits_entry (entry_state p.laid t shared) (entry_fits p.laid t shared typed)
+    given_fits shared typed =
+        fits_entry (entry_state p.laid t shared) (entry_fits p.laid t shared typed (Holds p.laid))
 
     pub first_fits : FitsBody (body_at p t) 0 (first_state p.laid t)
     first_fits = given_fits (initial_of p.laid) (λ x shown. initial_is x)
@@ -83,8 +88,7 @@ module _ (p : ProgramBodies) (is : IsProgram p) where
     pub node_ends : (n : ℕ) (a : Option State) → IfSome a (FitsBody (body_at p t) n) → IfSome a (IsEnding p.laid)
     node_ends n a h = some_are a (λ s fits.
         subst (λ l. IsEnding l s) (laid_is p is t lt)
-        (let q = node_at body n in place_ends body.laid body.task (types_of (is.sorts t)) (live_at body q.place) s
-        (fits (is.sorts t) (body_is p is t lt)))) h
+        (let q = node_at body n in place_ends body.laid body.task (Holds body.laid) (live_at body q.place) s fits)) h
 
     -- so are those of the state in which it ends
     pub ended_ends : (table : NodeTable State)
@@ -98,7 +102,7 @@ module _ (p : ProgramBodies) (is : IsProgram p) where
         → IfSome (later_state p.laid t a) (FitsBody (body_at p t) 0)
     begins_later None h = tt
     begins_later (Some s) h = fits_entry (entry_state p.laid t (own_of s))
-        (λ types. later_fits p.laid t types (Some s) h)
+        (later_fits p.laid t (Holds p.laid) (Some s) h)
 
   -- ## After the initial section
 

@@ -5,8 +5,8 @@ use Rattle.std.proofs.Common.{sym, subst, ◌∙◌}
 use Rattle.region_cells.specs.tm_lattice.Tables.{IsBelow}
 use Rattle.edge_filters.specs.interfere_set.Stores.{Interferences}
 use Rattle.edge_filters.specs.transfer_rows.StateForms.{State}
-use Rattle.task_equations.specs.least_tables.Systems.{from_of}
-use Rattle.task_equations.specs.least_tables.Solutions.{NodeTable, at, IsLeastSolution}
+use Rattle.task_equations.specs.table_covers.Systems.{from_of}
+use Rattle.task_equations.specs.table_covers.Solutions.{NodeTable, at, IsLeastSolution}
 use Rattle.program_equations.specs.Programs.{ProgramBodies, body_at, IsProgram}
 use Rattle.program_equations.specs.Systems.{states, FitsBody, FitsProgram, task_system, least_section, least_local}
 use Rattle.program_equations.specs.Systems.{IsLeastSection}

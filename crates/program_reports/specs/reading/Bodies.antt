@@ -2,7 +2,7 @@
 use Rattle.std.specs.Prelude.{ℕ, ◌<◌, length}
 use Rattle.tm_terms.specs.declared.alarms.Alarm.{Alarm}
 use Rattle.post_recheck.specs.transfer_rows.StateForms.{State}
-use Rattle.post_recheck.specs.least_tables.Solutions.{NodeTable}
+use Rattle.post_recheck.specs.table_covers.Solutions.{NodeTable}
 use Rattle.post_recheck.specs.program_equations.Programs.{ProgramBodies, body_at}
 use Rattle.access_races.specs.declared.accesses.Access.{Access}
 use Rattle.program_reports.specs.reading.Found.{IsAlarmBelow, IsAccessBelow}

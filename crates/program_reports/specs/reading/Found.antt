@@ -7,7 +7,7 @@ use Rattle.flow_graph.specs.declared.operations.Operation.{Operation}
 use Rattle.flow_graph.specs.declared.operations.Operation.TheVariants as Op
 use Rattle.post_recheck.specs.transfer_rows.StateForms.{State}
 use Rattle.post_recheck.specs.transfer_rows.Reports.{targets_of, IsListed}
-use Rattle.post_recheck.specs.least_tables.Solutions.{NodeTable}
+use Rattle.post_recheck.specs.table_covers.Solutions.{NodeTable}
 use Rattle.post_recheck.specs.task_equations.Bodies.{Body, edge_of, node_at, copy_at}
 use Rattle.post_recheck.specs.task_equations.Equations.{action_along, around_along}
 use Rattle.access_races.specs.declared.accesses.Way.{Way}

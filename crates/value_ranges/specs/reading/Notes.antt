@@ -11,7 +11,7 @@ use Rattle.tm_laid.specs.declared.objects.Initial.TheVariants as Initials
 use Rattle.tm_laid.specs.Layouts.{LaidTree, cell_at}
 use Rattle.interfere_set.specs.Stores.{Nested, value_or_none}
 use Rattle.post_recheck.specs.transfer_rows.StateForms.{State, own_of}
-use Rattle.post_recheck.specs.least_tables.Solutions.{at}
+use Rattle.post_recheck.specs.table_covers.Solutions.{at}
 use Rattle.post_recheck.specs.program_equations.Solutions.{table_at}
 use Rattle.value_ranges.specs.declared.object_bounds.ObjectBounds.{ObjectBounds}
 use Rattle.value_ranges.specs.declared.cells.IntegerCell.{IntegerCell}

@@ -6,7 +6,7 @@ use Rattle.flow_graph.specs.Graphs.{Edges}
 use Rattle.mutex_configs.specs.declared.nodes.ConfiguredGraph.{ConfiguredGraph}
 use Rattle.mutex_configs.specs.declared.nodes.EdgeCopy.{EdgeCopy}
 use Rattle.post_recheck.specs.transfer_rows.StateForms.{State}
-use Rattle.post_recheck.specs.least_tables.Solutions.{at}
+use Rattle.post_recheck.specs.table_covers.Solutions.{at}
 use Rattle.post_recheck.specs.task_equations.Bodies.{no_edge, no_copy}
 use Rattle.post_recheck.specs.program_equations.Solutions.{table_at}
 use Rattle.place_lists.specs.Order.{AreInOrder}

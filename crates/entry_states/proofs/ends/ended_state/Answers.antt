@@ -3,7 +3,7 @@ use Rattle.std.proofs.lemmas.List.{get_or_read}
 use Rattle.tm_lattice.specs.Tables.{joined_at}
 use Rattle.pointer_dom.specs.Values.{joined_values}
 use Rattle.cell_env.specs.States.{joined_state}
-use Rattle.body_systems.specs.least_tables.Solutions.{at}
+use Rattle.body_systems.specs.table_covers.Solutions.{at}
 use Rattle.mutex_configs.specs.declared.nodes.ConfiguredNode.{ConfiguredNode}
 use Rattle.mutex_configs.specs.Nodes.{entry_node}
 use Rattle.edge_actions.specs.transfer_rows.StateForms.{State}

@@ -1,5 +1,5 @@
 use Rattle.std.proofs.Common.{◌≡◌}
-use Rattle.body_systems.specs.least_tables.Solutions.{at}
+use Rattle.body_systems.specs.table_covers.Solutions.{at}
 use Rattle.body_systems.specs.program_equations.Entries.{ended_below}
 use Rattle.entry_states.proofs.ends.ended_state.Given as goal
 

@@ -1,6 +1,6 @@
 use Rattle.std.proofs.Common.{Some, IfSome, subst, sym, ap, ◌∙◌, arith}
 use Rattle.shared_programs.specs.body_systems.Systems.{body_of, system_of}
-use Rattle.least_tables.specs.Solutions.{at, IsFirstUncovered}
+use Rattle.table_covers.specs.Solutions.{at, IsFirstUncovered}
 use Rattle.shared_programs.specs.program_equations.Programs.{body_at}
 use Rattle.shared_programs.specs.program_equations.Systems.{states, FitsBody, FitsProgram}
 use Rattle.shared_programs.specs.program_equations.laws.StoresFit.{nothing_fits}

@@ -1,7 +1,7 @@
 use Rattle.std.proofs.Common.{◌<◌, length, None, IfSome, subst, sym, ap, ◌∙◌}
 use Rattle.std.proofs.lemmas.List.{get_or_default}
 use Rattle.shared_programs.specs.body_systems.Systems.{body_of, system_of}
-use Rattle.least_tables.specs.Solutions.{at, IsFirstUncovered}
+use Rattle.table_covers.specs.Solutions.{at, IsFirstUncovered}
 use Rattle.shared_programs.specs.program_equations.Programs.{body_at}
 use Rattle.shared_programs.specs.program_equations.Systems.{states, FitsBody}
 use Rattle.shared_programs.specs.program_systems.ProgramFacts.{program_with}

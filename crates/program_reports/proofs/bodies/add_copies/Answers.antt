@@ -1,7 +1,7 @@
 use Rattle.std.proofs.Common.{◌≡◌, ◌↔◌, ◌⊎◌, ◌+◌, ap, sym, subst, ◌∙◌, true, length, Some, arith}
 use Rattle.std.specs.Prelude.{Contains}
 use Rattle.tm_terms.specs.declared.alarms.Alarm.{Alarm}
-use Rattle.post_recheck.specs.least_tables.Solutions.{at}
+use Rattle.post_recheck.specs.table_covers.Solutions.{at}
 use Rattle.post_recheck.specs.body_systems.Systems.{body_of}
 use Rattle.access_races.specs.declared.accesses.Access.{Access}
 use Rattle.access_races.proofs.Joins.{joined, unchanged}

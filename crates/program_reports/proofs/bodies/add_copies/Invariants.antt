@@ -1,7 +1,7 @@
 use Rattle.std.proofs.Common.{◌≡◌, ◌↔◌, ◌⊎◌, true}
 use Rattle.std.specs.Prelude.{Contains}
 use Rattle.tm_terms.specs.declared.alarms.Alarm.{Alarm as AnAlarm}
-use Rattle.post_recheck.specs.least_tables.Solutions.{at}
+use Rattle.post_recheck.specs.table_covers.Solutions.{at}
 use Rattle.post_recheck.specs.body_systems.Systems.{body_of}
 use Rattle.access_races.specs.declared.accesses.Access.{Access as AnAccess}
 use Rattle.program_reports.specs.reading.Found.{IsAlarmBelow, IsAccessBelow}

@@ -1,0 +1,4 @@
+pub mod AddedTotals
+pub mod Closing
+pub mod Iterates
+pub mod WholeLeast
