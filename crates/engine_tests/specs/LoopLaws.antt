@@ -5,11 +5,11 @@ use Rattle.std.proofs.Common.{subst, arith}
 use Rattle.tm_lattice.specs.LatticeLaws.{IsOrder, IsJoin, IsClosure, IsLeastNothing}
 use Rattle.tm_lattice.specs.declared.passers.Passer as passer
 use Rattle.tm_lattice.specs.Fitting.{IsFitting, IsBottom, IsMonotone}
-use Rattle.least_tables.specs.Systems.{IsLawfulSystem, from_of, to_of}
-use Rattle.least_tables.specs.Whole as whole
-use Rattle.least_tables.specs.laws.Iterates as iterates
-use Rattle.least_tables.specs.laws.AddedTotals as totals
-use Rattle.least_tables.specs.laws.WholeLeast as least
+use Rattle.table_covers.specs.Systems.{IsLawfulSystem, from_of, to_of}
+use Rattle.table_covers.specs.Whole as whole
+use Rattle.table_covers.specs.laws.Iterates as iterates
+use Rattle.table_covers.specs.laws.AddedTotals as totals
+use Rattle.table_covers.specs.laws.WholeLeast as least
 use Rattle.engine_tests.specs.Loops.{IsLevel, IsLower, levels, loop_links, raised_by, rounded_if, is_head, suits}
 use Rattle.engine_tests.specs.Loops.{loop_system, loop_table, loop_pass}
 

@@ -3,10 +3,10 @@
 -- edge contributes the level of the node that it leaves.
 use Rattle.std.specs.Prelude.{◌≡◌, ℕ, ◌+◌, ◌≤◌, ◌==◌, min, max, Bool, true, false, List, [], ◌∷◌, length, Option, Some}
 use Rattle.tm_lattice.specs.declared.lattices.Lattice as lattice
-use Rattle.least_tables.specs.declared.links.Link.{Link}
-use Rattle.least_tables.specs.Systems.{System}
-use Rattle.least_tables.specs.Solutions.{NodeTable, least_of}
-use Rattle.least_tables.specs.Passes.{added_below}
+use Rattle.table_covers.specs.declared.links.Link.{Link}
+use Rattle.table_covers.specs.Systems.{System}
+use Rattle.table_covers.specs.Solutions.{NodeTable, least_of}
+use Rattle.table_covers.specs.Passes.{added_below}
 
 abbrev pub IsLevel : ℕ → Type 0
 IsLevel v = Unit {0}

@@ -1,9 +1,10 @@
 //! A loop that counts up, as a system of equations and as a program.
 ghost use Rattle.std.specs.Prelude.{◌≡◌, ◌≤◌, min, max};
 
-use least_tables::{Analysed, Contributions, Equations, Link, Pass, least_pass};
+use least_tables::{Analysed, Pass, least_pass};
 use std::alloc::Global;
 use std::marker::Model;
+use table_covers::{Contributions, Equations, Link};
 use tm_lattice::{Lattice, NoMemory, Passer};
 
 /// How far the loop has counted.
@@ -215,6 +216,7 @@ impl Passer for CountingLoop {
         let Pass {
             table: _table,
             added,
+            visits: _visits,
         } = least_pass(
             alloc,
             &LoopOver {

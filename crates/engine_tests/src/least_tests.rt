@@ -1,9 +1,8 @@
 //! Least tables of the counting loop.
 use crate::counting_loop::{CountingLoop, Level, LoopOver};
-use least_tables::{
-    Pass, Uncovered, first_uncovered, least_by_passes, least_pass, least_table, warm_starts,
-};
+use least_tables::{Pass, Settled, least_by_passes, least_pass, least_table, warm_starts};
 use std::test::Fail;
+use table_covers::{Uncovered, first_uncovered};
 use tm_lattice::Passer;
 
 #[test]
@@ -24,21 +23,24 @@ fn loops_end_at_their_least_tables(rt: HostRuntime) -> Result<(), Fail> {
             program: &program,
             store: &store,
         };
-        let table = least_table(alloc, &system)?;
+        let Settled { table, visits } = least_table(alloc, &system)?;
+        // Two nodes rise from bottom, each along an edge.
+        assert!(rt; visits >= 2);
         let found = table
             .iter()
             .map(|level| level.map_or(99, |level| level.number()));
         assert!(rt; found.eq(levels));
         assert!(rt; first_uncovered(alloc, &system, &table)?.is_none());
 
-        let idle = least_table(
-            alloc,
-            &LoopOver {
-                program: &program,
-                store: &Level(0),
-            },
-        )?;
-        let uncovered = match first_uncovered(alloc, &system, &idle)? {
+        let idle = LoopOver {
+            program: &program,
+            store: &Level(0),
+        };
+        let Settled {
+            table: idle_table,
+            visits: _idle_visits,
+        } = least_table(alloc, &idle)?;
+        let uncovered = match first_uncovered(alloc, &system, &idle_table)? {
             Some(Uncovered::Edge(edge)) => Some(edge),
             _ => None,
         };
@@ -47,7 +49,9 @@ fn loops_end_at_their_least_tables(rt: HostRuntime) -> Result<(), Fail> {
         let Pass {
             table: _table,
             added,
+            visits: passed_visits,
         } = least_pass(alloc, &system)?;
+        assert!(rt; passed_visits == visits);
         assert_eq!(rt;
             (added.number(), program.pass(alloc, 0, &store)?.number()),
             (levels[1], levels[1])

@@ -5,11 +5,11 @@ use Rattle.std.proofs.lemmas.List.{get_or-set_same, get_or-set_other}
 use Rattle.tm_lattice.specs.declared.lattices.Lattice as lattice
 use Rattle.tm_lattice.specs.LatticeLaws.{IsOrder, IsJoin}
 use Rattle.tm_lattice.specs.Tables.{IsBelow, joined_value}
-use Rattle.least_tables.specs.declared.links.Link.{Link}
-use Rattle.least_tables.specs.Systems.{System, IsLawfulSystem, from_of, to_of}
-use Rattle.least_tables.specs.Solutions.{NodeTable, at, edge_count, along, IsNodewiseBelow, IsStarted}
+use Rattle.table_covers.specs.declared.links.Link.{Link}
+use Rattle.table_covers.specs.Systems.{System, IsLawfulSystem, from_of, to_of}
+use Rattle.table_covers.specs.Solutions.{NodeTable, at, edge_count, along, IsNodewiseBelow, IsStarted}
 use Rattle.least_tables.specs.reading.WorkLists.{IsFollowed, AreFollowed}
-use Rattle.least_tables.specs.laws.Closing as closing
+use Rattle.table_covers.specs.laws.Closing as closing
 use Rattle.least_tables.proofs.Steps as steps
 
 some_same : (e k : ℕ) → Some e ≡ Some k → e ≡ k

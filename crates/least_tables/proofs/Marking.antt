@@ -3,8 +3,8 @@ use Rattle.std.proofs.Common.{◌≡◌, ◌≢◌, ℕ, ◌+◌, ◌<◌, List,
 use Rattle.std.proofs.lemmas.Bool.{cases_lt, cases_eq, cases_order}
 use Rattle.std.proofs.Math.ListN.{get_or-append}
 use Rattle.std.proofs.lemmas.List.{get_or-set_same, get_or-set_other, get_or_push, length-set}
-use Rattle.least_tables.specs.declared.links.Link.{Link}
-use Rattle.least_tables.specs.Systems.{from_of}
+use Rattle.table_covers.specs.declared.links.Link.{Link}
+use Rattle.table_covers.specs.Systems.{from_of}
 use Rattle.least_tables.specs.reading.WorkLists.{IsLastBelow, IsIndex}
 
 -- one more than the number, 0 where there is none

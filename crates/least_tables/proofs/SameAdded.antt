@@ -1,9 +1,9 @@
 -- Tables that are equal at each node contribute the same.
 use Rattle.std.proofs.Common.{◌≡◌, ℕ, zero, suc, ◌<◌, ◌≤◌, List, length, ap, ◌∙◌, refl, arith}
-use Rattle.least_tables.specs.declared.links.Link.{Link}
-use Rattle.least_tables.specs.Systems.{from_of}
-use Rattle.least_tables.specs.Solutions.{NodeTable}
-use Rattle.least_tables.specs.Passes.{with_added, added_below}
+use Rattle.table_covers.specs.declared.links.Link.{Link}
+use Rattle.table_covers.specs.Systems.{from_of}
+use Rattle.table_covers.specs.Solutions.{NodeTable}
+use Rattle.table_covers.specs.Passes.{with_added, added_below}
 
 module _ {V A : Type 0} (links : List Link) (nothing : A) (contributed : ℕ → V → A) (join : A → A → A) where
   pub same_added : (k : ℕ) (s t : NodeTable V) → k ≤ length (links) → ((e : ℕ) → e < length (links) → s (from_of (links) e) ≡ t (from_of (links) e))

@@ -7,11 +7,12 @@ use Rattle.std.proofs.Math.Nat.{mul-le-mul_right}
 use Rattle.tm_lattice.specs.declared.lattices.Lattice as lattice
 use Rattle.tm_lattice.specs.LatticeLaws.{IsOrder, IsJoin}
 use Rattle.tm_lattice.specs.Tables.{IsBelow, joined_value}
-use Rattle.least_tables.specs.declared.links.Link.{Link}
-use Rattle.least_tables.specs.Systems.{System, IsLawfulSystem, from_of, to_of}
-use Rattle.least_tables.specs.Solutions.{NodeTable, at, brought, entry_at, edge_count, along, IsNodewiseBelow, IsEdgeMet, IsStarted, IsClosedTable, IsMetOrPending, room_at}
+use Rattle.table_covers.specs.declared.links.Link.{Link}
+use Rattle.table_covers.specs.Systems.{System, IsLawfulSystem, from_of, to_of}
+use Rattle.table_covers.specs.Solutions.{NodeTable, at, brought, entry_at, edge_count, along, IsNodewiseBelow, IsEdgeMet, IsStarted, IsClosedTable, room_at}
+use Rattle.least_tables.specs.Settling.{IsMetOrPending}
 use Rattle.least_tables.specs.reading.WorkLists.{room, IsStep}
-use Rattle.least_tables.specs.laws.Closing as closing
+use Rattle.table_covers.specs.laws.Closing as closing
 
 module _ {V M : Type 0} (states : lattice.Ghosts V M) (suits : ℕ → V → Type 0) (sys : System V)
     (order : IsOrder states.is_value states.leq) (join : IsJoin states.is_value states.leq states.joined)

@@ -1,8 +1,3 @@
--- The crates below, passed on to those above.
-pub use Rattle.tm_lattice.specs as tm_lattice
-pub mod Passes
-pub mod Solutions
-pub mod Systems
-pub mod Whole
-pub mod laws
+-- What the work list keeps of a table, and what it ends with (Settling).
+pub mod Settling
 pub mod reading

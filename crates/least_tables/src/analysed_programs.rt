@@ -1,8 +1,8 @@
 //! Programs whose passes are those of least tables.
 ghost use Rattle.std.specs.Prelude.{◌≡◌, ◌<◌, ℕ, Bool, List, ◌∷◌, Option};
-ghost use Rattle.least_tables.specs.declared.links.Link.{Link};
-ghost use Rattle.least_tables.specs.Solutions.{NodeTable, IsLeastSolution};
-ghost use Rattle.least_tables.specs.Whole.{local, IsWholeLawful, IsWholeLeast, IsWarmStart};
+ghost use Rattle.table_covers.specs.declared.links.Link.{Link};
+ghost use Rattle.table_covers.specs.Solutions.{NodeTable, IsLeastSolution};
+ghost use Rattle.table_covers.specs.Whole.{local, IsWholeLawful, IsWholeLeast, IsWarmStart};
 ghost use Rattle.tm_lattice.specs.Rounds.{IsHistory, IsClosed};
 
 use tm_lattice::{Lattice, Passer};

@@ -1,10 +1,10 @@
 //! Which edges leave each node.
 ghost use Rattle.std.specs.Prelude.{◌≡◌, ◌<◌, ℕ, length, None, IfOk, slice_index_or, true, false};
-ghost use Rattle.least_tables.specs.Systems.{from_of};
+ghost use Rattle.table_covers.specs.Systems.{from_of};
 ghost use Rattle.least_tables.specs.reading.WorkLists.{IsIndex};
 
-use crate::links::Link;
 use std::alloc::Global;
+use table_covers::Link;
 use tm_lattice::NoMemory;
 
 /// The edges of a graph, to be followed from the node that they leave: the last one of each node, and before each

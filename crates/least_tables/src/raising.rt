@@ -3,8 +3,8 @@ ghost use Rattle.std.specs.Prelude.{◌≡◌, ◌<◌, ℕ, length, Some, None,
 ghost use Rattle.std.specs.Prelude.{slice_index_or};
 ghost use Rattle.tm_lattice.specs.Tables.{IsBelow, joined_value};
 
-use crate::equations::Equations;
 use std::alloc::Global;
+use table_covers::Equations;
 use tm_lattice::{Lattice, NoMemory};
 
 /// What became of a node to which a state was brought.

@@ -1,59 +1,72 @@
 //! The work list: edges are applied until none brings more.
 ghost use Rattle.std.specs.Prelude.{◌≡◌, ◌<◌, ℕ, length, Some, None, IfOk, IsOk, IsTrue, MatchBool, slice_index_or};
 ghost use Rattle.std.specs.Prelude.{true};
-ghost use Rattle.least_tables.specs.Solutions.{at, IsStarted, IsClosedTable, IsMetOrPending, IsLeastAbove};
-ghost use Rattle.least_tables.specs.Solutions.{IsLeastSolution};
+ghost use Rattle.table_covers.specs.Solutions.{NodeTable, at, IsStarted, IsClosedTable, IsLeastSolution};
+ghost use Rattle.least_tables.specs.Settling.{IsMetOrPending, IsLeastAbove, IsVisited, first_table};
 ghost use Rattle.least_tables.specs.reading.WorkLists.{IsStart, IsStep, IsIndex, AreFollowed};
 
-use crate::equations::Equations;
 use crate::leaving_edges::{Leaving, no_edges};
 use crate::pending::{all_pending, next_pending};
 use crate::raising::bring;
 use crate::sweeps::Sweep;
 use std::alloc::Global;
+use table_covers::{Equations, no_states};
 use tm_lattice::NoMemory;
 
-/// The least solution: a state for each node, None where it is bottom.
-pub fn least_table<E: Equations>(
-    alloc: Global,
-    system: &E,
-) -> Result<Vec<Option<E::State>>, NoMemory>
+/// A table with which the work list ended.
+pub struct Settled<S> {
+    /// The table: a state for each node, None where it is bottom.
+    pub table: Vec<Option<S>>,
+    /// How many edges were applied; 2^64 - 1 stands for that many or more.
+    pub visits: u64,
+}
+
+/// The least solution: the table with which the work list ends that begins with bottom and with all edges pending.
+pub fn least_table<E: Equations>(alloc: Global, system: &E) -> Result<Settled<E::State>, NoMemory>
     requires { E.is_system system.now }
-    ensures nodes { IfOk result (λ table. length table.items ≡ (E.system_of system.now).node_count) }
-    ensures least { IfOk result (λ table.
-        IsLeastSolution E.State.Lattice (E.fits system.now) (E.system_of system.now) (at table.items)) }
+    ensures nodes { IfOk result (λ last. length last.table.items ≡ (E.system_of system.now).node_count) }
+    ensures least { IfOk result (λ last.
+        IsLeastSolution E.State.Lattice (E.fits system.now) (E.system_of system.now) (at last.table.items)) }
+    ensures visits { IfOk result (λ last.
+        IsVisited E.State.Lattice (E.fits system.now) (E.system_of system.now) last.visits
+        (first_table E.State.Lattice (E.fits system.now) (E.system_of system.now)) (at last.table.items)) }
 {
     let start = started(alloc, system)?;
     let pending = all_pending(alloc, system.links().len())?;
-    let table = settle(alloc, system, start, pending)?;
-    Ok(table)
+    let settled = settle(alloc, system, start, pending)?;
+    Ok(settled)
 }
 
 /// Applies the pending edges, and those that leave a node which rose, until no edge brings more: a closed table, and
 /// the least one above the given one. The start may be bottom with all edges pending, or an earlier least table over
-/// less with those that now bring more.
+/// less with those that now bring more. It tells how many edges it applied: so many, one after another, lead from the
+/// given table to its own.
 pub fn settle<E: Equations>(
     alloc: Global,
     system: &E,
     mut table: Vec<Option<E::State>>,
     mut pending: Vec<bool>,
-) -> Result<Vec<Option<E::State>>, NoMemory>
+) -> Result<Settled<E::State>, NoMemory>
     requires system { E.is_system system.now }
     requires nodes { length table.items ≡ (E.system_of system.now).node_count }
     requires edges { length pending.items ≡ length (E.system_of system.now).links }
     requires started { IsStarted E.State.Lattice (E.fits system.now) (E.system_of system.now) (at table.items) }
     requires pending { IsMetOrPending E.State.Lattice (E.fits system.now) (E.system_of system.now)
         (at table.items) pending.items }
-    ensures nodes { IfOk result (λ last. length last.items ≡ length table.items) }
+    ensures nodes { IfOk result (λ last. length last.table.items ≡ length table.items) }
     ensures closed { IfOk result (λ last.
-        IsClosedTable E.State.Lattice (E.fits system.now) (E.system_of system.now) (at last.items)) }
+        IsClosedTable E.State.Lattice (E.fits system.now) (E.system_of system.now) (at last.table.items)) }
     ensures least { IfOk result (λ last.
-        IsLeastAbove E.State.Lattice (E.fits system.now) (E.system_of system.now) (at table.items) (at last.items)) }
+        IsLeastAbove E.State.Lattice (E.fits system.now) (E.system_of system.now) (at table.items)
+        (at last.table.items)) }
+    ensures visits { IfOk result (λ last.
+        IsVisited E.State.Lattice (E.fits system.now) (E.system_of system.now) last.visits (at table.items)
+        (at last.table.items)) }
 {
     let leaving = Leaving::new(alloc, system.links(), system.nodes())?;
     let sweep = Sweep::new(alloc, &leaving)?;
     let mut followed = no_edges(alloc, system.nodes())?;
-    run(
+    let visits = run(
         alloc,
         system,
         &leaving,
@@ -62,10 +75,10 @@ pub fn settle<E: Equations>(
         &mut pending,
         &mut followed,
     )?;
-    Ok(table)
+    Ok(Settled { table, visits })
 }
 
-// The loop. Of the pending edges the first in the order of the sweep comes next. At a node stands the edge that
+// The loop, which tells how many edges it applied. Of the pending edges the first in the order of the sweep comes next. At a node stands the edge that
 // brought what is there, where it is known that it brings no less today: its next state is taken and not joined.
 fn run<E: Equations>(
     alloc: Global,
@@ -75,7 +88,7 @@ fn run<E: Equations>(
     table: &mut [Option<E::State>],
     pending: &mut [bool],
     followed: &mut [Option<usize>],
-) -> Result<(), NoMemory>
+) -> Result<u64, NoMemory>
     requires system { E.is_system system.now }
     requires links { leaving.now.links.now ≡ (E.system_of system.now).links }
     requires index { IsIndex leaving.now.links.now (E.system_of system.now).node_count
@@ -92,17 +105,31 @@ fn run<E: Equations>(
         → IsClosedTable E.State.Lattice (E.fits system.now) (E.system_of system.now) (at table.new) }
     ensures least { IsOk result
         → IsLeastAbove E.State.Lattice (E.fits system.now) (E.system_of system.now) (at table.old) (at table.new) }
+    ensures visits { IfOk result (λ visits.
+        IsVisited E.State.Lattice (E.fits system.now) (E.system_of system.now) visits (at table.old) (at table.new)) }
 {
+    let mut visits = 0;
     let mut place = 0;
     while let Some(edge) = next_pending(&sweep.edges, pending, &mut place) {
-        if step(alloc, system, leaving, table, pending, followed, edge)? {
+        let rose = step(
+            alloc,
+            system,
+            leaving,
+            table,
+            pending,
+            followed,
+            &mut visits,
+            edge,
+        )?;
+        if rose {
             place = place.min(sweep.place_of(leaving.links[edge].to));
         }
     }
-    Ok(())
+    Ok(visits)
 }
 
-// Applies one edge, which is pending no longer unless it leads back to where it came from. True where its node rose.
+// Applies one edge, and counts it, where a state stands at the node that it leaves. It is pending no longer unless it
+// leads back to where it came from. True where its node rose.
 fn step<E: Equations>(
     alloc: Global,
     system: &E,
@@ -110,6 +137,7 @@ fn step<E: Equations>(
     table: &mut [Option<E::State>],
     pending: &mut [bool],
     followed: &mut [Option<usize>],
+    visits: &mut u64,
     edge: usize,
 ) -> Result<bool, NoMemory>
     requires system { E.is_system system.now }
@@ -130,12 +158,16 @@ fn step<E: Equations>(
         table.old pending.old table.new pending.new }
     ensures followed { IsOk result → AreFollowed E.State.Lattice (E.fits system.now) (E.system_of system.now)
         (at table.new) followed.new }
+    ensures visits { IsOk result → (before : NodeTable E.State)
+        → IsVisited E.State.Lattice (E.fits system.now) (E.system_of system.now) visits.old before (at table.old)
+        → IsVisited E.State.Lattice (E.fits system.now) (E.system_of system.now) visits.new before (at table.new) }
 {
     pending[edge] = false;
     let link = leaving.links[edge];
     let Some(state) = &table[link.from] else {
         return Ok(false);
     };
+    *visits = visits.saturating_add(1);
     let Some(brought) = system.apply(alloc, edge, state)? else {
         return Ok(false);
     };
@@ -180,17 +212,5 @@ fn started<E: Equations>(alloc: Global, system: &E) -> Result<Vec<Option<E::Stat
         return Ok(table);
     };
     table[0] = Some(system.rounded(alloc, 0, state)?);
-    Ok(table)
-}
-
-/// Bottom at each node.
-pub fn no_states<S: Drop>(alloc: Global, nodes: usize) -> Result<Vec<Option<S>>, NoMemory>
-    ensures { IfOk result (λ table. (length table.items ≡ nodes)
-        × ((n : ℕ) → slice_index_or table.items n None ≡ None)) }
-{
-    let mut table = Vec::new(alloc);
-    for _ in 0..nodes {
-        table.push(None)?;
-    }
     Ok(table)
 }

@@ -16,6 +16,8 @@ mod pictures;
 #[cfg(test)]
 mod rechecks;
 #[cfg(test)]
+mod repeated;
+#[cfg(test)]
 mod rows;
 #[cfg(test)]
 mod sources;

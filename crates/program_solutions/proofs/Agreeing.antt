@@ -8,7 +8,6 @@ use Rattle.store_limits.specs.state_fits.laws.PlacesFit.{states_order}
 use Rattle.store_limits.specs.program_equations.Programs.{ProgramBodies, body_at, HasSection, IsProgram}
 use Rattle.store_limits.specs.program_equations.Systems.{FitsBody}
 use Rattle.store_limits.specs.program_equations.Solutions.{table_at, tables_of}
-use Rattle.store_limits.specs.program_equations.laws.Fitting.{body_is}
 use Rattle.store_limits.specs.program_equations.laws.Lawful.{in_bodies}
 use Rattle.program_reports.specs.post_recheck.Pairs.{Pair}
 use Rattle.program_reports.proofs.low.post_recheck.Fits.{table_fits, is_section}
@@ -16,7 +15,7 @@ use Rattle.program_solutions.specs.LeastReports.{IsLeastPair}
 
 module _ (p : ProgramBodies) (is : IsProgram p) where
   form : (t : ℕ) → t < length p.bodies → (n : ℕ) (s : State) → FitsBody (body_at p t) n s → IsStateForm s
-  form t lt n s fits = (fits (is.sorts t) (body_is p is t lt)).form
+  form t lt n s fits = fits.form
 
   -- states that lie below each other are equal
   equal : (t : ℕ) → t < length p.bodies → (n : ℕ) (x y : Option State) → IfSome x (FitsBody (body_at p t) n)

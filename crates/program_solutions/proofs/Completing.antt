@@ -8,8 +8,8 @@ use Rattle.interfere_set.specs.Stores.{Interferences}
 use Rattle.interfere_set.specs.laws.StoreLaws.{store_order, store_join, store_closure}
 use Rattle.store_limits.specs.transfer_rows.StateForms.{State}
 use Rattle.store_limits.specs.state_fits.laws.PlacesFit.{states_order, states_join}
-use Rattle.least_tables.specs.Solutions.{at, IsLeastSolution}
-use Rattle.least_tables.specs.laws.WholeLeast as least
+use Rattle.table_covers.specs.Solutions.{at, IsLeastSolution}
+use Rattle.table_covers.specs.laws.WholeLeast as least
 use Rattle.store_limits.specs.program_equations.Programs.{ProgramBodies, body_at, HasSection, IsProgram}
 use Rattle.store_limits.specs.program_equations.Systems.{states, stores, FitsBody, task_system, section_system}
 use Rattle.store_limits.specs.program_equations.Systems.{least_section}

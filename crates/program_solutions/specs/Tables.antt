@@ -3,7 +3,7 @@ use Rattle.std.specs.Prelude.{◌≡◌, ℕ, ◌<◌, List, [], ◌∷◌, ◌+
 use Rattle.tm_lattice.specs.Rounds.{IsHistory, IsClosed}
 use Rattle.interfere_set.specs.Stores.{Interferences}
 use Rattle.store_limits.specs.transfer_rows.StateForms.{State}
-use Rattle.least_tables.specs.Solutions.{IsLeastSolution}
+use Rattle.table_covers.specs.Solutions.{IsLeastSolution}
 use Rattle.store_limits.specs.program_equations.Programs.{ProgramBodies, body_at, HasSection}
 use Rattle.store_limits.specs.program_equations.Systems.{states, stores, FitsBody, task_system, IsLeastSection}
 use Rattle.store_limits.specs.program_equations.Solutions.{passing, table_at, tables_of}

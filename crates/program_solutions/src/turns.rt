@@ -71,7 +71,11 @@ fn passed(
     requires kept { IsKeptTable (program_of analysis.now) task store.now table.items }
     ensures { IfOk result (IsPassed (program_of analysis.now) task store.now) }
 {
-    let Pass { table, added } = pass_from(alloc, analysis, task, table, store)?;
+    let Pass {
+        table,
+        added,
+        visits: _visits,
+    } = pass_from(alloc, analysis, task, table, store)?;
     let after = store.join(alloc, &added)?.round(alloc, analysis.marks())?;
     if after.below(store) {
         Ok(PassOutcome::Quiet(table))

@@ -4,7 +4,7 @@ use Rattle.std.proofs.Common.{sym, ap, subst, ◌∙◌, arith}
 use Rattle.interfere_set.specs.Stores.{Interferences, no_interference}
 use Rattle.program_equality.specs.transfer_rows.StateForms.{State}
 use Rattle.mutex_configs.specs.declared.programs.Program.{Program}
-use Rattle.least_tables.specs.Solutions.{at, IsLeastSolution}
+use Rattle.table_covers.specs.Solutions.{at, IsLeastSolution}
 use Rattle.program_equality.specs.task_equations.Bodies.{Body}
 use Rattle.program_equality.specs.task_equations.Equations.{equations_of}
 use Rattle.program_equality.specs.program_equations.Programs.{ProgramBodies, body_at, HasSection}

@@ -7,13 +7,13 @@ use Rattle.interfere_set.specs.laws.StoreLaws.{store_order, store_join, store_cl
 use Rattle.program_equality.specs.transfer_rows.StateForms.{State}
 use Rattle.program_equality.specs.state_fits.laws.PlacesFit.{states_order, states_join}
 use Rattle.cell_env.specs.tm_lattice.Tables.{IsBelow}
-use Rattle.least_tables.specs.Systems.{IsLawfulSystem, from_of, to_of}
-use Rattle.least_tables.specs.Solutions.{NodeTable, at, brought, IsNodewiseBelow, IsStarted, IsClosedTable}
-use Rattle.least_tables.specs.Solutions.{IsLeastAbove, IsMetOrPending}
-use Rattle.least_tables.specs.Solutions.{IsLeastSolution}
-use Rattle.least_tables.specs.Passes.{added_below}
-use Rattle.least_tables.specs.laws.WholeLeast as least
-use Rattle.least_tables.specs.laws.Closing as closing
+use Rattle.table_covers.specs.Systems.{IsLawfulSystem, from_of, to_of}
+use Rattle.table_covers.specs.Solutions.{NodeTable, at, brought, IsNodewiseBelow, IsStarted, IsClosedTable}
+use Rattle.least_tables.specs.Settling.{IsLeastAbove, IsMetOrPending}
+use Rattle.table_covers.specs.Solutions.{IsLeastSolution}
+use Rattle.table_covers.specs.Passes.{added_below}
+use Rattle.table_covers.specs.laws.WholeLeast as least
+use Rattle.table_covers.specs.laws.Closing as closing
 use Rattle.program_equality.specs.task_equations.Bodies.{Body, copy_at}
 use Rattle.program_equality.specs.task_equations.Equations.{equations_of, link_of, after_along, added_along}
 use Rattle.program_equality.specs.program_equations.Programs.{ProgramBodies, body_at, IsProgram}

@@ -3,8 +3,9 @@ use Rattle.std.specs.Prelude.{◌≡◌, ℕ, ◌<◌, List, length, map, Option
 use Rattle.std.proofs.Common.{sym, ap, subst, ◌∙◌, arith}
 use Rattle.interfere_set.specs.Stores.{Interferences, no_interference, joined_store}
 use Rattle.program_equality.specs.transfer_rows.StateForms.{State}
-use Rattle.least_tables.specs.Solutions.{at, IsLeastSolution}
-use Rattle.least_tables.specs.Passes.{added_below}
+use Rattle.table_covers.specs.Solutions.{NodeTable, at, IsLeastSolution}
+use Rattle.table_covers.specs.Passes.{added_below}
+use Rattle.least_tables.specs.Settling.{IsVisited, first_table}
 use Rattle.program_equality.specs.task_equations.Bodies.{Body, copy_at}
 use Rattle.program_equality.specs.task_equations.Equations.{equations_of, link_of, added_along}
 use Rattle.program_equality.specs.program_equations.Programs.{ProgramBodies, body_at, IsProgram}
@@ -14,6 +15,7 @@ use Rattle.program_equality.specs.program_equations.laws.Sections.{section_is, s
 use Rattle.program_equality.specs.program_equations.laws.TaskEntries.{task_entry_fits}
 use Rattle.program_equality.specs.program_equations.laws.Tables.{pass_is_one}
 use Rattle.thread_pass.specs.Analyses.{IsSectionTable, IsLeastTable}
+use Rattle.thread_pass.specs.Kept.{AreVisitsOf, first_of}
 
 module _ (p : ProgramBodies) (is : IsProgram p) where
   pub in_bodies : (t : ℕ) → t < p.tasks → t < length p.bodies
@@ -58,3 +60,27 @@ module _ (p : ProgramBodies) (is : IsProgram p) where
         e ∙ ap (added_by table) b-is
         ∙ pass_is_one p is (least_section p) (section_is_least p is) t lt store fits (at table)
         (let found = table_is table count least in found.least)
+
+    abbrev IsVisitedOver : ℕ → NodeTable State → List (Option State) → Body → Option State → Interferences → Type 0
+    IsVisitedOver visits before table x o s = IsVisited states (FitsBody x) (equations_of x o s) visits before (at table)
+
+    abbrev IsVisitedFirst : ℕ → List (Option State) → Body → Option State → Interferences → Type 0
+    IsVisitedFirst visits table x o s = IsVisited states (FitsBody x) (equations_of x o s) visits
+        (first_table states (FitsBody x) (equations_of x o s)) (at table)
+
+    onward : (P : Body → Option State → Interferences → Type 0) → P b entry given
+        → P (body_at p t) (task_entry p (least_section p) t) store
+    onward P x = subst (λ s. P (body_at p t) (task_entry p (least_section p) t) s) store-is
+        (subst (λ o. P (body_at p t) o given) entry-is (subst (λ y. P y entry given) b-is x))
+
+    -- and how many edges were applied
+    pub visits_are : (visits : ℕ) (before : NodeTable State) (table : List (Option State))
+        → IsVisited states (FitsBody b) (equations_of b entry given) visits before (at table)
+        → AreVisitsOf p t store visits before table
+    visits_are visits before table visited = onward (IsVisitedOver visits before table) visited
+
+    pub first_visits_are : (visits : ℕ) (table : List (Option State))
+        → IsVisited states (FitsBody b) (equations_of b entry given) visits
+        (first_table states (FitsBody b) (equations_of b entry given)) (at table)
+        → AreVisitsOf p t store visits (first_of p t store) table
+    first_visits_are visits table visited = onward (IsVisitedFirst visits table) visited

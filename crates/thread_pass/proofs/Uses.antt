@@ -1,7 +1,7 @@
 -- Edges that do not look into the store, or add nothing to it.
-use Rattle.std.specs.Prelude.{◌≡◌, ℕ, zero, suc, ◌<◌, Bool, true, false, List, [], ◌∷◌, length, map, get_or, slice_index_or, refl}
-use Rattle.std.specs.Prelude.{Option, Some, None, option_map}
-use Rattle.std.proofs.Common.{sym, ap, subst, ◌∙◌, arith}
+use Rattle.std.specs.Prelude.{◌≡◌, ℕ, zero, suc, Bool, true, false, List, [], ◌∷◌, map, get_or, slice_index_or, refl}
+use Rattle.std.specs.Prelude.{option_map}
+use Rattle.std.proofs.Common.{sym, ap, subst, ◌∙◌}
 use Rattle.std.proofs.lemmas.Bool.{true≢false}
 use Rattle.std.specs.Ordering.{nat_cmp}
 use Rattle.std.specs.FinMap as map_of
@@ -17,7 +17,7 @@ use Rattle.flow_graph.specs.declared.operations.Operation.TheVariants as Op
 use Rattle.mutex_configs.specs.declared.nodes.EdgeCopy.{EdgeCopy}
 use Rattle.program_equality.specs.transfer_rows.StateForms.{State}
 use Rattle.program_equality.specs.transfer_rows.Actions.{Around}
-use Rattle.program_equality.specs.transfer_rows.Rows.{effect, arrived, after}
+use Rattle.program_equality.specs.transfer_rows.Rows.{effect, arrived}
 use Rattle.program_equality.specs.transfer_rows.Contributions.{added}
 use Rattle.program_equality.specs.state_fits.edge_actions.Edges.{action_of}
 use Rattle.program_equality.specs.task_equations.Bodies.{Body, copy_at, edge_of, no_copy}

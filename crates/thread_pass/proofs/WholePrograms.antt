@@ -4,7 +4,7 @@ use Rattle.tm_lattice.specs.Rounds.{IsHistory, IsClosed}
 use Rattle.interfere_set.specs.Stores.{Interferences}
 use Rattle.interfere_set.specs.laws.StoreLaws.{store_order, store_join, store_closure}
 use Rattle.program_equality.specs.state_fits.laws.PlacesFit.{states_order, states_join}
-use Rattle.least_tables.specs.laws.WholeLeast as least
+use Rattle.table_covers.specs.laws.WholeLeast as least
 use Rattle.program_equality.specs.program_equations.Programs.{ProgramBodies, IsProgram}
 use Rattle.program_equality.specs.program_equations.Systems.{states, stores, IsSection, IsSectionBelow, least_section}
 use Rattle.program_equality.specs.program_equations.Systems.{least_local}

@@ -3,7 +3,7 @@ use Rattle.std.specs.Prelude.{◌≡◌, ℕ, ◌<◌, List, [], length, get_or,
 use Rattle.program_equality.specs.transfer_rows.StateForms.{State}
 use Rattle.interfere_set.specs.Stores.{Interferences, IsStoreBelow}
 use Rattle.mutex_configs.specs.declared.programs.Program.{Program}
-use Rattle.least_tables.specs.Solutions.{at, IsLeastSolution}
+use Rattle.table_covers.specs.Solutions.{at, IsLeastSolution}
 use Rattle.program_equality.specs.program_equations.Programs.{ProgramBodies, body_at, HasSection}
 use Rattle.program_equality.specs.program_equations.Systems.{states, FitsBody, FitsProgram, section_system, task_system}
 use Rattle.program_equality.specs.program_equations.Systems.{task_entry}

@@ -1,15 +1,34 @@
--- What a pass keeps for the next pass of its task.
-use Rattle.std.specs.Prelude.{ℕ, List, Option}
+-- What a pass keeps for the next pass of its task, and how many edges it applied.
+use Rattle.std.specs.Prelude.{◌≡◌, ℕ, List, Option}
 use Rattle.program_equality.specs.transfer_rows.StateForms.{State}
 use Rattle.interfere_set.specs.Stores.{Interferences}
-use Rattle.program_equality.specs.program_equations.Programs.{ProgramBodies}
+use Rattle.table_covers.specs.Solutions.{NodeTable, at}
+use Rattle.least_tables.specs.Settling.{IsVisited, first_table}
+use Rattle.program_equality.specs.program_equations.Programs.{ProgramBodies, body_at}
+use Rattle.program_equality.specs.program_equations.Systems.{states, FitsBody, task_system, least_section, pass_of}
 use Rattle.thread_pass.specs.Analyses.{IsLeastTable}
 
--- a table, and the store over which it was found
+-- a table, what its edges contribute, the store over which both were found, and how many edges were applied for it
 pub record KeptTable : Type 0 where
   pub table : List (Option State)
+  pub added : Interferences
   pub store : Interferences
+  pub visits : ℕ
 
--- it is the least table of the task over that store
-abbrev pub IsKeptOf : ProgramBodies → ℕ → KeptTable → Type 0
-IsKeptOf p t kept = IsLeastTable p t kept.store kept.table
+-- it is the least table of the task over that store, with the pass
+pub record IsKeptOf (p : ProgramBodies) (t : ℕ) (kept : KeptTable) : Type 0 where
+  pub table : IsLeastTable p t kept.store kept.table
+  pub added : kept.added ≡ pass_of p t kept.store
+
+-- the same, where no edge was applied
+abbrev pub unvisited : KeptTable → KeptTable
+unvisited kept = record { table = kept.table; added = kept.added; store = kept.store; visits = 0 }
+
+-- so many edges of a task, applied one after another over a store, lead from the one table to the other
+abbrev pub AreVisitsOf : ProgramBodies → ℕ → Interferences → ℕ → NodeTable State → List (Option State) → Type 0
+AreVisitsOf p t store visits before table =
+    IsVisited states (FitsBody (body_at p t)) (task_system p (least_section p) store t) visits before (at table)
+
+-- the table with which the first pass begins: bottom, but for the state in which the task does
+abbrev pub first_of : ProgramBodies → ℕ → Interferences → NodeTable State
+first_of p t store = first_table states (FitsBody (body_at p t)) (task_system p (least_section p) store t)

@@ -9,7 +9,7 @@ ghost use Rattle.thread_pass.specs.Analyses.{IsSectionTable};
 
 use cell_env::State;
 use interfere_set::Store;
-use least_tables::least_table;
+use least_tables::{Settled, least_table};
 use mutex_configs::Program;
 use pointer_dom::AbsValue;
 use program_systems::{
@@ -89,8 +89,11 @@ fn section_table(
     let entry = section_entry(alloc, program)?;
     let nothing = Store::new(alloc);
     let body = body_over_store(program, facts, tasks as u32, Some(&entry), &nothing);
-    let states = least_table(alloc, &BodySystem { body: &body })?;
-    Ok(SectionTable { states })
+    let Settled {
+        table,
+        visits: _visits,
+    } = least_table(alloc, &BodySystem { body: &body })?;
+    Ok(SectionTable { states: table })
 }
 
 impl Analysis {

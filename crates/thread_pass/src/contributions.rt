@@ -1,10 +1,10 @@
 //! What the edges of a given table contribute.
 ghost use Rattle.std.specs.Prelude.{◌≡◌, ◌<◌, ℕ, length, slice_index_or, true, false, IfOk};
-ghost use Rattle.least_tables.specs.Solutions.{at, AreFitting};
-ghost use Rattle.least_tables.specs.Passes.{added_below};
+ghost use Rattle.table_covers.specs.Solutions.{at, AreFitting};
+ghost use Rattle.table_covers.specs.Passes.{added_below};
 
-use least_tables::Contributions;
 use std::alloc::Global;
+use table_covers::Contributions;
 use tm_lattice::{Lattice, NoMemory};
 
 // The join of what all edges contribute, of which some are known to contribute nothing.

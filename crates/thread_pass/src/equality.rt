@@ -1,7 +1,7 @@
 //! Whether two analyses are of one program.
 ghost use Rattle.std.specs.Prelude.{◌≡◌, ◌↔◌, IsTrue};
 ghost use Rattle.program_equality.specs.temporary_types.PointerMarks.{pointer_marks};
-ghost use Rattle.program_equality.specs.program_equations.Programs.{temporaries_in};
+ghost use Rattle.program_equality.specs.temporary_types.Temporaries.{temporaries_in};
 ghost use Rattle.program_systems.specs.Analysable.{IsAnalysable};
 ghost use Rattle.program_systems.specs.ProgramFacts.{AreProgramFacts, read_body, read_with};
 

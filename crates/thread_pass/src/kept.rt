@@ -7,11 +7,14 @@ use program_systems::BodyState;
 use std::marker::Model;
 use std::sync::Arc;
 
-/// What a pass keeps for the next pass of its task: its table, and the store over which it was made.
+/// What a pass keeps for the next pass of its task: its table, what the table's edges contribute, the store over which
+/// both were made, and how many edges it applied.
 #[derive(Drop)]
 pub struct Kept {
     pub(crate) table: Vec<Option<BodyState>>,
+    pub(crate) added: Store,
     pub(crate) store: Arc<Store>,
+    pub(crate) visits: u64,
 }
 
 impl Model for Kept {
@@ -23,7 +26,12 @@ impl Model for Kept {
 
     ghost coded = { kept_code };
 
-    ghost view = { λ a. record { table = a.table.items; store = arc_value a.store } };
+    ghost view = { λ a. record {
+      table = a.table.items;
+      added = a.added;
+      store = arc_value a.store;
+      visits = a.visits;
+    } };
 }
 
 impl Kept {
@@ -34,10 +42,25 @@ impl Kept {
         &self.table
     }
 
-    /// The store over which it was made.
+    /// What its edges contribute.
+    pub fn added(&self) -> &Store
+        ensures { result.now ≡ self.now.added }
+    {
+        &self.added
+    }
+
+    /// The store over which both were made.
     pub fn store(&self) -> &Arc<Store>
         ensures { arc_value result.now ≡ self.now.store }
     {
         &self.store
+    }
+
+    /// How many edges the pass applied for its table: so many, one after another, lead to it from the table with which
+    /// the pass began. 2^64 - 1 stands for that many or more.
+    pub fn visits(&self) -> u64
+        ensures { result ≡ self.now.visits }
+    {
+        self.visits
     }
 }

@@ -10,11 +10,13 @@ mod analyses;
 mod contributions;
 mod equality;
 mod kept;
+mod kept_passes;
 mod passes;
 mod store_uses;
 mod wholes;
 
 pub use analyses::{Analysis, SectionTable};
 pub use kept::Kept;
+pub use kept_passes::{first_pass, next_pass};
 pub use passes::{local, local_from};
 pub use wholes::closed_stores_are_least;

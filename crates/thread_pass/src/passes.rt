@@ -2,15 +2,18 @@
 ghost use Rattle.std.specs.Prelude.{◌≡◌, ◌<◌, IfOk};
 ghost use Rattle.program_equality.specs.program_equations.Systems.{FitsProgram, pass_of};
 ghost use Rattle.program_systems.specs.ReadPrograms.{program_of};
+ghost use Rattle.table_covers.specs.Solutions.{at};
 ghost use Rattle.thread_pass.specs.Analyses.{IsLeastTable, IsStartTable};
+ghost use Rattle.thread_pass.specs.Kept.{AreVisitsOf, first_of};
 
 use crate::analyses::Analysis;
 use crate::contributions::joined_contributions;
 use crate::equality::is_same_program;
 use crate::kept::Kept;
+use crate::kept_passes::{first_pass, next_pass};
 use crate::store_uses::{StoreUses, store_uses};
 use interfere_set::Store;
-use least_tables::{Pass, least_table, settle};
+use least_tables::{Pass, Settled, least_table, settle};
 use program_systems::{BodyState, BodySystem, body_over_store};
 use std::alloc::Global;
 use std::sync::Arc;
@@ -29,14 +32,20 @@ pub fn local(
     requires fits { FitsProgram (program_of analysis.now) store.now }
     ensures table { IfOk result (λ pass. IsLeastTable (program_of analysis.now) task store.now pass.table.items) }
     ensures added { IfOk result (λ pass. pass.added ≡ pass_of (program_of analysis.now) task store.now) }
+    ensures visits { IfOk result (λ pass. AreVisitsOf (program_of analysis.now) task store.now pass.visits
+        (first_of (program_of analysis.now) task store.now) pass.table.items) }
 {
     let entry = analysis.entries[task as usize].as_ref();
     let body = body_over_store(&analysis.program, &analysis.facts, task, entry, store);
     let system = BodySystem { body: &body };
     let uses = store_uses(alloc, analysis, task)?;
-    let table = least_table(alloc, &system)?;
+    let Settled { table, visits } = least_table(alloc, &system)?;
     let added = joined_contributions(alloc, &system, &table, &uses.adds)?;
-    Ok(Pass { table, added })
+    Ok(Pass {
+        table,
+        added,
+        visits,
+    })
 }
 
 /// The same, begun from a least table of the task over a store that lies below this one: what rose since is all that
@@ -54,14 +63,20 @@ pub fn local_from(
     requires start { IsStartTable (program_of analysis.now) task store.now table.items }
     ensures table { IfOk result (λ pass. IsLeastTable (program_of analysis.now) task store.now pass.table.items) }
     ensures added { IfOk result (λ pass. pass.added ≡ pass_of (program_of analysis.now) task store.now) }
+    ensures visits { IfOk result (λ pass. AreVisitsOf (program_of analysis.now) task store.now pass.visits
+        (at table.items) pass.table.items) }
 {
     let entry = analysis.entries[task as usize].as_ref();
     let body = body_over_store(&analysis.program, &analysis.facts, task, entry, store);
     let system = BodySystem { body: &body };
     let StoreUses { reads, adds } = store_uses(alloc, analysis, task)?;
-    let table = settle(alloc, &system, table, reads)?;
+    let Settled { table, visits } = settle(alloc, &system, table, reads)?;
     let added = joined_contributions(alloc, &system, &table, &adds)?;
-    Ok(Pass { table, added })
+    Ok(Pass {
+        table,
+        added,
+        visits,
+    })
 }
 
 impl Passer for Analysis {
@@ -106,6 +121,7 @@ impl Passer for Analysis {
         let Pass {
             table: _table,
             added,
+            visits: _visits,
         } = local(alloc, self, task, store)?;
         Ok(added)
     }
@@ -133,9 +149,7 @@ impl Warm for Analysis {
         task: u32,
         store: &Arc<Store>,
     ) -> Result<(Kept, Store), NoMemory> {
-        let Pass { table, added } = local(alloc, self, task, store)?;
-        let store = store.clone()?;
-        Ok((Kept { table, store }, added))
+        first_pass(alloc, self, task, store)
     }
 
     fn warm(
@@ -145,12 +159,6 @@ impl Warm for Analysis {
         kept: Kept,
         store: &Arc<Store>,
     ) -> Result<(Kept, Store), NoMemory> {
-        let Kept {
-            table,
-            store: _earlier,
-        } = kept;
-        let Pass { table, added } = local_from(alloc, self, task, table, store)?;
-        let store = store.clone()?;
-        Ok((Kept { table, store }, added))
+        next_pass(alloc, self, task, kept, store)
     }
 }

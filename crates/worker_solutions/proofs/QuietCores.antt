@@ -27,7 +27,7 @@ pub kept_least : (p : ProgramBodies) (t : ℕ) (store : Interferences) (kept wha
     → IsLeastTable p t store table
 kept_least p t store kept what same made over table is =
     subst (IsLeastTable p t store) (ap (λ (k : KeptTable). k.table) (sym same) ∙ sym is)
-    (subst (λ s. IsLeastTable p t s what.table) over made)
+    (subst (λ s. IsLeastTable p t s what.table) over made.table)
 
 module _ (p : ProgramBodies) (is : IsProgram p) (workers : ℕ) (past : Past Interferences)
     (legal : IsLegal stores passing p workers past) (quiet : IsQuiet p.tasks past) where

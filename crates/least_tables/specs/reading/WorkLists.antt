@@ -3,11 +3,12 @@ use Rattle.std.specs.Prelude.{◌≡◌, ◌≢◌, ℕ, suc, ◌+◌, ◌*◌, 
 use Rattle.std.specs.Prelude.{None, Bool}
 use Rattle.std.specs.List.{count_by}
 use Rattle.tm_lattice.specs.declared.lattices.Lattice as lattice
-use Rattle.least_tables.specs.declared.links.Link.{Link}
+use Rattle.table_covers.specs.declared.links.Link.{Link}
 use Rattle.tm_lattice.specs.Tables.{IsBelow}
-use Rattle.least_tables.specs.Systems.{System, from_of, to_of}
-use Rattle.least_tables.specs.Solutions.{NodeTable, at, IsStarted, IsClosedTable, IsMetOrPending, IsLeastAbove}
-use Rattle.least_tables.specs.Solutions.{IsNodewiseBelow, edge_count, room_at, along}
+use Rattle.table_covers.specs.Systems.{System, from_of, to_of}
+use Rattle.table_covers.specs.Solutions.{NodeTable, at, IsStarted, IsClosedTable, IsNodewiseBelow, edge_count, room_at}
+use Rattle.table_covers.specs.Solutions.{along}
+use Rattle.least_tables.specs.Settling.{IsMetOrPending, IsLeastAbove, first_table}
 
 -- the last edge below a bound that leaves the node, None where there is none
 abbrev pub IsLastBelow : List Link → ℕ → ℕ → Option ℕ → Type 0
@@ -43,6 +44,7 @@ module _ {V M : Type 0} (states : lattice.Ghosts V M) (suits : ℕ → V → Typ
   -- where the loop begins
   pub record IsStart (table : List (Option V)) : Type 0 where
     pub nodes : length table ≡ sys.node_count
+    pub first : (n : ℕ) → n < sys.node_count → at table n ≡ first_table states suits sys n
     pub started : IsStarted states suits sys (at table)
     pub below : (other : NodeTable V) → IsClosedTable states suits sys other
         → IsNodewiseBelow states suits sys (at table) other

@@ -2,7 +2,7 @@
 use Rattle.std.specs.Prelude.{ℤ, List}
 use Rattle.tm_lattice.specs.declared.passers.Passer as passer
 use Rattle.interfere_set.specs.Stores.{Interferences, no_interference}
-use Rattle.least_tables.specs.Whole as whole
+use Rattle.table_covers.specs.Whole as whole
 use Rattle.program_equality.specs.program_equations.Programs.{ProgramBodies, IsProgram}
 use Rattle.program_equality.specs.program_equations.Systems.{states, stores, FitsProgram, pass_of, IsSection}
 use Rattle.program_equality.specs.program_equations.Systems.{IsSectionBelow}

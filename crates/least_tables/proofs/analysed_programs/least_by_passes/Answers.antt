@@ -1,4 +1,4 @@
-use Rattle.least_tables.specs.laws.WholeLeast.{history_is_least}
+use Rattle.table_covers.specs.laws.WholeLeast.{history_is_least}
 use Rattle.least_tables.proofs.analysed_programs.least_by_passes.Goals as goal
 
 pub returns : goal.returns

@@ -1,4 +1,4 @@
-use Rattle.least_tables.specs.laws.WholeLeast.{warm_start}
+use Rattle.table_covers.specs.laws.WholeLeast.{warm_start}
 use Rattle.least_tables.proofs.analysed_programs.warm_starts.Goals as goal
 
 pub returns : goal.returns

@@ -3,16 +3,16 @@ use Rattle.least_tables.proofs.work_list.run.Goals as goal
 
 pub loop-edge-preserved : goal.loop-edge-preserved
 loop-edge-preserved g c =
-    let s = c.in_ok-step.ensures.step refl in
-    (s.started, s.met, (λ other closed below. s.least other closed (c.loop-edge.invariant.2 other closed below)), c.in_ok-step.ensures.followed refl)
+    let s = c.in_ok-rose.ensures.step refl in
+    (s.started, s.met, (λ other closed below. s.least other closed (c.loop-edge.invariant.2 other closed below)), c.in_ok-rose.ensures.followed refl, c.in_ok-rose.ensures.visits refl _ c.loop-edge.invariant.4)
 
 pub loop-edge-smaller : goal.loop-edge-smaller
-loop-edge-smaller g c = (c.in_ok-step.ensures.step refl).smaller
+loop-edge-smaller g c = (c.in_ok-rose.ensures.step refl).smaller
 
-pub loop-edge-preserved-then-branch : goal.loop-edge-preserved-then-branch
-loop-edge-preserved-then-branch g c =
-    let s = c.in_ok-step.ensures.step refl in
-    (s.started, s.met, (λ other closed below. s.least other closed (c.loop-edge.invariant.2 other closed below)), c.in_ok-step.ensures.followed refl)
+pub loop-edge-preserved-then-rose : goal.loop-edge-preserved-then-rose
+loop-edge-preserved-then-rose g c =
+    let s = c.in_ok-rose.ensures.step refl in
+    (s.started, s.met, (λ other closed below. s.least other closed (c.loop-edge.invariant.2 other closed below)), c.in_ok-rose.ensures.followed refl, c.in_ok-rose.ensures.visits refl _ c.loop-edge.invariant.4)
 
 pub returns-clause-closed : goal.returns-clause-closed
 returns-clause-closed g c = λ ok.

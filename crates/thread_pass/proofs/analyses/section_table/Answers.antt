@@ -1,5 +1,7 @@
-use Rattle.std.proofs.Common.{◌≡◌, ◌<◌, ◌≤◌, arith, length}
+use Rattle.std.proofs.Common.{◌≡◌, ◌<◌, ◌≤◌, ◌∙◌, ap, arith, length, Some}
+use Rattle.program_systems.specs.body_systems.Systems.{body_of}
 use Rattle.thread_pass.proofs.SectionTables.{in_bodies, empty_table, section_entry_fits, nothing_fits_program}
+use Rattle.thread_pass.proofs.SectionTables.{section_table_is}
 use Rattle.thread_pass.proofs.analyses.section_table.Goals as goal
 
 pub returns-then-tasks-len : goal.returns-then-tasks-len
@@ -40,3 +42,18 @@ body_over_store-body-requires-clause-entry c =
     omega (arith, c.if-tasks-len.false, c.len.ensures, program.graphs.graphs.ok.0) in
     section_entry_fits program c.args.facts.now c.requires.analysable c.requires.facts c.len-tasks.result same within
     c.in_ok-entry.entry c.in_ok-entry.ensures
+
+pub returns : goal.returns
+returns c =
+    let program = c.args.program.now in
+    let same : c.len-tasks.result ≡ length program.laid.file.tasks.items =
+    omega (arith, c.len-tasks.ensures, program.laid.file.tasks.ok.0) in
+    let within : c.len-tasks.result < length program.graphs.graphs.items =
+    omega (arith, c.if-tasks-len.false, c.len.ensures, program.graphs.graphs.ok.0) in
+    let over = c.body_over_store-body.result in
+    let made = c.in_ok-table.field-0 in
+    section_table_is program c.args.facts.now c.requires.analysable c.requires.facts c.len-tasks.result (body_of over)
+    over.entry over.store made.table.items same within c.body_over_store-body.ensures.body
+    (c.body_over_store-body.ensures.entry ∙ ap Some c.in_ok-entry.ensures)
+    (c.body_over_store-body.ensures.store ∙ c.new-nothing.ensures) c.in_ok-table.ensures.nodes
+    c.in_ok-table.ensures.least

@@ -1,6 +1,6 @@
 use Rattle.std.proofs.Common.{◌≡◌}
-use Rattle.least_tables.specs.Solutions.{at}
-use Rattle.least_tables.specs.Passes.{added_below}
+use Rattle.table_covers.specs.Solutions.{at}
+use Rattle.table_covers.specs.Passes.{added_below}
 use Rattle.thread_pass.proofs.contributions.joined_contributions.Given as goal
 
 abbrev pub invariant-loop-edge : goal.invariant-loop-edge

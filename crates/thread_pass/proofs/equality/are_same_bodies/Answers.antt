@@ -3,7 +3,7 @@ use Rattle.std.proofs.lemmas.Bool.{false≢true}
 use Rattle.program_equality.specs.temporary_types.PointerMarks.{pointer_marks}
 use Rattle.flow_graph.specs.declared.graphs.Graph.{Graph}
 use Rattle.program_systems.specs.body_systems.Facts.{Facts}
-use Rattle.program_equality.specs.program_equations.Programs.{temporaries_in}
+use Rattle.program_equality.specs.temporary_types.Temporaries.{temporaries_in}
 use Rattle.thread_pass.proofs.SameBodies.{none_yet, counts, bodies_are, one_more, all_same}
 use Rattle.thread_pass.proofs.equality.are_same_bodies.Goals as goal
 

@@ -2,8 +2,8 @@ use Rattle.std.proofs.Common.{◌≡◌, ◌<◌, subst, sym, ap, ◌∙◌, ari
 use Rattle.std.proofs.lemmas.List.{get_or_default}
 use Rattle.interfere_set.specs.Stores.{no_interference, joined_store}
 use Rattle.program_systems.specs.body_systems.Systems.{body_of}
-use Rattle.least_tables.specs.Solutions.{at}
-use Rattle.least_tables.specs.Passes.{added_below}
+use Rattle.table_covers.specs.Solutions.{at}
+use Rattle.table_covers.specs.Passes.{added_below}
 use Rattle.program_equality.specs.task_equations.Bodies.{copy_at}
 use Rattle.program_equality.specs.task_equations.Equations.{link_of, added_along}
 use Rattle.program_equality.specs.program_equations.Systems.{FitsBody, FitsProgram, pass_of}
@@ -12,9 +12,10 @@ use Rattle.program_systems.specs.ProgramFacts.{program_with}
 use Rattle.program_systems.proofs.Bodies.{is_program}
 use Rattle.program_equality.specs.program_equations.Programs.{body_at}
 use Rattle.thread_pass.specs.Analyses.{IsLeastTable, IsStartTable}
+use Rattle.thread_pass.specs.Kept.{AreVisitsOf}
 use Rattle.thread_pass.specs.StoreUses.{AreUses}
 use Rattle.thread_pass.proofs.Uses.{adds_nothing, joined_nothing}
-use Rattle.thread_pass.proofs.TaskTables.{in_bodies, entry_fits, table_is}
+use Rattle.thread_pass.proofs.TaskTables.{in_bodies, entry_fits, table_is, visits_are}
 use Rattle.thread_pass.proofs.StartTables.{start_nodes, is_started, is_pending, last_is_least, last_added}
 use Rattle.thread_pass.proofs.passes.local_from.Goals as goal
 
@@ -125,7 +126,7 @@ joined_contributions-requires-clause-fits c κs =
     (sym c.analysis.view_is) c.requires.start in
     let least = last_is_least p is c.args.task task c.args.store.now fits (body_of over) over.entry over.store
     c.body_over_store-body.ensures.body entry c.body_over_store-body.ensures.store c.args.table.items start
-    c.in_ok-table.table.items c.in_ok-table.ensures.closed c.in_ok-table.ensures.least in
+    c.in_ok-table.field-0.table.items c.in_ok-table.ensures.closed c.in_ok-table.ensures.least in
     λ n lt. subst (λ xs. IfSome (at xs n) (FitsBody (body_of over) n)) (sym c.deref.ensures.value)
     (least.solves.fits n lt)
 
@@ -143,15 +144,15 @@ returns-clause-table c =
     let fits = subst (λ v. FitsProgram (program_of v) c.args.store.now) (sym c.analysis.view_is) c.requires.fits in
     let start = subst (λ v. IsStartTable (program_of v) c.args.task c.args.store.now c.args.table.items)
     (sym c.analysis.view_is) c.requires.start in
-    subst (λ v. IsLeastTable (program_of v) c.args.task c.args.store.now c.in_ok-table.table.items) c.analysis.view_is
+    subst (λ v. IsLeastTable (program_of v) c.args.task c.args.store.now c.in_ok-table.field-0.table.items) c.analysis.view_is
     (table_is p is c.args.task task (body_of over) over.entry c.args.store.now over.store
-    c.body_over_store-body.ensures.body entry c.body_over_store-body.ensures.store fits c.in_ok-table.table.items
+    c.body_over_store-body.ensures.body entry c.body_over_store-body.ensures.store fits c.in_ok-table.field-0.table.items
     (c.in_ok-table.ensures.nodes
     ∙ start_nodes p is c.args.task task c.args.store.now fits (body_of over) over.entry over.store
     c.body_over_store-body.ensures.body entry c.body_over_store-body.ensures.store c.args.table.items start)
     (last_is_least p is c.args.task task c.args.store.now fits (body_of over) over.entry over.store
     c.body_over_store-body.ensures.body entry c.body_over_store-body.ensures.store c.args.table.items start
-    c.in_ok-table.table.items c.in_ok-table.ensures.closed c.in_ok-table.ensures.least))
+    c.in_ok-table.field-0.table.items c.in_ok-table.ensures.closed c.in_ok-table.ensures.least))
 
 pub returns-clause-added : goal.returns-clause-added
 returns-clause-added c =
@@ -171,7 +172,7 @@ returns-clause-added c =
     subst (λ v. c.in_ok-added.added ≡ pass_of (program_of v) c.args.task c.args.store.now) c.analysis.view_is
     (last_added p is c.args.task task c.args.store.now fits (body_of over) over.entry over.store
     c.body_over_store-body.ensures.body entry c.body_over_store-body.ensures.store c.args.table.items start
-    c.in_ok-table.table.items c.in_ok-table.ensures.closed c.in_ok-table.ensures.least c.in_ok-added.added
+    c.in_ok-table.field-0.table.items c.in_ok-table.ensures.closed c.in_ok-table.ensures.least c.in_ok-added.added
     (c.in_ok-added.ensures ∙ ap (λ xs. added_below (map link_of b.copies) no_interference
     (λ k v. added_along b (copy_at b k) v) joined_store (length (map link_of b.copies)) (at xs))
     c.deref.ensures.value))
@@ -188,3 +189,21 @@ joined_contributions-requires-clause-adds c κs = λ k lt quiet s.
 
 pub joined_contributions-requires-clause-neutral : goal.joined_contributions-requires-clause-neutral
 joined_contributions-requires-clause-neutral c κs = joined_nothing
+
+pub returns-clause-visits : goal.returns-clause-visits
+returns-clause-visits c =
+    let inside = c.analysis.inside in
+    let p = program_with inside.program inside.facts in
+    let is = is_program inside.program inside.facts c.analysis.invariant.analysable c.analysis.invariant.facts in
+    let task : c.args.task < p.tasks = subst (λ v. c.args.task < v.tasks) (sym c.analysis.view_is) c.requires.task in
+    let within : c.args.task < length inside.entries.items = omega (arith, task, c.analysis.invariant.count) in
+    let over = c.body_over_store-body.result in
+    let entry = c.body_over_store-body.ensures.entry ∙ c.as_ref-entry.ensures.value ∙ c.index.ensures
+    ∙ get_or_default inside.entries.items c.args.task c.index.result.now None within
+    ∙ c.analysis.invariant.entries c.args.task within in
+    let fits = subst (λ v. FitsProgram (program_of v) c.args.store.now) (sym c.analysis.view_is) c.requires.fits in
+    subst (λ v. AreVisitsOf (program_of v) c.args.task c.args.store.now c.in_ok-table.field-0.visits
+    (at c.args.table.items) c.in_ok-table.field-0.table.items) c.analysis.view_is
+    (visits_are p is c.args.task task (body_of over) over.entry c.args.store.now over.store
+    c.body_over_store-body.ensures.body entry c.body_over_store-body.ensures.store fits
+    c.in_ok-table.field-0.visits (at c.args.table.items) c.in_ok-table.field-0.table.items c.in_ok-table.ensures.visits)

@@ -1,7 +1,7 @@
 use Rattle.std.proofs.Common.{◌≡◌, ◌<◌, ◌∙◌, None, true, get_or, set, length, sym, ap, subst, inl, inr, arith}
 use Rattle.std.proofs.lemmas.Bool.{cases_eq, false≢true}
 use Rattle.std.proofs.lemmas.List.{get_or_default, get_or-set_same, get_or-set_other}
-use Rattle.least_tables.specs.Systems.{from_of}
+use Rattle.table_covers.specs.Systems.{from_of}
 use Rattle.least_tables.specs.reading.WorkLists.{IsLastBelow}
 use Rattle.least_tables.proofs.Marking.{IsFollowed, next_followed, chain_falls, past_number}
 use Rattle.least_tables.proofs.leaving_edges.Leaving.mark.Goals as goal

@@ -1,6 +1,6 @@
 use Rattle.std.proofs.Common.{◌≡◌, ◌+◌, Some, None, get_or, set, sym, subst, ◌∙◌, arith}
 use Rattle.std.proofs.lemmas.List.{get_or_default}
-use Rattle.least_tables.specs.Systems.{from_of}
+use Rattle.table_covers.specs.Systems.{from_of}
 use Rattle.least_tables.proofs.Marking.{IsBuilt, built_more}
 use Rattle.least_tables.proofs.leaving_edges.Leaving.new.Goals as goal
 

@@ -1,4 +1,0 @@
-pub mod AddedTotals
-pub mod Closing
-pub mod Iterates
-pub mod WholeLeast
