@@ -1,10 +1,11 @@
--- What the program answers: the view of a report over a text, or why there is none.
+-- What the program answers: the view of a report over a text, or the log of a report, its waits and its dead places, or
+-- why there is none.
 use Rattle.std.specs.Prelude.{◌≡◌, ℕ, ◌+◌, ◌⊎◌, Bool, List, Option}
 use Rattle.std.specs.Io.KnownBytes.{append_known}
 use Rattle.report_views.specs.declared.causes.Cause.{Cause}
 use Rattle.report_views.specs.declared.views.Form.{Form}
-use Rattle.report_views.specs.Causes.{cause_text, IsCause, longest_report, longest_text}
-use Rattle.report_views.specs.Views.{IsView}
+use Rattle.report_views.specs.Causes.{cause_text, IsCause, IsLogCause, longest_report, longest_text}
+use Rattle.report_views.specs.Views.{IsLog, IsView}
 use Rattle.program_streams.specs.Streams.{IsRead, TakesFrontOf}
 
 -- By what two streams have left before and after a call: the report, and the text whose first file has this name.
@@ -45,3 +46,50 @@ module _ (form : Form) (name : List ℕ) (report_left report_left' text_left tex
   -- a stream has taken nothing, or a front of the view
   abbrev pub ShowsNoMore : Option (List ℕ) → Option (List ℕ) → Type 0
   ShowsNoMore taken taken' = (taken' ≡ taken) ⊎ ShowsFront taken taken'
+
+-- By what four streams have left before and after a call: the report, the text whose first file has this name, the text
+-- of the waits, and that of the dead places.
+module _ (name : List ℕ) (report_left report_left' text_left text_left' : Option (List ℕ))
+    (waits_left waits_left' dead_left dead_left' : Option (List ℕ)) where
+  -- these bytes were read: each to its end, or past the most that it may have
+  pub record AllAreRead (report text waits dead : List ℕ) : Type 0 where
+    pub report_read : IsRead report_left report_left' (longest_report + 1) report
+    pub text_read : IsRead text_left text_left' (longest_text + 1) text
+    pub waits_read : IsRead waits_left waits_left' (longest_report + 1) waits
+    pub dead_read : IsRead dead_left dead_left' (longest_report + 1) dead
+
+  -- a log of what was read
+  pub record IsLogRead (log : List ℕ) : Type 0 where
+    pub report : List ℕ
+    pub text : List ℕ
+    pub waits : List ℕ
+    pub dead : List ℕ
+    pub read : AllAreRead report text waits dead
+    pub is : IsLog name report waits dead text log
+
+  -- a stream has taken the whole log
+  pub record Logs (taken taken' : Option (List ℕ)) : Type 0 where
+    pub log : List ℕ
+    pub is : IsLogRead log
+    pub appended : taken' ≡ append_known taken log
+
+  -- a stream has taken a front of the log
+  pub record LogsFront (taken taken' : Option (List ℕ)) : Type 0 where
+    pub log : List ℕ
+    pub is : IsLogRead log
+    pub front : TakesFrontOf log taken taken'
+
+  -- a stream has taken the line of the cause for which there is no log
+  pub record TellsNoLog (taken taken' : Option (List ℕ)) : Type 0 where
+    pub report : List ℕ
+    pub text : List ℕ
+    pub waits : List ℕ
+    pub dead : List ℕ
+    pub read : AllAreRead report text waits dead
+    pub cause : Cause
+    pub is : IsLogCause name report waits dead text cause
+    pub appended : taken' ≡ append_known taken (cause_text cause)
+
+  -- a stream has taken nothing, or a front of the log
+  abbrev pub LogsNoMore : Option (List ℕ) → Option (List ℕ) → Type 0
+  LogsNoMore taken taken' = (taken' ≡ taken) ⊎ LogsFront taken taken'

@@ -1,15 +1,17 @@
 //! The program `report_view FORM TEXT NAME < REPORT`: it reads a report, as JSON, from standard input, and the text
-//! that it is of from the file TEXT, and writes the view of the report to standard output. FORM is `--lines`, `--sarif`
-//! or `--summary`; NAME is the name of the file from which the first line of the text comes, spelled as in a line mark.
-//! Why a report is refused goes to standard error. Where the system does not give the program its words, it writes
-//! nothing and ends with status 7.
+//! that it is of from the file TEXT, and writes the view of the report to standard output. FORM is `--lines` or
+//! `--summary`; NAME is the name of the file from which the first line of the text comes, spelled as in a line mark.
+//! `report_view --sarif TEXT NAME WAITS DEAD < REPORT` reads also what `waits` answers from the file WAITS, and what
+//! `ranges` answers behind the bounds of objects from the file DEAD, and writes the log of the three. Why a text is
+//! refused goes to standard error. Where the system does not give the program its words, it writes nothing and ends
+//! with status 7.
 #![tactic(auto)]
 
 mod top;
 mod words;
 
-use crate::top::answer;
-use crate::words::{Asked, read_words};
+use crate::top::{answer, answer_log};
+use crate::words::{Asked, AskedLog, read_log_words, read_words};
 use program_streams::Status;
 use std::env;
 use std::fs::File;
@@ -29,16 +31,40 @@ fn status_without_words(reason: ErrorKind) -> u8 {
 }
 
 /// The line that says how the program is used.
-const USAGE: &str = "usage: report_view --lines|--sarif|--summary TEXT NAME < REPORT";
+const USAGE: &str =
+    "usage: report_view --lines|--summary TEXT NAME < REPORT, or report_view --sarif TEXT NAME WAITS DEAD < REPORT";
 
-/// What the program does with words, behind its own name.
-fn run(rt: &HostRuntime, words: &[String]) -> Status {
-    let Some(asked) = read_words(words) else {
-        return match rt.eprintln(USAGE) {
-            Ok(()) => Status::Usage,
-            Err(_) => Status::WriteFault,
-        };
+/// Writes the log that is asked for.
+fn write_log(rt: &HostRuntime, asked: AskedLog<'_>) -> Status {
+    let Ok(text) = File::open(rt, asked.text) else {
+        return Status::ReadFault;
     };
+    let Ok(waits) = File::open(rt, asked.waits) else {
+        return Status::ReadFault;
+    };
+    let Ok(dead) = File::open(rt, asked.dead) else {
+        return Status::ReadFault;
+    };
+    let mut report = StdSource::new(rt.stdin());
+    let mut text = StdSource::new(text);
+    let mut waits = StdSource::new(waits);
+    let mut dead = StdSource::new(dead);
+    let mut out = StdSink::new(rt.stdout());
+    let mut told = StdSink::new(rt.stderr());
+    answer_log(
+        rt.alloc(),
+        asked,
+        &mut report,
+        &mut text,
+        &mut waits,
+        &mut dead,
+        &mut out,
+        &mut told,
+    )
+}
+
+/// Writes the view that is asked for.
+fn write_view(rt: &HostRuntime, asked: Asked<'_>) -> Status {
     let Ok(text) = File::open(rt, asked.text) else {
         return Status::ReadFault;
     };
@@ -54,6 +80,20 @@ fn run(rt: &HostRuntime, words: &[String]) -> Status {
         &mut out,
         &mut told,
     )
+}
+
+/// What the program does with words, behind its own name.
+fn run(rt: &HostRuntime, words: &[String]) -> Status {
+    if let Some(asked) = read_words(words) {
+        return write_view(rt, asked);
+    }
+    if let Some(asked) = read_log_words(words) {
+        return write_log(rt, asked);
+    }
+    match rt.eprintln(USAGE) {
+        Ok(()) => Status::Usage,
+        Err(_) => Status::WriteFault,
+    }
 }
 
 fn main(rt: HostRuntime) -> ExitCode {

@@ -1,16 +1,16 @@
-//! The view of a report, from streams to a stream.
+//! The view of a report, and the log of a report, its waits and its dead places, from streams to a stream.
 
 ghost use Rattle.std.specs.Prelude.{◌≡◌, ◌≢◌, ◌⊎◌, Bool};
 ghost use Rattle.std.specs.Io.KnownBytes.{append_known};
 ghost use Rattle.tm_io.specs.Faults.{Rose};
 ghost use Rattle.report_views.specs.Causes.{cause_text};
-ghost use Rattle.report_view.specs.Answers.{Shows, ShowsNoMore, Tells};
+ghost use Rattle.report_view.specs.Answers.{Logs, LogsNoMore, Shows, ShowsNoMore, Tells, TellsNoLog};
 ghost use Rattle.report_view.specs.Statuses.{shown_status, unread_status, unwritten_status};
 ghost use Rattle.program_streams.specs.Streams.{TakesFrontOf};
 
-use crate::words::Asked;
+use crate::words::{Asked, AskedLog};
 use program_streams::{InputError, Status, read_whole, write_whole};
-use report_views::{Cause, LONGEST_REPORT, LONGEST_TEXT, Reply, ViewFail, cause_line, view};
+use report_views::{Cause, LONGEST_REPORT, LONGEST_TEXT, Reply, ViewFail, cause_line, log, view};
 use std::alloc::Global;
 use tm_io::{Sink, Source, Stop};
 use tm_lattice::NoMemory;
@@ -55,7 +55,7 @@ fn show<K: Sink>(out: &mut K, reply: &Reply) -> Status
     }
 }
 
-/// Writes why there is no view.
+/// Writes why there is no view, or no log.
 fn tell<E: Sink>(alloc: Global, told: &mut E, cause: Cause) -> Status
     ensures whole { result ≡ Status.Refused → E.taken told.new ≡ append_known (E.taken told.old) (cause_text cause) }
     ensures write { result ≡ Status.WriteFault → Rose (E.faults told.old) (E.faults told.new) }
@@ -120,6 +120,87 @@ pub fn answer<R: Source, T: Source, K: Sink, E: Sink>(
         &text_bytes,
     ) {
         Ok(reply) => show(out, &reply),
+        Err(ViewFail::Refused(cause)) => tell(alloc, told, cause),
+        Err(ViewFail::NoMemory) => Status::NoMemory,
+    }
+}
+
+/// Writes a log, and says whether it was taken whole.
+fn show_log<K: Sink>(out: &mut K, text: &[u8]) -> Status
+    ensures whole { result ≡ Status.NoAlarm → K.taken out.new ≡ append_known (K.taken out.old) text.now }
+    ensures front { TakesFrontOf text.now (K.taken out.old) (K.taken out.new) }
+    ensures write { result ≡ Status.WriteFault → Rose (K.faults out.old) (K.faults out.new) }
+    ensures others { (result ≢ Status.Refused) × (result ≢ Status.Usage) × (result ≢ Status.ReadFault)
+        × (result ≢ Status.Alarms) }
+{
+    match write_whole(out, text) {
+        Ok(()) => Status::NoAlarm,
+        Err(stop) => unwritten(stop),
+    }
+}
+
+/// Writes the log of a report, of its waits and of its dead places over a text to `out`, or to `told` why there is
+/// none. The log is made whole before its first byte is written.
+pub fn answer_log<R: Source, T: Source, W: Source, D: Source, K: Sink, E: Sink>(
+    alloc: Global,
+    asked: AskedLog<'_>,
+    report: &mut R,
+    text: &mut T,
+    waits: &mut W,
+    dead: &mut D,
+    out: &mut K,
+    told: &mut E,
+) -> Status
+    // Status 0: `out` has taken the log, in which each alarm of the report, each lock that the waits list and each dead
+    // place has one result, at the place that the line marks of the text give.
+    ensures logged { result ≡ Status.NoAlarm → Logs asked.entry.name.now (R.left report.old) (R.left report.new)
+        (T.left text.old) (T.left text.new) (W.left waits.old) (W.left waits.new) (D.left dead.old) (D.left dead.new)
+        (K.taken out.old) (K.taken out.new) }
+
+    // Status 2: there is no log, `told` has taken why, and `out` nothing.
+    ensures refused { result ≡ Status.Refused → TellsNoLog asked.entry.name.now (R.left report.old) (R.left report.new)
+        (T.left text.old) (T.left text.new) (W.left waits.old) (W.left waits.new) (D.left dead.old) (D.left dead.new)
+        (E.taken told.old) (E.taken told.new)
+        × (K.taken out.new ≡ K.taken out.old) }
+
+    // Whatever comes, `out` has taken nothing, or a front of the log.
+    ensures front { LogsNoMore asked.entry.name.now (R.left report.old) (R.left report.new)
+        (T.left text.old) (T.left text.new) (W.left waits.old) (W.left waits.new) (D.left dead.old) (D.left dead.new)
+        (K.taken out.old) (K.taken out.new) }
+
+    // A fault comes only where a count of faults rose. After a read fault nothing is taken.
+    ensures read { result ≡ Status.ReadFault → (Rose (R.faults report.old) (R.faults report.new)
+        ⊎ (Rose (T.faults text.old) (T.faults text.new) ⊎ (Rose (W.faults waits.old) (W.faults waits.new)
+        ⊎ Rose (D.faults dead.old) (D.faults dead.new)))) × (K.taken out.new ≡ K.taken out.old) }
+    ensures write { result ≡ Status.WriteFault → Rose (K.faults out.old) (K.faults out.new)
+        ⊎ Rose (E.faults told.old) (E.faults told.new) }
+    ensures others { (result ≢ Status.Usage) × (result ≢ Status.Alarms) }
+{
+    let mut report_bytes = Vec::new(alloc);
+    if let Err(error) = read_whole(report, &mut report_bytes, LONGEST_REPORT + 1) {
+        return unread(error);
+    }
+    let mut text_bytes = Vec::new(alloc);
+    if let Err(error) = read_whole(text, &mut text_bytes, LONGEST_TEXT + 1) {
+        return unread(error);
+    }
+    let mut waits_bytes = Vec::new(alloc);
+    if let Err(error) = read_whole(waits, &mut waits_bytes, LONGEST_REPORT + 1) {
+        return unread(error);
+    }
+    let mut dead_bytes = Vec::new(alloc);
+    if let Err(error) = read_whole(dead, &mut dead_bytes, LONGEST_REPORT + 1) {
+        return unread(error);
+    }
+    match log(
+        alloc,
+        asked.name.as_bytes(),
+        &report_bytes,
+        &waits_bytes,
+        &dead_bytes,
+        &text_bytes,
+    ) {
+        Ok(text) => show_log(out, &text),
         Err(ViewFail::Refused(cause)) => tell(alloc, told, cause),
         Err(ViewFail::NoMemory) => Status::NoMemory,
     }

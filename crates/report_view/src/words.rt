@@ -1,12 +1,13 @@
 //! The words of the command.
 
 ghost use Rattle.std.specs.Prelude.{◌≡◌, ◌∷◌, [], codes, map, option_map, string_bytes, None};
-ghost use Rattle.report_view.specs.Words.{asked_of, form_of};
-ghost use Rattle.report_view.specs.reading.Seen.{asked_seen};
+ghost use Rattle.report_view.specs.Words.{asked_log_of, asked_of, form_of};
+ghost use Rattle.report_view.specs.reading.Seen.{asked_log_seen, asked_seen};
 
 use report_views::Form;
 
-/// What words ask for: a form, the file that holds the text, and the name of the file from which its first line comes.
+/// What words that ask for a view ask for: a form, the file that holds the text, and the name of the file from which
+/// its first line comes.
 #[derive(Clone, Copy)]
 pub struct Asked<'a> {
     pub form: Form,
@@ -20,8 +21,6 @@ fn form_of(word: &str) -> Option<Form>
 {
     if word == "--lines" {
         Some(Form::Lines)
-    } else if word == "--sarif" {
-        Some(Form::Sarif)
     } else if word == "--summary" {
         Some(Form::Summary)
     } else {
@@ -29,7 +28,7 @@ fn form_of(word: &str) -> Option<Form>
     }
 }
 
-/// What words ask for, if they are a form and two words more.
+/// The view that words ask for, if they are a form and two words more.
 pub fn read_words(words: &[String]) -> Option<Asked<'_>>
     ensures { option_map asked_seen result ≡ asked_of (map (λ w. string_bytes w) words.now) }
 {
@@ -40,6 +39,36 @@ pub fn read_words(words: &[String]) -> Option<Asked<'_>>
                 form,
                 text: text.as_str(),
                 name: name.as_str(),
+            })
+        }
+        _ => None,
+    }
+}
+
+/// What words that ask for a log ask for: the file that holds the text, the name of the file from which its first line
+/// comes, and the files that hold the texts of the waits and of the dead places.
+#[derive(Clone, Copy)]
+pub struct AskedLog<'a> {
+    pub text: &'a str,
+    pub name: &'a str,
+    pub waits: &'a str,
+    pub dead: &'a str,
+}
+
+/// The log that words ask for, if they are `--sarif` and four words more.
+pub fn read_log_words(words: &[String]) -> Option<AskedLog<'_>>
+    ensures { option_map asked_log_seen result ≡ asked_log_of (map (λ w. string_bytes w) words.now) }
+{
+    match words {
+        [form, text, name, waits, dead] => {
+            if form.as_str() != "--sarif" {
+                return None;
+            }
+            Some(AskedLog {
+                text: text.as_str(),
+                name: name.as_str(),
+                waits: waits.as_str(),
+                dead: dead.as_str(),
             })
         }
         _ => None,

@@ -1,5 +1,5 @@
--- Why a report has no view.
-use Rattle.std.specs.Prelude.{◌≡◌, ℕ, ◌<◌, ◌≤◌, List, ◌++◌, length, Some, None, codes, decimal, IsUtf8}
+-- Why a report has no view, and findings have no log.
+use Rattle.std.specs.Prelude.{◌≡◌, ℕ, ◌<◌, ◌≤◌, List, ◌++◌, length, Some, None, map, codes, decimal, IsUtf8}
 use Rattle.serde_json.specs.Data.{Data}
 use Rattle.serde_json.specs.Read.{read}
 use Rattle.tm_terms.specs.declared.alarms.Alarm.{Alarm}
@@ -7,11 +7,16 @@ use Rattle.tm_terms.specs.declared.places.Place.{Place}
 use Rattle.tm_terms.specs.Texts.{line_of, place_text}
 use Rattle.report_reading.specs.report_json.JsonReports.{report_data}
 use Rattle.report_reading.specs.Reports.{IsNoReport}
+use Rattle.report_reading.specs.Listings.{IsNoListing, listing_text}
+use Rattle.report_reading.specs.declared.listings.Listing.{Listing}
+use Rattle.report_reading.specs.declared.listings.Listing.TheVariants.{Waits, Dead as DeadPlaces}
 use Rattle.source_marks.specs.Marks.{IsBrokenAt, lines_of, origins_of, Origin}
-use Rattle.report_views.specs.Spots.{IsOutside}
+use Rattle.report_views.specs.Spots.{IsOutside, finding_of, found_by}
+use Rattle.report_views.specs.declared.spots.Finding.{Finding}
+use Rattle.report_views.specs.declared.sentences.Rule.TheVariants.{Wait, Dead}
 use Rattle.report_views.specs.declared.causes.Cause.{Cause}
 use Rattle.report_views.specs.declared.causes.Cause.TheVariants.{LongReport, NotJson, NotReport, LongText, BrokenMark}
-use Rattle.report_views.specs.declared.causes.Cause.TheVariants.{Outside}
+use Rattle.report_views.specs.declared.causes.Cause.TheVariants.{Outside, LongListing, NotListing}
 
 -- ## The lines that tell a cause
 
@@ -19,7 +24,15 @@ abbrev pub broken_text : ℕ → List ℕ
 broken_text number = codes "refused: a line mark that cannot be read is line " ++ line_of (decimal number)
 
 abbrev pub outside_text : Place → List ℕ
-outside_text place = line_of (codes "refused: in no line of a file stands the alarm at " ++ place_text place)
+outside_text place = line_of (codes "refused: in no line of a file stands the place " ++ place_text place)
+
+abbrev pub long_text : Listing → List ℕ
+long_text Waits = line_of (codes "refused: the text of the waits is too long")
+long_text DeadPlaces = line_of (codes "refused: the text of the dead places is too long")
+
+abbrev pub strange_text : Listing → List ℕ
+strange_text Waits = line_of (codes "refused: the text of the waits lists no places")
+strange_text DeadPlaces = line_of (codes "refused: the text of the dead places lists no places")
 
 abbrev pub cause_text : Cause → List ℕ
 cause_text LongReport = line_of (codes "refused: the report is too long")
@@ -28,10 +41,12 @@ cause_text NotReport = line_of (codes "refused: the report is JSON, but no repor
 cause_text LongText = line_of (codes "refused: the text is too long")
 cause_text (BrokenMark number) = broken_text number
 cause_text (Outside place) = outside_text place
+cause_text (LongListing listing) = long_text listing
+cause_text (NotListing listing) = strange_text listing
 
 -- ## What is read
 
--- the most bytes of a report, and of a text
+-- the most bytes of a report or a text that lists places, and of a source text
 abbrev pub longest_report : ℕ
 longest_report = 67108864
 
@@ -41,6 +56,10 @@ longest_text = 1048576
 -- these bytes are the report of these alarms
 abbrev pub IsReportOf : List ℕ → List Alarm → Type 0
 IsReportOf report alarms = (length report ≤ longest_report) × IsUtf8 report × (read report ≡ Some (report_data alarms))
+
+-- these bytes list these places
+abbrev pub IsListingOf : Listing → List ℕ → List Place → Type 0
+IsListingOf listing text places = (length text ≤ longest_report) × (text ≡ listing_text listing places)
 
 -- the lines of a text, whose first file has this name, have these origins
 abbrev pub AreOrigins : List ℕ → List ℕ → List Origin → Type 0
@@ -57,13 +76,50 @@ IsCause name report text LongText = longest_text < length text
 IsCause name report text (BrokenMark number) = (origins_of name text ≡ None) × IsBrokenAt (lines_of text) number
 IsCause name report text (Outside place) =
     (alarms : List Alarm) × (origins : List Origin) × IsReportOf report alarms × AreOrigins name text origins
-    × IsOutside origins alarms place
+    × IsOutside origins (map finding_of alarms) place
+IsCause name report text (LongListing listing) = ⊥
+IsCause name report text (NotListing listing) = ⊥
 
--- a cause that alarms give, where the lines of their text have these origins
-abbrev pub IsMisplaced : List Origin → List Alarm → Cause → Type 0
-IsMisplaced origins alarms LongReport = ⊥
-IsMisplaced origins alarms NotJson = ⊥
-IsMisplaced origins alarms NotReport = ⊥
-IsMisplaced origins alarms LongText = ⊥
-IsMisplaced origins alarms (BrokenMark number) = ⊥
-IsMisplaced origins alarms (Outside place) = IsOutside origins alarms place
+-- the text of the waits, or of the dead places
+abbrev pub text_of : Listing → List ℕ → List ℕ → List ℕ
+text_of Waits waits dead = waits
+text_of DeadPlaces waits dead = dead
+
+-- the findings of a log: alarms, waits and dead places
+abbrev pub all_findings : List Alarm → List Place → List Place → List Finding
+all_findings alarms waits dead = map finding_of alarms ++ (map (found_by Wait) waits ++ map (found_by Dead) dead)
+
+-- these findings are those of a report and of two texts that list places
+pub record AreFindings (report waits dead : List ℕ) (findings : List Finding) : Type 0 where
+  pub alarms : List Alarm
+  pub waiting : List Place
+  pub unreached : List Place
+  pub reads : IsReportOf report alarms
+  pub reads_waits : IsListingOf Waits waits waiting
+  pub reads_dead : IsListingOf DeadPlaces dead unreached
+  pub are : findings ≡ all_findings alarms waiting unreached
+
+-- this is the cause for which a report and two texts that list places have no log over a text
+abbrev pub IsLogCause : List ℕ → List ℕ → List ℕ → List ℕ → List ℕ → Cause → Type 0
+IsLogCause name report waits dead text LongReport = longest_report < length report
+IsLogCause name report waits dead text NotJson = IsUtf8 report → read report ≡ None
+IsLogCause name report waits dead text NotReport = (value : Data) × (read report ≡ Some value) × IsNoReport value
+IsLogCause name report waits dead text LongText = longest_text < length text
+IsLogCause name report waits dead text (BrokenMark number) =
+    (origins_of name text ≡ None) × IsBrokenAt (lines_of text) number
+IsLogCause name report waits dead text (Outside place) =
+    (findings : List Finding) × (origins : List Origin) × AreFindings report waits dead findings
+    × AreOrigins name text origins × IsOutside origins findings place
+IsLogCause name report waits dead text (LongListing listing) = longest_report < length (text_of listing waits dead)
+IsLogCause name report waits dead text (NotListing listing) = IsNoListing listing (text_of listing waits dead)
+
+-- a cause that findings give, where the lines of their text have these origins
+abbrev pub IsMisplaced : List Origin → List Finding → Cause → Type 0
+IsMisplaced origins findings LongReport = ⊥
+IsMisplaced origins findings NotJson = ⊥
+IsMisplaced origins findings NotReport = ⊥
+IsMisplaced origins findings LongText = ⊥
+IsMisplaced origins findings (BrokenMark number) = ⊥
+IsMisplaced origins findings (Outside place) = IsOutside origins findings place
+IsMisplaced origins findings (LongListing listing) = ⊥
+IsMisplaced origins findings (NotListing listing) = ⊥

@@ -1,11 +1,11 @@
--- Alarms as compilers print them: a line FILE:LINE:COL: CLASS: SENTENCE for each, and then their number.
+-- Alarms as compilers print them: a line FILE:LINE:COL: RULE: SENTENCE for each, and then their number.
 use Rattle.std.specs.Prelude.{ℕ, ◌+◌, ◌/◌, ◌%◌, ◌==◌, ◌||◌, List, [], ◌∷◌, ◌++◌, length, nat_lt, codes, decimal}
 use Rattle.std.specs.Prelude.{if◌then◌else◌}
 use Rattle.std.specs.List.{flat_map}
-use Rattle.tm_cint.specs.declared.Class.{Class}
-use Rattle.tm_terms.specs.Texts.{class_text, count_line, line_of}
+use Rattle.tm_terms.specs.Texts.{count_line, line_of}
 use Rattle.source_marks.specs.Names.{decoded}
-use Rattle.report_views.specs.Sentences.{sentence_text}
+use Rattle.report_views.specs.Sentences.{rule_sentence, rule_text}
+use Rattle.report_views.specs.declared.sentences.Rule.{Rule}
 use Rattle.report_views.specs.Spots.{Spot}
 
 -- a byte of a name as it is shown: one that would break a line, below 32 or 127, as `\` and three octal digits
@@ -22,13 +22,13 @@ shown name = flat_map shown_byte name
 abbrev pub place_in : Spot → List ℕ
 place_in spot = codes ":" ++ (decimal spot.line ++ (codes ":" ++ (decimal spot.col ++ codes ": ")))
 
--- CLASS: SENTENCE
-abbrev pub class_line : Class → List ℕ
-class_line class = line_of (class_text class ++ (codes ": " ++ sentence_text class))
+-- RULE: SENTENCE
+abbrev pub rule_line : Rule → List ℕ
+rule_line rule = line_of (rule_text rule ++ (codes ": " ++ rule_sentence rule))
 
--- FILE:LINE:COL: CLASS: SENTENCE
+-- FILE:LINE:COL: RULE: SENTENCE
 abbrev pub spot_line : Spot → List ℕ
-spot_line spot = shown (decoded spot.name) ++ (place_in spot ++ class_line spot.class)
+spot_line spot = shown (decoded spot.name) ++ (place_in spot ++ rule_line spot.rule)
 
 -- a line for each alarm, and then their number
 abbrev pub lines_text : List Spot → List ℕ

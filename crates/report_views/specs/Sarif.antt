@@ -1,5 +1,5 @@
--- A report as a log in the format SARIF 2.1.0 (OASIS, 2020): one run, with a rule for each class and a result for each
--- alarm. Members stand in the order of their names.
+-- Findings as a log in the format SARIF 2.1.0 (OASIS, 2020): one run, with all rules and a result for each finding.
+-- Members stand in the order of their names.
 use Rattle.std.specs.Prelude.{ℕ, ◌+◌, ◌/◌, ◌%◌, ◌==◌, ◌||◌, Bool, List, [], ◌∷◌, ◌++◌, map, nat_lt, codes}
 use Rattle.std.specs.Prelude.{if◌then◌else◌}
 use Rattle.std.specs.List.{flat_map}
@@ -7,11 +7,10 @@ use Rattle.std.specs.Char.{is_ascii_alphanumeric}
 use Rattle.serde_json.specs.Data.{Data, Members, array, member, no_members, number, object, string, unsigned}
 use Rattle.serde_json.specs.View.{items_of}
 use Rattle.serde_json.specs.Written.{compact_text}
-use Rattle.tm_cint.specs.declared.Class.{Class}
-use Rattle.tm_cint.specs.declared.Class.TheVariants.{Overflow, Div, Shift, Index, Pointer, Deref, Lock, Race}
-use Rattle.tm_terms.specs.Texts.{class_text, line_of}
+use Rattle.tm_terms.specs.Texts.{line_of}
 use Rattle.source_marks.specs.Names.{decoded}
-use Rattle.report_views.specs.Sentences.{help_text, sentence_text}
+use Rattle.report_views.specs.Sentences.{level_text, rule_help, rule_sentence, rule_text, rules}
+use Rattle.report_views.specs.declared.sentences.Rule.{Rule}
 use Rattle.report_views.specs.Spots.{Spot}
 
 -- ## Names of files as URI references (RFC 3986)
@@ -37,18 +36,14 @@ uri_text name = flat_map uri_byte name
 abbrev pub text_data : List ℕ → Data
 text_data text = object (member (codes "text") (string text) no_members)
 
--- the rule of a class
-abbrev pub rule_data : Class → Data
-rule_data class =
-    object (member (codes "help") (text_data (help_text class))
-    (member (codes "id") (string (class_text class))
-    (member (codes "shortDescription") (text_data (sentence_text class)) no_members)))
+-- a rule
+abbrev pub rule_data : Rule → Data
+rule_data rule =
+    object (member (codes "help") (text_data (rule_help rule))
+    (member (codes "id") (string (rule_text rule))
+    (member (codes "shortDescription") (text_data (rule_sentence rule)) no_members)))
 
--- all classes, in their order
-abbrev pub classes : List Class
-classes = Overflow ∷ Div ∷ Shift ∷ Index ∷ Pointer ∷ Deref ∷ Lock ∷ Race ∷ []
-
--- where an alarm stands
+-- where a finding stands
 abbrev pub location_data : Spot → Data
 location_data spot =
     object (member (codes "physicalLocation")
@@ -58,19 +53,19 @@ location_data spot =
     (object (member (codes "startColumn") (number (unsigned spot.col))
     (member (codes "startLine") (number (unsigned spot.line)) no_members))) no_members))) no_members)
 
--- an alarm
+-- a finding
 abbrev pub result_data : Spot → Data
 result_data spot =
-    object (member (codes "level") (string (codes "warning"))
+    object (member (codes "level") (string (level_text spot.rule))
     (member (codes "locations") (array (items_of (location_data spot ∷ [])))
-    (member (codes "message") (text_data (sentence_text spot.class))
-    (member (codes "ruleId") (string (class_text spot.class)) no_members))))
+    (member (codes "message") (text_data (rule_sentence spot.rule))
+    (member (codes "ruleId") (string (rule_text spot.rule)) no_members))))
 
--- the tool: its name, the rules of all classes, and its version
+-- the tool: its name, all rules, and its version
 abbrev pub driver_data : Data
 driver_data =
     object (member (codes "name") (string (codes "Cedratcleat"))
-    (member (codes "rules") (array (items_of (map rule_data classes)))
+    (member (codes "rules") (array (items_of (map rule_data rules)))
     (member (codes "version") (string (codes "1.0.0")) no_members)))
 
 -- one run of the tool

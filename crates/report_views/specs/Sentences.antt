@@ -1,7 +1,11 @@
--- What the classes of alarms say, and what helps against them.
-use Rattle.std.specs.Prelude.{ℕ, List, codes}
+-- What the rules say, and what helps against what they find: a rule for each class of alarms, one for the locks at
+-- which tasks may wait for each other in a ring, and one for the places that no run reaches.
+use Rattle.std.specs.Prelude.{ℕ, List, [], ◌∷◌, codes}
 use Rattle.tm_cint.specs.declared.Class.{Class}
 use Rattle.tm_cint.specs.declared.Class.TheVariants.{Overflow, Div, Shift, Index, Pointer, Deref, Lock, Race}
+use Rattle.tm_terms.specs.Texts.{class_text}
+use Rattle.report_views.specs.declared.sentences.Rule.{Rule}
+use Rattle.report_views.specs.declared.sentences.Rule.TheVariants.{Alarm, Wait, Dead}
 
 -- what an alarm of this class says
 abbrev pub sentence_text : Class → List ℕ
@@ -24,3 +28,38 @@ help_text Pointer = codes "Move the pointer within its object only, and set it b
 help_text Deref = codes "Set the pointer before its use, test it against null, and let its object be alive."
 help_text Lock = codes "Lock and unlock each mutex in turn, once on each path."
 help_text Race = codes "Access the object under a mutex that both tasks lock."
+
+-- the word of a rule
+abbrev pub rule_text : Rule → List ℕ
+rule_text (Alarm class) = class_text class
+rule_text Wait = codes "WAIT"
+rule_text Dead = codes "DEAD"
+
+-- what a rule says
+abbrev pub rule_sentence : Rule → List ℕ
+rule_sentence (Alarm class) = sentence_text class
+rule_sentence Wait = codes "tasks may come to wait for each other for ever, one of them at this lock"
+rule_sentence Dead = codes "no run reaches this"
+
+-- what helps against what a rule finds
+abbrev pub rule_help : Rule → List ℕ
+rule_help (Alarm class) = help_text class
+rule_help Wait = codes "Let all tasks lock the mutexes in one order, or one mutex around them."
+rule_help Dead =
+    codes "Remove what cannot run, or mend the condition or the error before it that keeps each run out."
+
+-- the level of what a rule finds, as SARIF 2.1.0 has it in 3.27.10: a problem, or what is to be known
+abbrev pub level_text : Rule → List ℕ
+level_text (Alarm class) = codes "warning"
+level_text Wait = codes "warning"
+level_text Dead = codes "note"
+
+-- all classes, in their order
+abbrev pub classes : List Class
+classes = Overflow ∷ Div ∷ Shift ∷ Index ∷ Pointer ∷ Deref ∷ Lock ∷ Race ∷ []
+
+-- all rules, in their order
+abbrev pub rules : List Rule
+rules =
+    Alarm Overflow ∷ Alarm Div ∷ Alarm Shift ∷ Alarm Index ∷ Alarm Pointer ∷ Alarm Deref ∷ Alarm Lock ∷ Alarm Race
+    ∷ Wait ∷ Dead ∷ []

@@ -3,12 +3,12 @@ use Rattle.std.specs.Prelude.{ℕ, List, ◌++◌, length, count_by, codes, deci
 use Rattle.std.specs.List.{flat_map}
 use Rattle.tm_cint.specs.declared.Class.{Class}
 use Rattle.tm_terms.specs.Texts.{class_text, count_line, line_of}
-use Rattle.report_views.specs.Sarif.{classes}
+use Rattle.report_views.specs.Sentences.{classes, rule_text}
 use Rattle.report_views.specs.Spots.{Spot}
 
 -- how many of these alarms have a class
 abbrev pub count_of : List Spot → Class → ℕ
-count_of spots class = count_by (λ spot. bytes_eq (class_text spot.class) (class_text class)) spots
+count_of spots class = count_by (λ spot. bytes_eq (rule_text spot.rule) (class_text class)) spots
 
 -- CLASS N
 abbrev pub class_line : List Spot → Class → List ℕ

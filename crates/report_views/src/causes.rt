@@ -1,14 +1,15 @@
-//! Why a report has no view.
+//! Why a report has no view, and findings have no log.
 
 ghost use Rattle.std.specs.Prelude.{◌≡◌, ◌++◌, decimal, IfOk, string_bytes};
 ghost use Rattle.tm_terms.specs.Texts.{line_of, place_text};
-ghost use Rattle.report_views.specs.Causes.{broken_text, cause_text, outside_text};
+ghost use Rattle.report_views.specs.Causes.{broken_text, cause_text, long_text, outside_text, strange_text};
 
+use report_reading::Listing;
 use std::alloc::{AllocError, Global};
 use tm_lattice::NoMemory;
 use tm_terms::Place;
 
-/// Why a report has no view.
+/// Why a report has no view, and findings have no log.
 #[derive(Clone, Copy)]
 pub enum Cause {
     /// The report has more than 67,108,864 bytes.
@@ -21,8 +22,12 @@ pub enum Cause {
     LongText,
     /// The line of the text with this number, counted from 1, is a line mark that cannot be read.
     BrokenMark(usize),
-    /// The alarm at this place of the text stands in no line of a file.
+    /// What is found at this place of the text stands in no line of a file.
     Outside(Place),
+    /// The text that lists places has more than 67,108,864 bytes.
+    LongListing(Listing),
+    /// The text that is to list places does not.
+    NotListing(Listing),
 }
 
 /// A text, and what stands behind it.
@@ -59,14 +64,34 @@ fn broken_line(alloc: Global, number: usize) -> Result<String, AllocError>
     joined(alloc, text, line.as_str())
 }
 
-/// The line that tells of an alarm outside the files.
+/// The line that tells of a place outside the files.
 fn outside_line(alloc: Global, place: Place) -> Result<String, AllocError>
     ensures { IfOk result (λ text. string_bytes text ≡ outside_text place) }
 {
     let words = place_words(alloc, place)?;
-    let text = "refused: in no line of a file stands the alarm at ";
+    let text = "refused: in no line of a file stands the place ";
     let told = joined(alloc, text, words.as_str())?;
     joined(alloc, told.as_str(), "\n")
+}
+
+/// The line that tells of a text that is too long to list places.
+fn long_line(listing: Listing) -> &'static str
+    ensures { result.now ≡ long_text listing }
+{
+    match listing {
+        Listing::Waits => "refused: the text of the waits is too long\n",
+        Listing::Dead => "refused: the text of the dead places is too long\n",
+    }
+}
+
+/// The line that tells of a text that lists no places.
+fn strange_line(listing: Listing) -> &'static str
+    ensures { result.now ≡ strange_text listing }
+{
+    match listing {
+        Listing::Waits => "refused: the text of the waits lists no places\n",
+        Listing::Dead => "refused: the text of the dead places lists no places\n",
+    }
 }
 
 /// A cause in words.
@@ -83,6 +108,8 @@ fn said(alloc: Global, cause: Cause) -> Result<String, AllocError>
         Cause::LongText => String::from_str(alloc, "refused: the text is too long\n"),
         Cause::BrokenMark(number) => broken_line(alloc, number),
         Cause::Outside(place) => outside_line(alloc, place),
+        Cause::LongListing(listing) => String::from_str(alloc, long_line(listing)),
+        Cause::NotListing(listing) => String::from_str(alloc, strange_line(listing)),
     }
 }
 

@@ -1,18 +1,16 @@
-//! Alarms as compilers print them.
+//! Findings as compilers print them.
 
 ghost use Rattle.std.specs.Prelude.{◌≡◌, ◌++◌, map, IfOk, OnOk, string_bytes};
 ghost use Rattle.source_marks.specs.Names.{decoded};
 ghost use Rattle.tm_terms.specs.Texts.{count_line};
-ghost use Rattle.report_views.specs.Lines.{class_line, lines_text, place_in, shown, shown_byte, spot_line};
+ghost use Rattle.report_views.specs.Lines.{lines_text, place_in, rule_line, shown, shown_byte, spot_line};
 ghost use Rattle.report_views.specs.reading.Seen.{spot_seen};
 
-use crate::sentences::sentence;
+use crate::sentences::{Rule, rule_sentence, rule_word};
 use crate::spots::Spot;
 use source_marks::name_bytes;
 use std::alloc::{AllocError, Global};
-use tm_cint::Class;
 use tm_lattice::NoMemory;
-use tm_terms::class_word;
 
 /// Appends a byte of a name as it is shown.
 fn push_byte(text: &mut Vec<u8>, byte: u8) -> Result<(), AllocError>
@@ -41,7 +39,7 @@ fn push_name(text: &mut Vec<u8>, name: &[u8]) -> Result<(), AllocError>
     Ok(())
 }
 
-/// The place of an alarm in its file.
+/// The place of a finding in its file.
 fn place_in(alloc: Global, spot: Spot<'_>) -> Result<String, AllocError>
     ensures { IfOk result (λ text. string_bytes text ≡ place_in (spot_seen spot.entry)) }
 {
@@ -50,16 +48,16 @@ fn place_in(alloc: Global, spot: Spot<'_>) -> Result<String, AllocError>
     format!(in alloc; ":{line}:{col}: ")
 }
 
-/// A class and what it says.
-fn class_line(alloc: Global, class: Class) -> Result<String, AllocError>
-    ensures { IfOk result (λ text. string_bytes text ≡ class_line class) }
+/// A rule and what it says.
+fn rule_line(alloc: Global, rule: Rule) -> Result<String, AllocError>
+    ensures { IfOk result (λ text. string_bytes text ≡ rule_line rule) }
 {
-    let word = class_word(class);
-    let said = sentence(class);
+    let word = rule_word(rule);
+    let said = rule_sentence(rule);
     format!(in alloc; "{word}: {said}\n")
 }
 
-/// The name of the file of an alarm.
+/// The name of the file of a finding.
 pub fn name_of(alloc: Global, spot: Spot<'_>) -> Result<Vec<u8>, AllocError>
     ensures { IfOk result (λ name. name.items ≡ decoded spot.entry.origin.name.now) }
 {
@@ -69,7 +67,7 @@ pub fn name_of(alloc: Global, spot: Spot<'_>) -> Result<Vec<u8>, AllocError>
     }
 }
 
-/// Appends the line of an alarm.
+/// Appends the line of a finding.
 fn push_spot(alloc: Global, text: &mut Vec<u8>, spot: Spot<'_>) -> Result<(), AllocError>
     ensures { OnOk result (text.new.items ≡ text.old.items ++ spot_line (spot_seen spot.entry)) }
 {
@@ -77,8 +75,8 @@ fn push_spot(alloc: Global, text: &mut Vec<u8>, spot: Spot<'_>) -> Result<(), Al
     push_name(text, &name)?;
     let place = place_in(alloc, spot)?;
     text.extend_from_slice(place.as_bytes())?;
-    let class = class_line(alloc, spot.class)?;
-    text.extend_from_slice(class.as_bytes())?;
+    let rule = rule_line(alloc, spot.rule)?;
+    text.extend_from_slice(rule.as_bytes())?;
     Ok(())
 }
 

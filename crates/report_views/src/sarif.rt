@@ -1,19 +1,18 @@
-//! A report as a log in the format SARIF 2.1.0.
+//! Findings as a log in the format SARIF 2.1.0.
 
 ghost use Rattle.std.specs.Prelude.{◌≡◌, ◌∷◌, ◌++◌, ◌<◌, [], map, IfOk, OnOk, string_bytes};
 ghost use Rattle.serde_json.specs.View.{view};
 ghost use Rattle.source_marks.specs.Names.{decoded};
-ghost use Rattle.report_views.specs.Sarif.{classes, driver_data, hex_digit, is_plain, location_data, log_data};
+ghost use Rattle.report_views.specs.Sarif.{driver_data, hex_digit, is_plain, location_data, log_data};
 ghost use Rattle.report_views.specs.Sarif.{result_data, rule_data, run_data, sarif_text, uri_byte, uri_text};
+ghost use Rattle.report_views.specs.Sentences.{rules};
 ghost use Rattle.report_views.specs.reading.Seen.{spot_seen};
 
 use crate::lines::name_of;
-use crate::sentences::{CLASSES, help, sentence};
+use crate::sentences::{RULES, Rule, level, rule_help, rule_sentence, rule_word};
 use crate::spots::Spot;
 use serde_json::{Value, json};
 use std::alloc::{AllocError, Global};
-use tm_cint::Class;
-use tm_terms::class_word;
 
 /// A digit in base 16.
 fn hex_digit(number: u8) -> u8
@@ -72,29 +71,29 @@ fn uri(alloc: Global, name: &[u8]) -> Result<String, AllocError>
     Ok(text)
 }
 
-/// The rule of a class.
-fn rule_value(alloc: Global, class: Class) -> Result<Value, AllocError>
-    ensures { IfOk result (λ value. view value ≡ rule_data class) }
+/// A rule.
+fn rule_value(alloc: Global, rule: Rule) -> Result<Value, AllocError>
+    ensures { IfOk result (λ value. view value ≡ rule_data rule) }
 {
-    let word = class_word(class);
-    let said = sentence(class);
-    let helps = help(class);
+    let word = rule_word(rule);
+    let said = rule_sentence(rule);
+    let helps = rule_help(rule);
     json!(in alloc; {"help": {"text": helps}, "id": word, "shortDescription": {"text": said}})
 }
 
-/// The rules of all classes.
+/// All rules.
 fn rule_values(alloc: Global) -> Result<Vec<Value>, AllocError>
-    ensures { IfOk result (λ values. map view values.items ≡ map rule_data classes) }
+    ensures { IfOk result (λ values. map view values.items ≡ map rule_data rules) }
 {
-    let mut values = Vec::with_capacity(alloc, CLASSES.len())?;
-    for class in &CLASSES {
-        let value = rule_value(alloc, *class)?;
+    let mut values = Vec::with_capacity(alloc, RULES.len())?;
+    for rule in &RULES {
+        let value = rule_value(alloc, *rule)?;
         values.push(value)?;
     }
     Ok(values)
 }
 
-/// Where an alarm stands.
+/// Where a finding stands.
 fn location_value(alloc: Global, spot: Spot<'_>) -> Result<Value, AllocError>
     ensures { IfOk result (λ value. view value ≡ location_data (spot_seen spot.entry)) }
 {
@@ -108,17 +107,18 @@ fn location_value(alloc: Global, spot: Spot<'_>) -> Result<Value, AllocError>
     }})
 }
 
-/// An alarm.
+/// A finding.
 fn result_value(alloc: Global, spot: Spot<'_>) -> Result<Value, AllocError>
     ensures { IfOk result (λ value. view value ≡ result_data (spot_seen spot.entry)) }
 {
     let location = location_value(alloc, spot)?;
-    let said = sentence(spot.class);
-    let word = class_word(spot.class);
-    json!(in alloc; {"level": "warning", "locations": [location], "message": {"text": said}, "ruleId": word})
+    let level = level(spot.rule);
+    let said = rule_sentence(spot.rule);
+    let word = rule_word(spot.rule);
+    json!(in alloc; {"level": level, "locations": [location], "message": {"text": said}, "ruleId": word})
 }
 
-/// The alarms.
+/// The findings.
 fn result_values(alloc: Global, spots: &[Spot<'_>]) -> Result<Vec<Value>, AllocError>
     ensures { IfOk result (λ values. map view values.items ≡ map result_data (map spot_seen spots.now)) }
 {

@@ -1,9 +1,34 @@
-//! What a class of alarms says, and what helps against it.
+//! What each rule says, and what helps against what it finds.
 
 ghost use Rattle.std.specs.Prelude.{◌≡◌};
-ghost use Rattle.report_views.specs.Sentences.{help_text, sentence_text};
+ghost use Rattle.report_views.specs.Sentences.{help_text, level_text, rule_help, rule_sentence, rule_text};
+ghost use Rattle.report_views.specs.Sentences.{sentence_text};
 
 use tm_cint::Class;
+use tm_terms::class_word;
+
+/// What a result tells of: an alarm of a class, a lock at which tasks may wait for each other in a ring, or a place
+/// that no run reaches.
+#[derive(Clone, Copy)]
+pub enum Rule {
+    Alarm(Class),
+    Wait,
+    Dead,
+}
+
+/// All rules, in their order.
+pub static RULES: [Rule; 10] = [
+    Rule::Alarm(Class::Overflow),
+    Rule::Alarm(Class::Div),
+    Rule::Alarm(Class::Shift),
+    Rule::Alarm(Class::Index),
+    Rule::Alarm(Class::Pointer),
+    Rule::Alarm(Class::Deref),
+    Rule::Alarm(Class::Lock),
+    Rule::Alarm(Class::Race),
+    Rule::Wait,
+    Rule::Dead,
+];
 
 /// All classes, in their order.
 pub static CLASSES: [Class; 8] = [
@@ -53,5 +78,50 @@ pub fn help(class: Class) -> &'static str
             "Set the pointer before its use, test it against null, and let its object be alive.",
         Class::Lock => "Lock and unlock each mutex in turn, once on each path.",
         Class::Race => "Access the object under a mutex that both tasks lock.",
+    }
+}
+
+/// The word of a rule.
+pub fn rule_word(rule: Rule) -> &'static str
+    ensures { result.now ≡ rule_text rule }
+{
+    match rule {
+        Rule::Alarm(class) => class_word(class),
+        Rule::Wait => "WAIT",
+        Rule::Dead => "DEAD",
+    }
+}
+
+/// What a rule says.
+pub fn rule_sentence(rule: Rule) -> &'static str
+    ensures { result.now ≡ rule_sentence rule }
+{
+    match rule {
+        Rule::Alarm(class) => sentence(class),
+        Rule::Wait => "tasks may come to wait for each other for ever, one of them at this lock",
+        Rule::Dead => "no run reaches this",
+    }
+}
+
+/// What helps against what a rule finds.
+pub fn rule_help(rule: Rule) -> &'static str
+    ensures { result.now ≡ rule_help rule }
+{
+    match rule {
+        Rule::Alarm(class) => help(class),
+        Rule::Wait => "Let all tasks lock the mutexes in one order, or one mutex around them.",
+        Rule::Dead =>
+            "Remove what cannot run, or mend the condition or the error before it that keeps each run out.",
+    }
+}
+
+/// The level of what a rule finds: whether it is to be mended, or only to be known.
+pub fn level(rule: Rule) -> &'static str
+    ensures { result.now ≡ level_text rule }
+{
+    match rule {
+        Rule::Alarm(_) => "warning",
+        Rule::Wait => "warning",
+        Rule::Dead => "note",
     }
 }

@@ -1,40 +1,77 @@
-//! Alarms at their places in the files that they stand in.
+//! Findings at their places in the files that they stand in.
 
-ghost use Rattle.std.specs.Prelude.{◌≡◌, None, Some, map, option_map, Contains, IfOk, IsErrOf};
-ghost use Rattle.tm_terms.specs.declared.alarms.Alarm.{Alarm as AlarmOf};
+ghost use Rattle.std.specs.Prelude.{◌≡◌, ◌++◌, None, Some, map, option_map, Contains, IfOk, IsErrOf, OnOk};
 ghost use Rattle.tm_terms.specs.declared.places.Place.{Place as PlaceOf};
 ghost use Rattle.source_marks.specs.reading.Seen.{origin_seen};
-ghost use Rattle.report_views.specs.Spots.{IsOutside, spot_of, spots_of};
+ghost use Rattle.report_views.specs.Spots.{IsOutside, finding_of, found_by, spot_of, spots_of};
 ghost use Rattle.report_views.specs.reading.Seen.{spot_seen};
 
+use crate::sentences::Rule;
 use source_marks::Origin;
-use std::alloc::Global;
-use tm_cint::Class;
+use std::alloc::{AllocError, Global};
 use tm_terms::{Alarm, Place};
 
-/// An alarm in the file that it stands in.
+/// What is found at a place of the text, by a rule.
+#[derive(Clone, Copy)]
+pub struct Finding {
+    pub place: Place,
+    pub rule: Rule,
+}
+
+/// A finding in the file that it stands in.
 #[derive(Clone, Copy)]
 pub struct Spot<'a> {
     pub origin: Origin<'a>,
     pub col: u32,
-    pub class: Class,
+    pub rule: Rule,
 }
 
-/// Why alarms have no places.
+/// Why findings have no places.
 #[derive(Clone, Copy)]
 pub enum SpotFail {
-    /// The alarm at this place of the text stands in no line of a file.
+    /// The finding at this place of the text stands in no line of a file.
     Outside(Place),
     /// Memory ran out.
     NoMemory,
 }
 
-/// An alarm in its file, by the origins of the lines of the text.
-fn spot_of<'a>(origins: &[Origin<'a>], alarm: Alarm) -> Option<Spot<'a>>
-    ensures { option_map spot_seen result ≡ spot_of (map origin_seen origins.now) alarm }
+/// What alarms are: each is found by the rule of its class.
+pub fn findings_of(alloc: Global, alarms: &[Alarm]) -> Result<Vec<Finding>, AllocError>
+    ensures { IfOk result (λ findings. findings.items ≡ map finding_of alarms.now) }
 {
-    let line = alarm.place.line as usize;
-    if line == 0 || line > origins.len() || alarm.place.col == 0 {
+    let mut findings = Vec::new(alloc);
+    for alarm in alarms {
+        findings.push(Finding {
+            place: alarm.place,
+            rule: Rule::Alarm(alarm.class),
+        })?;
+    }
+    Ok(findings)
+}
+
+/// Adds what a rule finds at places.
+pub fn push_places(
+    findings: &mut Vec<Finding>,
+    places: &[Place],
+    rule: Rule,
+) -> Result<(), AllocError>
+    ensures { OnOk result (findings.new.items ≡ findings.old.items ++ map (found_by rule) places.now) }
+{
+    for place in places {
+        findings.push(Finding {
+            place: *place,
+            rule,
+        })?;
+    }
+    Ok(())
+}
+
+/// A finding in its file, by the origins of the lines of the text.
+fn spot_of<'a>(origins: &[Origin<'a>], finding: Finding) -> Option<Spot<'a>>
+    ensures { option_map spot_seen result ≡ spot_of (map origin_seen origins.now) finding }
+{
+    let line = finding.place.line as usize;
+    if line == 0 || line > origins.len() || finding.place.col == 0 {
         return None;
     }
     let origin = origins[line - 1];
@@ -43,27 +80,27 @@ fn spot_of<'a>(origins: &[Origin<'a>], alarm: Alarm) -> Option<Spot<'a>>
     }
     Some(Spot {
         origin,
-        col: alarm.place.col,
-        class: alarm.class,
+        col: finding.place.col,
+        rule: finding.rule,
     })
 }
 
-/// The alarms in their files, in their order.
+/// The findings in their files, in their order.
 pub fn spots_of<'a>(
     alloc: Global,
     origins: &[Origin<'a>],
-    alarms: &[Alarm],
+    findings: &[Finding],
 ) -> Result<Vec<Spot<'a>>, SpotFail>
-    ensures ok { IfOk result (λ spots. spots_of (map origin_seen origins.now) alarms.now
+    ensures ok { IfOk result (λ spots. spots_of (map origin_seen origins.now) findings.now
         ≡ Some (map spot_seen spots.items)) }
     ensures outside { (place : PlaceOf) → IsErrOf result (SpotFail.Outside place) →
-        IsOutside (map origin_seen origins.now) alarms.now place }
+        IsOutside (map origin_seen origins.now) findings.now place }
 {
     let mut spots = Vec::new(alloc);
-    for alarm in alarms {
-        let spot = match spot_of(origins, *alarm) {
+    for finding in findings {
+        let spot = match spot_of(origins, *finding) {
             Some(spot) => spot,
-            None => return Err(SpotFail::Outside(alarm.place)),
+            None => return Err(SpotFail::Outside(finding.place)),
         };
         match spots.push(spot) {
             Ok(()) => {}

@@ -5,7 +5,7 @@ ghost use Rattle.report_views.specs.Summaries.{class_line, count_of, summary_tex
 ghost use Rattle.report_views.specs.reading.Seen.{spot_seen};
 
 use crate::lines::count_line;
-use crate::sentences::CLASSES;
+use crate::sentences::{CLASSES, rule_word};
 use crate::spots::Spot;
 use std::alloc::{AllocError, Global};
 use tm_cint::Class;
@@ -18,7 +18,7 @@ fn count_of(spots: &[Spot<'_>], class: Class) -> usize
     let word = class_word(class);
     let mut count: usize = 0;
     for spot in spots {
-        if class_word(spot.class) == word {
+        if rule_word(spot.rule) == word {
             count += 1;
         }
     }

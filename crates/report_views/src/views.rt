@@ -3,22 +3,22 @@
 ghost use Rattle.std.specs.Prelude.{◌≡◌, ℕ, List, Some, map, IfOk, IsErrOf};
 ghost use Rattle.source_marks.specs.reading.Seen.{origin_seen};
 ghost use Rattle.report_views.specs.declared.causes.Cause.{Cause as CauseOf};
-ghost use Rattle.report_views.specs.Causes.{AreOrigins, IsCause, IsMisplaced, IsReportOf};
-ghost use Rattle.report_views.specs.Spots.{spots_of};
+ghost use Rattle.report_views.specs.Causes.{AreOrigins, IsCause, IsLogCause, IsMisplaced};
+ghost use Rattle.report_views.specs.Causes.{IsReportOf};
+ghost use Rattle.report_views.specs.Spots.{finding_of, spots_of};
 ghost use Rattle.report_views.specs.Views.{form_text, has_alarm, IsShown, IsView};
 ghost use Rattle.report_views.specs.reading.Seen.{spot_seen};
 
 use crate::causes::Cause;
 use crate::lines::spot_lines;
-use crate::sarif::sarif_log;
-use crate::spots::{Spot, SpotFail, spots_of};
+use crate::spots::{Finding, Spot, SpotFail, findings_of, spots_of};
 use crate::summaries::summary;
 use report_reading::{ReadFail, read_report};
 use source_marks::{MarkFail, Origin, line_origins};
 use std::alloc::{AllocError, Global};
 use tm_terms::{Alarm, Report};
 
-/// The most bytes of a report.
+/// The most bytes of a report, and of a text that lists places.
 pub const LONGEST_REPORT: usize = 67_108_864;
 
 /// The most bytes of a text.
@@ -29,8 +29,6 @@ pub const LONGEST_TEXT: usize = 1_048_576;
 pub enum Form {
     /// A line for each alarm, as compilers print it, and then their number.
     Lines,
-    /// A log in the format SARIF 2.1.0.
-    Sarif,
     /// How many alarms each class has, and then the number of all.
     Summary,
 }
@@ -42,10 +40,10 @@ pub struct Reply {
     pub text: Vec<u8>,
 }
 
-/// Why there is no view.
+/// Why there is no view, or no log.
 #[derive(Clone, Copy)]
 pub enum ViewFail {
-    /// The report or the text cannot be read.
+    /// What is given cannot be read.
     Refused(Cause),
     /// Memory ran out.
     NoMemory,
@@ -57,16 +55,17 @@ fn formed(alloc: Global, form: Form, spots: &[Spot<'_>]) -> Result<Vec<u8>, Allo
 {
     match form {
         Form::Lines => spot_lines(alloc, spots),
-        Form::Sarif => sarif_log(alloc, spots),
         Form::Summary => summary(alloc, spots),
     }
 }
 
 /// The report that the bytes are.
-fn read(alloc: Global, report: &[u8]) -> Result<Report, ViewFail>
+pub(crate) fn read(alloc: Global, report: &[u8]) -> Result<Report, ViewFail>
     ensures ok { IfOk result (λ read. IsReportOf report.now read.alarms.items) }
     ensures refused { (cause : CauseOf) → IsErrOf result (ViewFail.Refused cause) →
         (name text : List ℕ) → IsCause name report.now text cause }
+    ensures no_log { (cause : CauseOf) → IsErrOf result (ViewFail.Refused cause) →
+        (name waits dead text : List ℕ) → IsLogCause name report.now waits dead text cause }
 {
     if report.len() > LONGEST_REPORT {
         return Err(ViewFail::Refused(Cause::LongReport));
@@ -80,10 +79,16 @@ fn read(alloc: Global, report: &[u8]) -> Result<Report, ViewFail>
 }
 
 /// The origins of the lines of a text.
-fn traced<'a>(alloc: Global, name: &'a [u8], text: &'a [u8]) -> Result<Vec<Origin<'a>>, ViewFail>
+pub(crate) fn traced<'a>(
+    alloc: Global,
+    name: &'a [u8],
+    text: &'a [u8],
+) -> Result<Vec<Origin<'a>>, ViewFail>
     ensures ok { IfOk result (λ origins. AreOrigins name.now text.now (map origin_seen origins.items)) }
     ensures refused { (cause : CauseOf) → IsErrOf result (ViewFail.Refused cause) →
         (report : List ℕ) → IsCause name.now report text.now cause }
+    ensures no_log { (cause : CauseOf) → IsErrOf result (ViewFail.Refused cause) →
+        (report waits dead : List ℕ) → IsLogCause name.now report waits dead text.now cause }
 {
     if text.len() > LONGEST_TEXT {
         return Err(ViewFail::Refused(Cause::LongText));
@@ -95,18 +100,18 @@ fn traced<'a>(alloc: Global, name: &'a [u8], text: &'a [u8]) -> Result<Vec<Origi
     }
 }
 
-/// The alarms of a report in their files.
-fn placed<'a>(
+/// Findings in their files.
+pub(crate) fn placed<'a>(
     alloc: Global,
     origins: &[Origin<'a>],
-    alarms: &[Alarm],
+    findings: &[Finding],
 ) -> Result<Vec<Spot<'a>>, ViewFail>
-    ensures ok { IfOk result (λ spots. spots_of (map origin_seen origins.now) alarms.now
+    ensures ok { IfOk result (λ spots. spots_of (map origin_seen origins.now) findings.now
         ≡ Some (map spot_seen spots.items)) }
     ensures refused { (cause : CauseOf) → IsErrOf result (ViewFail.Refused cause) →
-        IsMisplaced (map origin_seen origins.now) alarms.now cause }
+        IsMisplaced (map origin_seen origins.now) findings.now cause }
 {
-    match spots_of(alloc, origins, alarms) {
+    match spots_of(alloc, origins, findings) {
         Ok(spots) => Ok(spots),
         Err(SpotFail::Outside(place)) => Err(ViewFail::Refused(Cause::Outside(place))),
         Err(SpotFail::NoMemory) => Err(ViewFail::NoMemory),
@@ -128,20 +133,31 @@ fn replied(alloc: Global, form: Form, spots: &[Spot<'_>]) -> Result<Reply, ViewF
     }
 }
 
-/// The view of alarms, by the origins of the lines of their text.
+/// The view of findings, by the origins of the lines of their text.
 fn shown(
     alloc: Global,
     form: Form,
     origins: &[Origin<'_>],
-    alarms: &[Alarm],
+    findings: &[Finding],
 ) -> Result<Reply, ViewFail>
     ensures ok { IfOk result (λ reply.
-        IsShown form (map origin_seen origins.now) alarms.now reply.has_alarm reply.text.items) }
+        IsShown form (map origin_seen origins.now) findings.now reply.has_alarm reply.text.items) }
     ensures refused { (cause : CauseOf) → IsErrOf result (ViewFail.Refused cause) →
-        IsMisplaced (map origin_seen origins.now) alarms.now cause }
+        IsMisplaced (map origin_seen origins.now) findings.now cause }
 {
-    let spots = placed(alloc, origins, alarms)?;
+    let spots = placed(alloc, origins, findings)?;
     replied(alloc, form, &spots)
+}
+
+/// What the alarms are, by their rules.
+fn found(alloc: Global, alarms: &[Alarm]) -> Result<Vec<Finding>, ViewFail>
+    ensures ok { IfOk result (λ findings. findings.items ≡ map finding_of alarms.now) }
+    ensures refused { (cause : CauseOf) → IsErrOf result (ViewFail.Refused cause) → ⊥ }
+{
+    match findings_of(alloc, alarms) {
+        Ok(findings) => Ok(findings),
+        Err(_) => Err(ViewFail::NoMemory),
+    }
 }
 
 /// The view of a report, as JSON, over the text that it is of, whose first file has the name that is spelled so.
@@ -161,5 +177,6 @@ pub fn view(
 {
     let read = read(alloc, report)?;
     let origins = traced(alloc, name, text)?;
-    shown(alloc, form, &origins, &read.alarms)
+    let findings = found(alloc, &read.alarms)?;
+    shown(alloc, form, &origins, &findings)
 }

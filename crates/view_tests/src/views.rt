@@ -1,6 +1,6 @@
 //! Views of small reports.
 
-use report_views::{Form, ViewFail, cause_line, view};
+use report_views::{Form, ViewFail, cause_line, log, view};
 use std::alloc::Global;
 use std::process::Abort;
 use std::test::Fail;
@@ -134,22 +134,22 @@ static REFUSED: [(&str, &str, &str); 27] = [
         "x\nx\n",
         "the report is JSON, but no report of alarms",
     ),
-    (ONE, "x", "in no line of a file stands the alarm at 2:5"),
-    (ONE, "", "in no line of a file stands the alarm at 2:5"),
+    (ONE, "x", "in no line of a file stands the place 2:5"),
+    (ONE, "", "in no line of a file stands the place 2:5"),
     (
         ONE,
         "# 0 \"<built-in>\"\nx\n",
-        "in no line of a file stands the alarm at 2:5",
+        "in no line of a file stands the place 2:5",
     ),
     (
         "{\"alarms\":[{\"class\":\"DIV\",\"col\":5,\"line\":0}],\"count\":1}",
         "x\nx\n",
-        "in no line of a file stands the alarm at 0:5",
+        "in no line of a file stands the place 0:5",
     ),
     (
         "{\"alarms\":[{\"class\":\"DIV\",\"col\":0,\"line\":1}],\"count\":1}",
         "x\nx\n",
-        "in no line of a file stands the alarm at 1:0",
+        "in no line of a file stands the place 1:0",
     ),
     (
         EMPTY,
@@ -183,6 +183,98 @@ static REFUSED: [(&str, &str, &str); 27] = [
     ),
 ];
 
+const NO_WAITS: &str = "waits 0\n";
+
+const NO_DEAD: &str = "dead 0\n";
+
+// Texts of waits and of dead places over a text of two lines, and why an empty report has no log with them.
+static UNLISTED: [(&str, &str, &str); 20] = [
+    ("", NO_DEAD, "the text of the waits lists no places"),
+    (NO_WAITS, "", "the text of the dead places lists no places"),
+    (NO_DEAD, NO_DEAD, "the text of the waits lists no places"),
+    (
+        NO_WAITS,
+        NO_WAITS,
+        "the text of the dead places lists no places",
+    ),
+    (
+        "waits 1\n",
+        NO_DEAD,
+        "the text of the waits lists no places",
+    ),
+    ("waits 0", NO_DEAD, "the text of the waits lists no places"),
+    (
+        "waits 00\n",
+        NO_DEAD,
+        "the text of the waits lists no places",
+    ),
+    (
+        "waits 0\n\n",
+        NO_DEAD,
+        "the text of the waits lists no places",
+    ),
+    (
+        "2:1 WAIT\n",
+        NO_DEAD,
+        "the text of the waits lists no places",
+    ),
+    (
+        "2:1 WAIT\nwaits 2\n",
+        NO_DEAD,
+        "the text of the waits lists no places",
+    ),
+    (
+        "2:1 DEAD\nwaits 1\n",
+        NO_DEAD,
+        "the text of the waits lists no places",
+    ),
+    (
+        "02:1 WAIT\nwaits 1\n",
+        NO_DEAD,
+        "the text of the waits lists no places",
+    ),
+    (
+        "+2:1 WAIT\nwaits 1\n",
+        NO_DEAD,
+        "the text of the waits lists no places",
+    ),
+    (
+        "2:1  WAIT\nwaits 1\n",
+        NO_DEAD,
+        "the text of the waits lists no places",
+    ),
+    (
+        "2 WAIT\nwaits 1\n",
+        NO_DEAD,
+        "the text of the waits lists no places",
+    ),
+    (
+        "4294967296:1 WAIT\nwaits 1\n",
+        NO_DEAD,
+        "the text of the waits lists no places",
+    ),
+    (
+        NO_WAITS,
+        "1:5 x 0 9\n2:1 DEAD\ndead 1\n",
+        "the text of the dead places lists no places",
+    ),
+    (
+        "3:1 WAIT\nwaits 1\n",
+        NO_DEAD,
+        "in no line of a file stands the place 3:1",
+    ),
+    (
+        NO_WAITS,
+        "1:1 DEAD\n3:1 DEAD\ndead 2\n",
+        "in no line of a file stands the place 3:1",
+    ),
+    (
+        NO_WAITS,
+        "0:1 DEAD\ndead 1\n",
+        "in no line of a file stands the place 0:1",
+    ),
+];
+
 // What the view of a report is, or why there is none.
 fn shown(alloc: Global, form: Form, name: &str, report: &str, text: &str) -> Result<Vec<u8>, Fail> {
     match view(
@@ -193,6 +285,31 @@ fn shown(alloc: Global, form: Form, name: &str, report: &str, text: &str) -> Res
         text.as_bytes(),
     ) {
         Ok(reply) => Ok(reply.text),
+        Err(ViewFail::Refused(cause)) => {
+            let line = cause_line(alloc, cause)?;
+            Ok(Vec::from_slice(alloc, line.as_bytes())?)
+        }
+        Err(ViewFail::NoMemory) => Ok(Vec::new(alloc)),
+    }
+}
+
+// The log of a report, of waits and of dead places, or why there is none.
+fn logged(
+    alloc: Global,
+    report: &str,
+    waits: &str,
+    dead: &str,
+    text: &str,
+) -> Result<Vec<u8>, Fail> {
+    match log(
+        alloc,
+        b"a.c",
+        report.as_bytes(),
+        waits.as_bytes(),
+        dead.as_bytes(),
+        text.as_bytes(),
+    ) {
+        Ok(log) => Ok(log),
         Err(ViewFail::Refused(cause)) => {
             let line = cause_line(alloc, cause)?;
             Ok(Vec::from_slice(alloc, line.as_bytes())?)
@@ -213,31 +330,56 @@ fn lines(rt: HostRuntime) -> Result<(), Fail> {
         assert!(rt; given.as_slice() == line.as_bytes());
     }
     for (report, text, wanted) in REFUSED.iter() {
-        let given = shown(alloc, Form::Sarif, "a.c", report, text)?;
+        let given = shown(alloc, Form::Summary, "a.c", report, text)?;
+        let line = format!(in alloc; "refused: {wanted}\n")?;
+        assert!(rt; given.as_slice() == line.as_bytes());
+        let given = logged(alloc, report, NO_WAITS, NO_DEAD, text)?;
+        assert!(rt; given.as_slice() == line.as_bytes());
+    }
+    Ok(())
+}
+
+// The log of a report with two alarms, a wait and two dead places, from its results on.
+const RESULTS: &str =
+    "\"results\":[{\"level\":\"warning\",\"locations\":[{\"physicalLocation\":{\"artifactLocation\":\
+    {\"uri\":\"b%20%22c.h\"},\"region\":{\"startColumn\":1,\"startLine\":3}}}],\"message\":{\"text\":\"another task may access \
+    this object at the same time, and one of the two stores\"},\"ruleId\":\"RACE\"},{\"level\":\"warning\",\"locations\":\
+    [{\"physicalLocation\":{\"artifactLocation\":{\"uri\":\"src/a.c\"},\"region\":{\"startColumn\":9,\"startLine\":3}}}],\
+    \"message\":{\"text\":\"the divisor may be zero\"},\"ruleId\":\"DIV\"},{\"level\":\"warning\",\"locations\":\
+    [{\"physicalLocation\":{\"artifactLocation\":{\"uri\":\"src/a.c\"},\"region\":{\"startColumn\":7,\"startLine\":2}}}],\
+    \"message\":{\"text\":\"tasks may come to wait for each other for ever, one of them at this lock\"},\"ruleId\":\"WAIT\"},\
+    {\"level\":\"note\",\"locations\":[{\"physicalLocation\":{\"artifactLocation\":{\"uri\":\"b%20%22c.h\"},\"region\":\
+    {\"startColumn\":2,\"startLine\":3}}}],\"message\":{\"text\":\"no run reaches this\"},\"ruleId\":\"DEAD\"},\
+    {\"level\":\"note\",\"locations\":[{\"physicalLocation\":{\"artifactLocation\":{\"uri\":\"src/a.c\"},\"region\":\
+    {\"startColumn\":1,\"startLine\":3}}}],\"message\":{\"text\":\"no run reaches this\"},\"ruleId\":\"DEAD\"}]";
+
+#[test]
+fn listings(rt: HostRuntime) -> Result<(), Fail> {
+    let alloc = rt.alloc();
+    for (waits, dead, wanted) in UNLISTED.iter() {
+        let given = logged(alloc, EMPTY, waits, dead, "x\nx")?;
         let line = format!(in alloc; "refused: {wanted}\n")?;
         assert!(rt; given.as_slice() == line.as_bytes());
     }
     Ok(())
 }
 
-// The log of a report with two alarms, from its results on.
-const RESULTS: &str =
-    "\"results\":[{\"level\":\"warning\",\"locations\":[{\"physicalLocation\":{\"artifactLocation\":\
-    {\"uri\":\"b%20%22c.h\"},\"region\":{\"startColumn\":1,\"startLine\":3}}}],\"message\":{\"text\":\"another task may access \
-    this object at the same time, and one of the two stores\"},\"ruleId\":\"RACE\"},{\"level\":\"warning\",\"locations\":\
-    [{\"physicalLocation\":{\"artifactLocation\":{\"uri\":\"src/a.c\"},\"region\":{\"startColumn\":9,\"startLine\":3}}}],\
-    \"message\":{\"text\":\"the divisor may be zero\"},\"ruleId\":\"DIV\"}]";
-
 #[test]
 fn forms(rt: HostRuntime) -> Result<(), Fail> {
     let alloc = rt.alloc();
     let text = "# 3 \"b \\\"c.h\" 1\ny\n# 2 \"src/a.c\" 2\nx\nx\n";
-    let log = shown(alloc, Form::Sarif, "a.c", TWO, text)?;
+    let log = logged(
+        alloc,
+        TWO,
+        "4:7 WAIT\nwaits 1\n",
+        "2:2 DEAD\n5:1 DEAD\ndead 2\n",
+        text,
+    )?;
     let start = "{\"$schema\":\"https://json.schemastore.org/sarif-2.1.0.json\",\"runs\":[{";
     assert!(rt; log.as_slice().starts_with(start.as_bytes()));
     let behind = &log.as_slice()[start.len().min(log.len())..];
     assert!(rt; behind.starts_with(RESULTS.as_bytes()));
-    let none = shown(alloc, Form::Sarif, "a.c", EMPTY, text)?;
+    let none = logged(alloc, EMPTY, NO_WAITS, NO_DEAD, text)?;
     assert!(rt; none.as_slice()[start.len().min(none.len())..].starts_with(b"\"results\":[],"));
     let counted = shown(alloc, Form::Summary, "a.c", TWO, text)?;
     let summary =

@@ -1,6 +1,11 @@
 -- What the code holds, as the definitions see it.
 use Rattle.report_view.specs.declared.words.Asked.{Asked as AskedCode}
-use Rattle.report_view.specs.Words.{Asked}
+use Rattle.report_view.specs.declared.words.AskedLog.{AskedLog as AskedLogCode}
+use Rattle.report_view.specs.Words.{Asked, AskedLog}
 
 abbrev pub asked_seen : AskedCode → Asked
 asked_seen asked = record { form = asked.form; text = asked.text.now; name = asked.name.now }
+
+abbrev pub asked_log_seen : AskedLogCode → AskedLog
+asked_log_seen asked =
+    record { text = asked.text.now; name = asked.name.now; waits = asked.waits.now; dead = asked.dead.now }

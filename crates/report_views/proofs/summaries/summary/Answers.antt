@@ -1,5 +1,5 @@
 use Rattle.std.proofs.Common.{map}
-use Rattle.report_views.specs.Sarif.{classes}
+use Rattle.report_views.specs.Sentences.{classes}
 use Rattle.report_views.specs.Summaries.{class_line}
 use Rattle.report_views.specs.reading.Seen.{spot_seen}
 use Rattle.report_views.proofs.ClassLines.{line_more}

@@ -1,6 +1,6 @@
 use Rattle.std.proofs.Common.{◌≡◌, map, take}
 use Rattle.std.specs.List.{flat_map}
-use Rattle.report_views.specs.Sarif.{classes}
+use Rattle.report_views.specs.Sentences.{classes}
 use Rattle.report_views.specs.Summaries.{class_line}
 use Rattle.report_views.specs.reading.Seen.{spot_seen}
 use Rattle.report_views.proofs.summaries.summary.Given as goal
