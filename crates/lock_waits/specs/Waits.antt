@@ -5,16 +5,19 @@
 --     __task(1) void a(void){__lock(m);__lock(n);__unlock(n);__unlock(m);}
 --     __task(1) void b(void){__lock(n);__lock(m);__unlock(m);__unlock(n);}
 -- the task a requests m while it holds nothing, at 2:24, and n while it holds m, at 2:34; b requests n at 3:24, and m
--- while it holds n, at 3:34. The requests at 2:34 and 3:34 lead to each other: these are the places.
+-- while it holds n, at 3:34. The requests at 2:34 and 3:34 lead to each other: these are the places, and the two requests
+-- are the ring at each of them, beginning with the one that stands there.
 use Rattle.std.specs.Prelude.{◌≡◌, ℕ, ◌<◌, false, List, length, Option}
 use Rattle.tm_terms.specs.declared.places.Place.{Place}
 use Rattle.flow_graph.specs.declared.operations.Operation.TheVariants as Op
 use Rattle.mutex_configs.specs.Sets.{has}
 use Rattle.mutex_configs.specs.declared.programs.Program.{Program}
 use Rattle.request_circles.specs.declared.requests.Request.{Request}
+use Rattle.request_circles.specs.declared.rings.Ring.{Ring}
 use Rattle.request_circles.specs.Requests as circles
+use Rattle.request_circles.specs.Rings.{AreShortestRings}
 use Rattle.post_recheck.specs.transfer_rows.StateForms.{State}
-use Rattle.post_recheck.specs.least_tables.Solutions.{NodeTable}
+use Rattle.post_recheck.specs.table_covers.Solutions.{NodeTable}
 use Rattle.post_recheck.specs.program_equations.Programs.{ProgramBodies, body_at}
 use Rattle.post_recheck.specs.program_equations.Solutions.{table_at}
 use Rattle.post_recheck.specs.program_systems.ProgramFacts.{AllFacts, AreProgramFacts, program_with}
@@ -42,6 +45,10 @@ module _ (p : ProgramBodies) (tables : ℕ → NodeTable State) where
   -- exactly the places of circular requests, in order and without repeats
   abbrev pub AreWaits : List Place → Type 0
   AreWaits = circles.AreCircularPlaces IsRequest
+
+  -- for each of these places, in their order, a shortest ring of requests that begins there
+  abbrev pub AreRings : List Ring → Type 0
+  AreRings = AreShortestRings IsRequest
 
 -- The program has facts; and each of its bodies has a table, with a state or none for each of its nodes.
 pub record HaveTables (program : Program) (tables : List (List (Option State))) : Type 0 where

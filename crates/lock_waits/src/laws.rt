@@ -2,7 +2,7 @@
 ghost use Rattle.std.specs.Prelude.{◌≡◌, ℕ, List};
 ghost use Rattle.tm_terms.specs.declared.places.Place.{Place};
 ghost use Rattle.post_recheck.specs.transfer_rows.StateForms.{State};
-ghost use Rattle.post_recheck.specs.least_tables.Solutions.{NodeTable};
+ghost use Rattle.post_recheck.specs.table_covers.Solutions.{NodeTable};
 ghost use Rattle.post_recheck.specs.program_equations.Programs.{ProgramBodies};
 ghost use Rattle.lock_waits.specs.Waits.{AreWaits};
 

@@ -9,4 +9,8 @@ mod Circling
 mod Numbered
 mod Ordered
 mod Lists
+mod Ways
+mod Noting
+mod Walking
+mod Shortest
 pub mod Same

@@ -10,7 +10,7 @@ use tm_terms::Place;
 
 /// What a task asks for: its number, the mutexes that it holds, as a set in which bit m stands for the mutex with the
 /// number m, the mutex that it asks for, and the place of its lock.
-#[derive(Clone, Copy, PartialEq, Eq)]
+#[derive(Clone, Copy, PartialEq, Eq, PartialOrd, Ord)]
 pub struct Request {
     pub task: u32,
     pub held: u16,

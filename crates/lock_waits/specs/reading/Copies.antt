@@ -9,7 +9,7 @@ use Rattle.mutex_configs.specs.Nodes.{entry_node}
 use Rattle.mutex_configs.specs.Sets.{has}
 use Rattle.request_circles.specs.declared.requests.Request.{Request}
 use Rattle.post_recheck.specs.transfer_rows.StateForms.{State}
-use Rattle.post_recheck.specs.least_tables.Solutions.{at}
+use Rattle.post_recheck.specs.table_covers.Solutions.{at}
 use Rattle.post_recheck.specs.task_equations.Bodies.{no_edge, no_copy}
 use Rattle.lock_waits.specs.declared.copies.TaskParts.{TaskParts}
 

@@ -4,7 +4,7 @@ use Rattle.request_circles.specs.declared.requests.Request.{Request as ARequest}
 use Rattle.post_recheck.specs.program_systems.ProgramFacts.{AllFacts, AreProgramFacts, program_with}
 use Rattle.post_recheck.specs.Pairs.{lists_of}
 use Rattle.lock_waits.specs.reading.Bodies.{IsAskedUpTo}
-use Rattle.lock_waits.proofs.waits.circular.Given as goal
+use Rattle.lock_waits.proofs.waits.requests_of.Given as goal
 
 abbrev pub invariant-loop-number : goal.invariant-loop-number
 invariant-loop-number l = (facts : AllFacts) → AreProgramFacts l.program facts → (r : ARequest)
