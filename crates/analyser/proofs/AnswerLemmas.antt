@@ -1,7 +1,6 @@
--- From the answer to the bytes to the answer to what was read of a source.
+-- Answers to bytes, those that are too many among them, and answers whatever the bytes are.
 use Rattle.std.proofs.Common.{◌≡◌, ℕ, ◌+◌, ◌<◌, ◌≤◌, List, [], ◌++◌, length, refl, sym, ◌∙◌, ap, subst, inl, inr, arith, length-append}
-use Rattle.std.proofs.lemmas.List.{append-nil}
-use Rattle.std.specs.Io.KnownBytes.{IsAtEnd, append_known, prepend_known}
+use Rattle.std.specs.Io.KnownBytes.{append_known}
 use Rattle.std.specs.Prelude.{◌⊎◌, Option, Some, None, Result, Ok, Err, IfOk}
 use Rattle.cmd_words.specs.declared.commands.AnalyseWords.{AnalyseWords}
 use Rattle.big_source.specs.GeneratedSources.{summary_text}
@@ -17,12 +16,12 @@ use Rattle.source_replays.proofs.Alike.{long_ones_are_alike}
 use Rattle.program_streams.specs.declared.statuses.Status.{Status}
 use Rattle.program_streams.specs.declared.statuses.Status.TheVariants.{NoAlarm, Alarms, Refused, Usage, ReadFault, WriteFault, NoMemory}
 use Rattle.analyser.specs.Answers.{Reports, WritesReport, HistoryFor, HasAnswer, HasSummary, IsGenerated}
-use Rattle.analyser.specs.Answers.{IsReplayed, replay_status, IsReadOut, report_lines}
-use Rattle.analyser.specs.Taken.{Answers, TakesNoMore, Told}
+use Rattle.analyser.specs.Answers.{IsReplayed, replay_status, report_lines}
 use Rattle.source_findings.specs.Findings.{HasFinding, Solves}
+use Rattle.source_findings.specs.Certificates.{HasCertificate, IsRefusedBy, ExceedsCertificate}
 use Rattle.source_findings.specs.declared.findings.Finding.{Finding}
 use Rattle.source_findings.proofs.Solved.{solved_by}
-use Rattle.analyser.specs.Statuses.{IsWhole}
+use Rattle.program_streams.specs.Statuses.{IsWhole}
 use Rattle.analyser.specs.reading.Replies.{TellsAlarms}
 use Rattle.analyser.specs.reading.Streams.{Says, SaysNoMore}
 use Rattle.program_streams.specs.Streams.{TakesFrontOf}
@@ -166,70 +165,33 @@ replay_is_whole bytes status text h = subst IsWhole (sym h.comes) (whole h.outco
     whole Outcomes.Found = tt
     whole Outcomes.Refused = tt
 
--- what a command may answer to the bytes that it reads: where they are too long, a front of them decides
-module _ (May : List ℕ → Status → List ℕ → Type 0)
-    (longer : (bytes more : List ℕ) → longest_source < length bytes → (status : Status) (text : List ℕ)
-    → May bytes status text → May (bytes ++ more) status text) where
-  -- the bytes of a source, of which at least these were read, and their answer
-  pub record Known (left : Option (List ℕ)) (status : Status) (text : List ℕ) : Type 0 where
-    pub bytes : List ℕ
-    pub told : Told left bytes
-    pub has : May bytes status text
+-- the same of a certificate of a source
+longer_certified_by : (bytes more : List ℕ) → longest_source < length bytes → (text : List ℕ)
+    → IsRefusedBy bytes text ⊎ ExceedsCertificate bytes text
+    → IsRefusedBy (bytes ++ more) text ⊎ ExceedsCertificate (bytes ++ more) text
+longer_certified_by bytes more long text (inl h) =
+    inl (record { refusal = h.refusal; refused = longer_refused bytes more h.refusal long h.refused; is = h.is })
+longer_certified_by bytes more long text (inr h) = absurd (not_solved bytes long h.solves)
 
-  known_by : (bytes : List ℕ) (left' : Option (List ℕ)) (status : Status) (text : List ℕ)
-      → IsAtEnd left' ⊎ (longest_source < length bytes) → May bytes status text
-      → Known (prepend_known bytes left') status text
-  known_by bytes None status text e h = record { bytes = bytes; told = tt; has = h }
-  known_by bytes (Some more) status text (inl e) h =
-      record { bytes = bytes; told = ap (λ m. bytes ++ m) e ∙ append-nil bytes; has = h }
-  known_by bytes (Some more) status text (inr long) h =
-      record { bytes = bytes ++ more; told = refl; has = longer bytes more long status text h }
+pub longer_certified : (bytes more : List ℕ) → longest_source < length bytes → (status : Status) (text : List ℕ)
+    → HasCertificate bytes status text → HasCertificate (bytes ++ more) status text
+longer_certified bytes more long NoAlarm text h = absurd (not_solved bytes long h.solves)
+longer_certified bytes more long Alarms text h = absurd h
+longer_certified bytes more long Refused text h = longer_certified_by bytes more long text h
+longer_certified bytes more long Usage text h = absurd h
+longer_certified bytes more long ReadFault text h = absurd h
+longer_certified bytes more long WriteFault text h = absurd h
+longer_certified bytes more long NoMemory text h = absurd h
 
-  pub known : (left : Option (List ℕ)) (bytes : List ℕ) (left' : Option (List ℕ)) (status : Status) (text : List ℕ)
-      → left ≡ prepend_known bytes left' → IsAtEnd left' ⊎ (longest_source < length bytes) → May bytes status text
-      → Known left status text
-  known left bytes left' status text e k h =
-      subst (λ l. Known l status text) (sym e) (known_by bytes left' status text k h)
-
-  -- the answer that was sent
-  pub sent_whole : (left taken taken' : Option (List ℕ)) (status result : Status) (text sent : List ℕ)
-      → Known left status text → sent ≡ text → result ≡ status → taken' ≡ append_known taken sent
-      → Answers May left taken taken' result
-  sent_whole left taken taken' status result text sent k e f h = record {
-    bytes = k.bytes;
-    told = k.told;
-    text = text;
-    may = subst (λ s. May k.bytes s text) (sym f) k.has;
-    appended = h ∙ ap (append_known taken) e;
-  }
-
-  pub sent_front : (left taken taken' : Option (List ℕ)) (status : Status) (text sent : List ℕ)
-      → Known left status text → sent ≡ text → TakesFrontOf sent taken taken' → TakesNoMore May left taken taken'
-  sent_front left taken taken' status text sent k e f = inr (record {
-    bytes = k.bytes;
-    told = k.told;
-    status = status;
-    text = text;
-    may = k.has;
-    front = f.front;
-    rest = f.rest;
-    split = sym e ∙ f.split;
-    appended = f.appended;
-  })
-
-read_out_by : (bytes : List ℕ) (left' : Option (List ℕ)) → IsAtEnd left' ⊎ (longest_source < length bytes) → IsReadOut (prepend_known bytes left') left'
-read_out_by bytes left' (inl e) = inl e
-read_out_by bytes None (inr long) = inl tt
-read_out_by bytes (Some more) (inr long) = inr (omega (arith, length-append bytes more))
-
-pub read_out : (left : Option (List ℕ)) (bytes : List ℕ) (left' : Option (List ℕ)) → left ≡ prepend_known bytes left'
-    → IsAtEnd left' ⊎ (longest_source < length bytes) → IsReadOut left left'
-read_out left bytes left' e k = subst (λ l. IsReadOut l left') (sym e) (read_out_by bytes left' k)
-
--- what is read up to one byte more than a source may have is read to its end, or past the limit
-pub past_limit : (n : ℕ) (left' : Option (List ℕ)) → IsAtEnd left' ⊎ (longest_source + 1 ≤ n) → IsAtEnd left' ⊎ (longest_source < n)
-past_limit n left' (inl h) = inl h
-past_limit n left' (inr h) = inr (omega (arith, h))
+pub certificate_is_whole : (bytes : List ℕ) (status : Status) (text : List ℕ) → HasCertificate bytes status text
+    → IsWhole status
+certificate_is_whole bytes NoAlarm text h = tt
+certificate_is_whole bytes Alarms text h = tt
+certificate_is_whole bytes Refused text h = tt
+certificate_is_whole bytes Usage text h = absurd h
+certificate_is_whole bytes ReadFault text h = absurd h
+certificate_is_whole bytes WriteFault text h = absurd h
+certificate_is_whole bytes NoMemory text h = absurd h
 
 -- ---- what is answered whatever the bytes are
 

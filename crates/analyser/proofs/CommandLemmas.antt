@@ -1,16 +1,17 @@
 -- From the answer of a command to the answer to words.
-use Rattle.std.proofs.Common.{◌≡◌, ℕ, List, [], refl, sym, ◌∙◌, subst, inl, inr}
+use Rattle.std.proofs.Common.{◌≡◌, ℕ, List, [], length, refl, sym, ap, ◌∙◌, subst, inl, inr, arith}
 use Rattle.std.specs.Prelude.{◌⊎◌, Option, Some, None}
 use Rattle.cmd_words.specs.declared.commands.AnalyseWords.{AnalyseWords}
 use Rattle.cmd_words.specs.declared.commands.Command.{Command}
-use Rattle.cmd_words.specs.declared.commands.Command.TheVariants.{Analyse, Replay, Generate, Demo, Waits, Ranges}
+use Rattle.cmd_words.specs.declared.commands.Command.TheVariants.{Analyse, Replay, Generate, Demo}
+use Rattle.cmd_words.specs.declared.commands.Command.TheVariants.{Waits, Ranges, Certify}
 use Rattle.cmd_words.specs.declared.commands.DemoWords.{DemoWords}
 use Rattle.big_source.specs.GeneratedSources.{source_text}
 use Rattle.tm_terms.specs.declared.alarms.Alarm.{Alarm}
 use Rattle.tm_terms.specs.declared.refusals.Refusal.{Refusal}
 use Rattle.worker_solutions.specs.program_equations.Programs.{ProgramBodies}
 use Rattle.source_replays.specs.source_programs.Sources.{IsAccepted, IsRefused}
-use Rattle.source_replays.proofs.low.source_programs.OneSource.{none_is_both}
+use Rattle.source_replays.proofs.low.source_programs.OneSource.{none_is_both, one_program}
 use Rattle.source_replays.specs.declared.replays.Outcome.{Outcome}
 use Rattle.source_replays.specs.declared.replays.Outcome.TheVariants as Outcomes
 use Rattle.source_replays.specs.Replays.{IsRefusedReplay, HasReplay, TellsRefusal, AsksForNone}
@@ -20,12 +21,16 @@ use Rattle.program_streams.specs.declared.statuses.Status.TheVariants.{NoAlarm, 
 use Rattle.analyser.specs.Answers.{Reports, WritesReport, HasAnswer, HasSummary, IsGenerated, SaysUsage, CommandGives}
 use Rattle.analyser.specs.Answers.{IsReplayed, AsksForRun, replay_status}
 use Rattle.analyser.specs.Answers.{IsCommand, Reads, AnswersFor, Accepts, Refuses}
-use Rattle.analyser.specs.Taken.{Answers, TakesNoMore, Told}
+use Rattle.analyser.specs.Answers.{HasShortText, IsNotCertified, is_refused, has_long_text}
+use Rattle.worker_solutions.specs.program_solutions.LeastReports.{IsLeastPair}
+use Rattle.source_findings.specs.Certificates.{HasCertificate, WritesCertificate, IsRefusedBy, ExceedsCertificate}
+use Rattle.program_streams.specs.Taken.{Answers, TakesNoMore, Told}
 use Rattle.source_findings.specs.Findings.{HasFinding, Solves}
 use Rattle.source_findings.specs.declared.findings.Finding.{Finding}
 use Rattle.source_findings.specs.declared.findings.Finding.TheVariants as Findings
 use Rattle.source_findings.proofs.Solved.{solved_by}
-use Rattle.analyser.specs.Statuses.{IsReported, IsSinkStop, IsStop, IsWhole}
+use Rattle.program_streams.specs.Statuses.{IsReported, IsWhole}
+use Rattle.analyser.specs.Statuses.{IsSinkStop, IsStop}
 use Rattle.analyser.specs.reading.Streams.{Says, SaysNoMore}
 
 -- ## Another set of answers
@@ -123,6 +128,13 @@ pub answer_of_ranges : (c : Option Command) → c ≡ Some Ranges → (bytes : L
     → HasFinding Findings.Ranges bytes status text → CommandGives c bytes status text
 answer_of_ranges c e bytes status text h = subst (λ d. CommandGives d bytes status text) (sym e) h
 
+pub answer_of_certify : (c : Option Command) → c ≡ Some Certify → (bytes : List ℕ) (status : Status) (text : List ℕ)
+    → HasCertificate bytes status text → CommandGives c bytes status text
+answer_of_certify c e bytes status text h = subst (λ d. CommandGives d bytes status text) (sym e) h
+
+pub reads_certify : (c : Option Command) → c ≡ Some Certify → Reads c
+reads_certify c e = subst Reads (sym e) tt
+
 pub reads_waits : (c : Option Command) → c ≡ Some Waits → Reads c
 reads_waits c e = subst Reads (sym e) tt
 
@@ -172,6 +184,7 @@ no_usage (Some (Generate count)) is bytes text h = usage_is_clean h.0
 no_usage (Some (Demo w)) is bytes text h = h
 no_usage (Some Waits) is bytes text h = h
 no_usage (Some Ranges) is bytes text h = h
+no_usage (Some Certify) is bytes text h = h
 
 -- words that are no command are answered with the usage line
 only_usage : (c : Option Command) → (IsCommand c → ⊥) → (bytes : List ℕ) (status : Status) (text : List ℕ)
@@ -183,6 +196,7 @@ only_usage (Some (Generate count)) none bytes status text h = absurd (none tt)
 only_usage (Some (Demo w)) none bytes status text h = absurd (none tt)
 only_usage (Some Waits) none bytes status text h = absurd (none tt)
 only_usage (Some Ranges) none bytes status text h = absurd (none tt)
+only_usage (Some Certify) none bytes status text h = absurd (none tt)
 
 -- what reads is a command
 reads_is : (c : Option Command) → Reads c → IsCommand c
@@ -193,6 +207,7 @@ reads_is (Some (Generate count)) r = absurd r
 reads_is (Some (Demo w)) r = absurd r
 reads_is (Some Waits) r = r
 reads_is (Some Ranges) r = r
+reads_is (Some Certify) r = r
 
 sink_stop : (status : Status) → IsStop status → (status ≡ ReadFault → ⊥) → IsSinkStop status
 sink_stop NoAlarm s other = absurd s
@@ -299,6 +314,44 @@ refusal_of_run bytes refusal r Outcomes.Clean text h = absurd (no_replay bytes h
 refusal_of_run bytes refusal r Outcomes.Found text h = absurd (no_replay bytes h.laid refusal h.replayable r)
 refusal_of_run bytes refusal r Outcomes.Refused text h = refl
 
+-- the same of certificates: the text of each least solution is short, or each is long
+certificate_comes : (bytes : List ℕ) → HasShortText bytes → (status : Status) (text : List ℕ)
+    → HasCertificate bytes status text → IsReported status
+certificate_comes bytes a NoAlarm text h = inl refl
+certificate_comes bytes a Alarms text h = absurd h
+certificate_comes bytes a Refused text h = absurd (by_case h)
+  where
+    by_case : IsRefusedBy bytes text ⊎ ExceedsCertificate bytes text → ⊥
+    by_case (inl r) = none_is_both [] bytes a.program r.refusal a.accepted r.refused
+    by_case (inr e) =
+        let s = e.solves in
+        let same = one_program [] bytes s.program a.program s.accepted a.accepted in
+        let short = a.short s.pair (subst (λ p. IsLeastPair p s.pair) same s.least) in
+        omega (arith, short, e.long)
+certificate_comes bytes a Usage text h = absurd h
+certificate_comes bytes a ReadFault text h = absurd h
+certificate_comes bytes a WriteFault text h = absurd h
+certificate_comes bytes a NoMemory text h = absurd h
+
+not_written : (bytes text : List ℕ) → IsNotCertified bytes → WritesCertificate bytes text → ⊥
+not_written bytes text (is_refused refusal r) h =
+    let s = h.solves in none_is_both [] bytes s.program refusal s.accepted r
+not_written bytes text (has_long_text a) h =
+    let s = h.solves in
+    let same = one_program [] bytes s.program a.program s.accepted a.accepted in
+    let long = a.long s.pair (subst (λ p. IsLeastPair p s.pair) same s.least) in
+    omega (arith, long, h.short, ap length h.is)
+
+refused_certificate : (bytes : List ℕ) → IsNotCertified bytes → (status : Status) (text : List ℕ)
+    → HasCertificate bytes status text → status ≡ Refused
+refused_certificate bytes r NoAlarm text h = absurd (not_written bytes text r h)
+refused_certificate bytes r Alarms text h = absurd h
+refused_certificate bytes r Refused text h = refl
+refused_certificate bytes r Usage text h = absurd h
+refused_certificate bytes r ReadFault text h = absurd h
+refused_certificate bytes r WriteFault text h = absurd h
+refused_certificate bytes r NoMemory text h = absurd h
+
 -- ## Commands that accept or refuse
 
 command_reports : (c : Option Command) (left : Option (List ℕ)) (bytes known : List ℕ) → AnswersFor c left bytes
@@ -320,26 +373,32 @@ command_reports (Some Waits) left bytes known e a t status text h =
 command_reports (Some Ranges) left bytes known e a t status text h =
     let same : bytes ≡ known = told_bytes left bytes known e t in
     finding_comes Findings.Ranges known a.0 (subst (λ b. IsAccepted [] b a.0) same a.1) status text h
+command_reports (Some Certify) left bytes known e a t status text h =
+    let same : bytes ≡ known = told_bytes left bytes known e t in
+    certificate_comes known (subst HasShortText same a) status text h
 
-command_refuses : (c : Option Command) (left : Option (List ℕ)) (bytes known : List ℕ) (refusal : Refusal)
-    → AnswersFor c left bytes → Refuses c bytes refusal → Told left known → (status : Status) (text : List ℕ)
-    → CommandGives c known status text → status ≡ Refused
-command_refuses None left bytes known refusal e r t status text h = absurd e
-command_refuses (Some (Analyse w)) left bytes known refusal e r t status text h =
+command_refuses : (c : Option Command) (left : Option (List ℕ)) (bytes known : List ℕ) → AnswersFor c left bytes
+    → Refuses c bytes → Told left known → (status : Status) (text : List ℕ) → CommandGives c known status text
+    → status ≡ Refused
+command_refuses None left bytes known e r t status text h = absurd e
+command_refuses (Some (Analyse w)) left bytes known e r t status text h =
     let same : bytes ≡ known = told_bytes left bytes known e t in
-    refused_comes w known refusal (subst (λ b. IsRefused b refusal) same r) status text h
-command_refuses (Some Replay) left bytes known refusal e r t status text h =
+    refused_comes w known r.0 (subst (λ b. IsRefused b r.0) same r.1) status text h
+command_refuses (Some Replay) left bytes known e r t status text h =
     let same : bytes ≡ known = told_bytes left bytes known e t in
-    h.comes ∙ refusal_of_run known refusal (subst (λ b. IsRefusedReplay b refusal) same r) h.outcome text h.has
-command_refuses (Some (Generate count)) left bytes known refusal e r t status text h = absurd e
-command_refuses (Some (Demo w)) left bytes known refusal e r t status text h =
-    refusal_comes (source_text w.count) refusal (subst (λ b. IsRefused b refusal) e r) status text h
-command_refuses (Some Waits) left bytes known refusal e r t status text h =
+    h.comes ∙ refusal_of_run known r.0 (subst (λ b. IsRefusedReplay b r.0) same r.1) h.outcome text h.has
+command_refuses (Some (Generate count)) left bytes known e r t status text h = absurd e
+command_refuses (Some (Demo w)) left bytes known e r t status text h =
+    refusal_comes (source_text w.count) r.0 (subst (λ b. IsRefused b r.0) e r.1) status text h
+command_refuses (Some Waits) left bytes known e r t status text h =
     let same : bytes ≡ known = told_bytes left bytes known e t in
-    refused_finding Findings.Waits known refusal (subst (λ b. IsRefused b refusal) same r) status text h
-command_refuses (Some Ranges) left bytes known refusal e r t status text h =
+    refused_finding Findings.Waits known r.0 (subst (λ b. IsRefused b r.0) same r.1) status text h
+command_refuses (Some Ranges) left bytes known e r t status text h =
     let same : bytes ≡ known = told_bytes left bytes known e t in
-    refused_finding Findings.Ranges known refusal (subst (λ b. IsRefused b refusal) same r) status text h
+    refused_finding Findings.Ranges known r.0 (subst (λ b. IsRefused b r.0) same r.1) status text h
+command_refuses (Some Certify) left bytes known e r t status text h =
+    let same : bytes ≡ known = told_bytes left bytes known e t in
+    refused_certificate known (subst IsNotCertified same r) status text h
 
 -- ## The clauses of the top call
 
@@ -367,11 +426,11 @@ module _ (c : Option Command) (left taken taken' : Option (List ℕ)) (status : 
       by_case (inl w) =
           inl (command_reports c left bytes (h w).bytes e a (h w).told status (h w).text (h w).may)
 
-  pub refused_refused : (bytes : List ℕ) (refusal : Refusal) → AnswersFor c left bytes → Refuses c bytes refusal
+  pub refused_refused : (bytes : List ℕ) → AnswersFor c left bytes → Refuses c bytes
       → (status ≡ Refused) ⊎ IsStop status
-  refused_refused bytes refusal e r = by_case (whole_or_stop status)
+  refused_refused bytes e r = by_case (whole_or_stop status)
     where
       by_case : IsWhole status ⊎ IsStop status → (status ≡ Refused) ⊎ IsStop status
       by_case (inr s) = inr s
       by_case (inl w) =
-          inl (command_refuses c left bytes (h w).bytes refusal e r (h w).told status (h w).text (h w).may)
+          inl (command_refuses c left bytes (h w).bytes e r (h w).told status (h w).text (h w).may)

@@ -1,4 +1,4 @@
--- Answers to bytes and texts that are sent (AnswerLemmas); from the answer of a command to that of words (CommandLemmas),
+-- Answers to bytes (AnswerLemmas); from the answer of a command to that of words (CommandLemmas),
 -- which ask for 1 to 16 workers, or for none (AskedWorkers); the lines of histories (HistoryLines); a source has one
 -- report (OneReport), in which each error stands (Sound), and that is what the answer to `analyse` promises of runs
 -- (SoundAnswers).

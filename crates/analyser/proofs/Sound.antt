@@ -7,7 +7,7 @@ use Rattle.source_replays.specs.source_programs.Sources.{IsAccepted}
 use Rattle.source_replays.proofs.low.source_programs.Accepted.{accepted_is_program}
 use Rattle.source_findings.proofs.low.sound_core.Alarmed.{errors_alarm}
 use Rattle.source_findings.proofs.Sourced.{comes_from}
-use Rattle.analyser.specs.Soundness.{ListsAll}
+use Rattle.source_findings.specs.sound_core.Soundness.{ListsAll}
 
 module _ (given bytes : List ℕ) (p : ProgramBodies) (a : IsAccepted given bytes p) where
   pub lists_all : length a.laid.objects ≤ 2 ^ 32 → (report : List Alarm) → IsLeastReport p report

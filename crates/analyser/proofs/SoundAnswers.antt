@@ -16,8 +16,8 @@ use Rattle.program_streams.specs.declared.statuses.Status.{Status}
 use Rattle.program_streams.specs.declared.statuses.Status.TheVariants.{NoAlarm, Alarms, Refused, Usage, ReadFault, WriteFault, NoMemory}
 use Rattle.analyser.specs.Answers.{CommandGives, MayGive, WritesReport, report_lines}
 use Rattle.analyser.specs.Soundness.{AsksForReport, IsSound}
-use Rattle.analyser.specs.Statuses.{IsReported, IsWhole}
-use Rattle.analyser.specs.Taken.{Answers}
+use Rattle.program_streams.specs.Statuses.{IsReported, IsWhole}
+use Rattle.program_streams.specs.Taken.{Answers}
 
 ends_in : (json : Bool) (history text : List ℕ) (report : List Alarm) → text ≡ history ++ report_lines json report
     → (text ≡ history ++ report_text report) ⊎ (text ≡ history ++ json_text report)

@@ -1,13 +1,16 @@
 -- What the program answers: which texts these words and bytes may give, with which status.
-use Rattle.std.specs.Prelude.{◌≡◌, ℕ, ◌<◌, ◌⊎◌, Bool, true, false, List, [], ◌∷◌, ◌++◌, length, Option, Some, None}
-use Rattle.std.specs.Prelude.{IfSome, nat_lt, ◌||◌}
-use Rattle.std.specs.Io.KnownBytes.{IsAtEnd}
+use Rattle.std.specs.Prelude.{◌≡◌, ℕ, ◌<◌, ◌≤◌, Bool, true, false, List, [], ◌∷◌, ◌++◌, length, Option, Some, None}
+use Rattle.std.specs.Prelude.{nat_lt, ◌||◌}
 use Rattle.source_findings.specs.Findings.{HasFinding}
-use Rattle.analyser.specs.Soundness.{ListsAll}
+use Rattle.source_findings.specs.Certificates.{HasCertificate}
+use Rattle.source_findings.specs.sound_core.Soundness.{ListsAll}
+use Rattle.source_findings.specs.certificate_texts.Limits.{certificate_limit}
+use Rattle.source_findings.specs.certificate_texts.Certificates.{certificate_text}
 use Rattle.source_findings.specs.declared.findings.Finding.TheVariants as Findings
 use Rattle.cmd_words.specs.declared.commands.AnalyseWords.{AnalyseWords}
 use Rattle.cmd_words.specs.declared.commands.Command.{Command}
-use Rattle.cmd_words.specs.declared.commands.Command.TheVariants.{Analyse, Replay, Generate, Demo, Waits, Ranges}
+use Rattle.cmd_words.specs.declared.commands.Command.TheVariants.{Analyse, Replay, Generate, Demo}
+use Rattle.cmd_words.specs.declared.commands.Command.TheVariants.{Waits, Ranges, Certify}
 use Rattle.cmd_words.specs.Words.{command_of}
 use Rattle.report_json.specs.JsonReports.{json_text}
 use Rattle.store_core.specs.Histories.{Past}
@@ -22,9 +25,9 @@ use Rattle.worker_solutions.specs.tm_laid.Layouts.{LaidTree}
 use Rattle.worker_solutions.specs.program_equations.Programs.{ProgramBodies}
 use Rattle.interfere_set.specs.Stores.{Interferences}
 use Rattle.worker_solutions.specs.QuietHistories.{IsQuietHistory}
-use Rattle.source_replays.specs.source_programs.LaidSources.{longest_source}
 use Rattle.source_replays.specs.source_programs.Sources.{IsAccepted, IsRefused}
-use Rattle.worker_solutions.specs.program_solutions.LeastReports.{IsLeastReport}
+use Rattle.worker_solutions.specs.program_solutions.LeastReports.{IsLeastPair, IsLeastReport}
+use Rattle.worker_solutions.specs.program_solutions.post_recheck.Pairs.{Pair}
 use Rattle.source_replays.specs.declared.replays.Outcome.{Outcome}
 use Rattle.source_replays.specs.declared.replays.Outcome.TheVariants as Outcomes
 use Rattle.source_replays.specs.Replays.{IsReplayable, IsRefusedReplay, HasReplay}
@@ -133,6 +136,7 @@ CommandGives (Some (Generate count)) bytes status text = IsGenerated count statu
 CommandGives (Some (Demo w)) bytes status text = HasSummary (source_text w.count) status text
 CommandGives (Some Waits) bytes status text = HasFinding Findings.Waits bytes status text
 CommandGives (Some Ranges) bytes status text = HasFinding Findings.Ranges bytes status text
+CommandGives (Some Certify) bytes status text = HasCertificate bytes status text
 
 -- the text that may come with a status, for these words and bytes
 abbrev pub MayGive : List (List ℕ) → List ℕ → Status → List ℕ → Type 0
@@ -147,6 +151,7 @@ IsCommand (Some (Generate count)) = Unit {0}
 IsCommand (Some (Demo w)) = Unit {0}
 IsCommand (Some Waits) = Unit {0}
 IsCommand (Some Ranges) = Unit {0}
+IsCommand (Some Certify) = Unit {0}
 
 -- whether the command asks for workers: for more than one, or for the history of one
 abbrev pub asks_workers : Option Command → Bool
@@ -157,6 +162,7 @@ asks_workers (Some (Generate count)) = false
 asks_workers (Some (Demo w)) = nat_lt 1 w.workers
 asks_workers (Some Waits) = false
 asks_workers (Some Ranges) = false
+asks_workers (Some Certify) = false
 
 -- the command reads the source
 abbrev pub Reads : Option Command → Type 0
@@ -167,6 +173,7 @@ Reads (Some (Generate count)) = ⊥
 Reads (Some (Demo w)) = ⊥
 Reads (Some Waits) = Unit {0}
 Reads (Some Ranges) = Unit {0}
+Reads (Some Certify) = Unit {0}
 
 -- the bytes that a command answers for: all that the source has left, where it reads, or the generated text
 abbrev pub AnswersFor : Option Command → Option (List ℕ) → List ℕ → Type 0
@@ -177,6 +184,26 @@ AnswersFor (Some (Generate count)) left bytes = ⊥
 AnswersFor (Some (Demo w)) left bytes = bytes ≡ source_text w.count
 AnswersFor (Some Waits) left bytes = left ≡ Some bytes
 AnswersFor (Some Ranges) left bytes = left ≡ Some bytes
+AnswersFor (Some Certify) left bytes = left ≡ Some bytes
+
+-- ## What is accepted, and what is refused
+
+-- the bytes are a source of the program, and the text of each least solution of it is short enough for a certificate
+pub record HasShortText (bytes : List ℕ) : Type 0 where
+  pub program : ProgramBodies
+  pub accepted : IsAccepted [] bytes program
+  pub short : (pair : Pair) → IsLeastPair program pair → length (certificate_text bytes pair) ≤ certificate_limit
+
+-- it is too long
+pub record HasLongText (bytes : List ℕ) : Type 0 where
+  pub program : ProgramBodies
+  pub accepted : IsAccepted [] bytes program
+  pub long : (pair : Pair) → IsLeastPair program pair → certificate_limit < length (certificate_text bytes pair)
+
+-- why bytes are refused as an input of `certify`
+pub data IsNotCertified (bytes : List ℕ) : Type 0 where
+  is_refused : (refusal : Refusal) → IsRefused bytes refusal → IsNotCertified bytes
+  has_long_text : HasLongText bytes → IsNotCertified bytes
 
 -- a command accepts these bytes
 abbrev pub Accepts : Option Command → List ℕ → Type 0
@@ -187,19 +214,15 @@ Accepts (Some (Generate count)) bytes = ⊥
 Accepts (Some (Demo w)) bytes = (p : ProgramBodies) × IsAccepted [] bytes p
 Accepts (Some Waits) bytes = (p : ProgramBodies) × IsAccepted [] bytes p
 Accepts (Some Ranges) bytes = (p : ProgramBodies) × IsAccepted [] bytes p
+Accepts (Some Certify) bytes = HasShortText bytes
 
--- a command has a refusal of these bytes
-abbrev pub Refuses : Option Command → List ℕ → Refusal → Type 0
-Refuses None bytes refusal = ⊥
-Refuses (Some (Analyse w)) bytes refusal = IsRefused bytes refusal
-Refuses (Some Replay) bytes refusal = IsRefusedReplay bytes refusal
-Refuses (Some (Generate count)) bytes refusal = ⊥
-Refuses (Some (Demo w)) bytes refusal = IsRefused bytes refusal
-Refuses (Some Waits) bytes refusal = IsRefused bytes refusal
-Refuses (Some Ranges) bytes refusal = IsRefused bytes refusal
-
--- ## What is read
-
--- the source was read to its end, or past the limit
-abbrev pub IsReadOut : Option (List ℕ) → Option (List ℕ) → Type 0
-IsReadOut left left' = IsAtEnd left' ⊎ IfSome left (λ known. longest_source < length known)
+-- a command refuses these bytes
+abbrev pub Refuses : Option Command → List ℕ → Type 0
+Refuses None bytes = ⊥
+Refuses (Some (Analyse w)) bytes = (refusal : Refusal) × IsRefused bytes refusal
+Refuses (Some Replay) bytes = (refusal : Refusal) × IsRefusedReplay bytes refusal
+Refuses (Some (Generate count)) bytes = ⊥
+Refuses (Some (Demo w)) bytes = (refusal : Refusal) × IsRefused bytes refusal
+Refuses (Some Waits) bytes = (refusal : Refusal) × IsRefused bytes refusal
+Refuses (Some Ranges) bytes = (refusal : Refusal) × IsRefused bytes refusal
+Refuses (Some Certify) bytes = IsNotCertified bytes

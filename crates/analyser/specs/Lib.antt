@@ -1,8 +1,7 @@
--- Which answers words and bytes may get (Answers), what they promise of runs (Soundness), what a sink takes of
--- them (Taken), which statuses they come with (Statuses), and that a report is one (Laws).
+-- Which answers words and bytes may get (Answers), what they promise of runs (Soundness), which statuses they come with
+-- (Statuses), and that a report is one (Laws).
 pub mod Answers
 pub mod Laws
 pub mod Soundness
 pub mod Statuses
-pub mod Taken
 pub mod reading

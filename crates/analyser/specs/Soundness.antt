@@ -3,24 +3,16 @@
 --
 -- In `int x; __task(1) void t(void) { x = 8 / x; }` the cell of `x` holds 0 when `t` divides: DIV occurs at the sign `/`,
 -- so the text that `analyse` answers with has the line of that alarm.
-use Rattle.std.specs.Prelude.{◌≡◌, ◌⊎◌, ℕ, List, [], ◌∷◌, ◌++◌, Contains, String, string_bytes, codes}
+use Rattle.std.specs.Prelude.{◌≡◌, ◌⊎◌, ℕ, List, [], ◌∷◌, ◌++◌, String, string_bytes, codes}
 use Rattle.std.specs.declared.alloc.Global.{Global as Heap}
 use Rattle.report_json.specs.JsonReports.{json_text}
-use Rattle.tm_terms.specs.tm_cint.declared.Class.{Class}
 use Rattle.tm_terms.specs.declared.alarms.Alarm.{Alarm}
-use Rattle.tm_terms.specs.declared.places.Place.{Place}
 use Rattle.tm_terms.specs.Texts.{report_text}
 use Rattle.worker_solutions.specs.tm_laid.Layouts.{LaidTree}
-use Rattle.concrete_steps.specs.Occurring.{Occurs}
 use Rattle.source_replays.specs.source_programs.LaidSources.{IsLaidSource}
+use Rattle.source_findings.specs.sound_core.Soundness.{ListsAll}
 use Rattle.program_streams.specs.declared.statuses.Status.{Status}
 use Rattle.program_streams.specs.declared.statuses.Status.TheVariants.{NoAlarm}
-
--- each error that occurs in a run of the program that the scheduler allows, up to its first fault, stands in the report
--- at its place
-abbrev pub ListsAll : LaidTree → List Alarm → Type 0
-ListsAll laid report = (class : Class) (place : Place) → Occurs laid class place
-    → Contains report (record { place = place; class = class })
 
 -- the first word asks for the analysis of a source
 abbrev pub AsksForReport : List (String Heap) → Type 0

@@ -4,16 +4,6 @@ use Rattle.program_streams.specs.declared.statuses.Status.{Status}
 use Rattle.program_streams.specs.declared.statuses.Status.TheVariants.{NoAlarm, Alarms, Refused, Usage, ReadFault}
 use Rattle.program_streams.specs.declared.statuses.Status.TheVariants.{WriteFault, NoMemory}
 
--- the statuses that come with a whole text
-abbrev pub IsWhole : Status → Type 0
-IsWhole NoAlarm = Unit {0}
-IsWhole Alarms = Unit {0}
-IsWhole Refused = Unit {0}
-IsWhole Usage = Unit {0}
-IsWhole ReadFault = ⊥
-IsWhole WriteFault = ⊥
-IsWhole NoMemory = ⊥
-
 -- a stop without a whole text
 abbrev pub IsStop : Status → Type 0
 IsStop NoAlarm = ⊥
@@ -27,7 +17,3 @@ IsStop NoMemory = Unit {0}
 -- a stop that is not the source's
 abbrev pub IsSinkStop : Status → Type 0
 IsSinkStop status = (status ≡ WriteFault) ⊎ (status ≡ NoMemory)
-
--- the statuses that come with a report
-abbrev pub IsReported : Status → Type 0
-IsReported status = (status ≡ NoAlarm) ⊎ (status ≡ Alarms)

@@ -1,49 +1,33 @@
 //! The answer to words and a source, by whatever solves programs.
 
 ghost use Rattle.std.specs.Prelude.{◌≡◌, ◌≢◌, false};
-ghost use Rattle.std.specs.Io.KnownBytes.{append_known};
 ghost use Rattle.tm_io.specs.Faults.{Rose};
 ghost use Rattle.cmd_words.specs.Words.{command_of, texts_of};
 ghost use Rattle.big_source.specs.GeneratedSources.{source_text};
-ghost use Rattle.analyser.specs.Answers.{CommandGives, HasAnswer, HasSummary, IsGenerated, IsReadOut};
-ghost use Rattle.analyser.specs.Taken.{Answers};
+ghost use Rattle.analyser.specs.Answers.{CommandGives, HasAnswer, HasSummary, IsGenerated};
 ghost use Rattle.analyser.specs.Answers.{IsReplayed, MayGive, Reads, SaysUsage};
-ghost use Rattle.analyser.specs.Taken.{TakesNoMore};
+ghost use Rattle.source_replays.specs.source_programs.LaidSources.{longest_source};
 ghost use Rattle.source_findings.specs.Findings.{HasFinding};
-ghost use Rattle.analyser.specs.Statuses.{IsWhole};
+ghost use Rattle.source_findings.specs.Certificates.{HasCertificate};
+ghost use Rattle.program_streams.specs.Statuses.{IsWhole};
+ghost use Rattle.program_streams.specs.Streams.{IsReadOut};
+ghost use Rattle.program_streams.specs.Taken.{Answers, TakesNoMore};
 ghost use Rattle.analyser.specs.reading.Manners.{IsServed};
 ghost use Rattle.analyser.specs.reading.Streams.{Says, SaysNoMore};
-ghost use Rattle.program_streams.specs.Streams.{TakesFrontOf};
 
 use crate::replies::{answer_to, generated, replayed, summarised};
 use crate::solvers::Solver;
 use cmd_words::{AnalyseWords, Command, DemoWords, read_words};
-use program_streams::{InputError, Status, read_whole, write_whole};
-use source_findings::{Finding, finding_of};
+use program_streams::{InputError, Status, read_whole, send};
+use source_findings::{Finding, certificate_of, finding_of};
 use std::alloc::Global as Heap;
-use tm_io::{Sink, Source, Stop};
+use tm_io::{Sink, Source};
 use tm_lattice::NoMemory;
 use tm_terms::limits::SOURCE;
 use tm_terms::usage_line;
 
 /// How many bytes of a source are read at most: one more than it may have.
 const MOST: usize = SOURCE as usize + 1;
-
-/// Writes the text, and says with which status: the given one, where the whole text was taken.
-fn send<K: Sink>(out: &mut K, text: &[u8], status: Status) -> Status
-    requires { IsWhole status }
-    ensures whole { IsWhole result → (result ≡ status) × (K.taken out.new ≡ append_known (K.taken out.old) text.now) }
-    ensures front { TakesFrontOf text.now (K.taken out.old) (K.taken out.new) }
-    ensures write { result ≡ Status.WriteFault → Rose (K.faults out.old) (K.faults out.new) }
-    ensures same { result ≢ Status.WriteFault → K.faults out.new ≡ K.faults out.old }
-    ensures read { result ≢ Status.ReadFault }
-{
-    match write_whole(out, text) {
-        Ok(()) => status,
-        Err(Stop::Failed) => Status::WriteFault,
-        Err(Stop::NoMemory) => Status::NoMemory,
-    }
-}
 
 /// Writes the usage line.
 fn send_usage<K: Sink>(out: &mut K) -> Status
@@ -103,7 +87,7 @@ fn analyse_source<V: Solver, S: Source, K: Sink>(
     ensures whole { IsWhole result →
         Answers (HasAnswer asked.now) (S.left source.old) (K.taken out.old) (K.taken out.new) result }
     ensures front { TakesNoMore (HasAnswer asked.now) (S.left source.old) (K.taken out.old) (K.taken out.new) }
-    ensures all { IsWhole result → IsReadOut (S.left source.old) (S.left source.new) }
+    ensures all { IsWhole result → IsReadOut longest_source (S.left source.old) (S.left source.new) }
     ensures read { result ≡ Status.ReadFault →
         Rose (S.faults source.old) (S.faults source.new) × (K.taken out.new ≡ K.taken out.old) }
     ensures write { result ≡ Status.WriteFault → Rose (K.faults out.old) (K.faults out.new) }
@@ -127,7 +111,7 @@ fn replay_source<S: Source, K: Sink>(alloc: Heap, source: &mut S, out: &mut K) -
     ensures whole { IsWhole result →
         Answers IsReplayed (S.left source.old) (K.taken out.old) (K.taken out.new) result }
     ensures front { TakesNoMore IsReplayed (S.left source.old) (K.taken out.old) (K.taken out.new) }
-    ensures all { IsWhole result → IsReadOut (S.left source.old) (S.left source.new) }
+    ensures all { IsWhole result → IsReadOut longest_source (S.left source.old) (S.left source.new) }
     ensures read { result ≡ Status.ReadFault →
         Rose (S.faults source.old) (S.faults source.new) × (K.taken out.new ≡ K.taken out.old) }
     ensures write { result ≡ Status.WriteFault → Rose (K.faults out.old) (K.faults out.new) }
@@ -157,7 +141,7 @@ fn solve_source<S: Source, K: Sink>(
     ensures whole { IsWhole result →
         Answers (HasFinding finding) (S.left source.old) (K.taken out.old) (K.taken out.new) result }
     ensures front { TakesNoMore (HasFinding finding) (S.left source.old) (K.taken out.old) (K.taken out.new) }
-    ensures all { IsWhole result → IsReadOut (S.left source.old) (S.left source.new) }
+    ensures all { IsWhole result → IsReadOut longest_source (S.left source.old) (S.left source.new) }
     ensures read { result ≡ Status.ReadFault →
         Rose (S.faults source.old) (S.faults source.new) × (K.taken out.new ≡ K.taken out.old) }
     ensures write { result ≡ Status.WriteFault → Rose (K.faults out.old) (K.faults out.new) }
@@ -176,6 +160,31 @@ fn solve_source<S: Source, K: Sink>(
     }
 }
 
+/// The command `certify`: reads the source to its end, or past the limit, and writes it with its least solution, or why
+/// there is no such text.
+fn certify_source<S: Source, K: Sink>(alloc: Heap, source: &mut S, out: &mut K) -> Status
+    ensures whole { IsWhole result →
+        Answers HasCertificate (S.left source.old) (K.taken out.old) (K.taken out.new) result }
+    ensures front { TakesNoMore HasCertificate (S.left source.old) (K.taken out.old) (K.taken out.new) }
+    ensures all { IsWhole result → IsReadOut longest_source (S.left source.old) (S.left source.new) }
+    ensures read { result ≡ Status.ReadFault →
+        Rose (S.faults source.old) (S.faults source.new) × (K.taken out.new ≡ K.taken out.old) }
+    ensures write { result ≡ Status.WriteFault → Rose (K.faults out.old) (K.faults out.new) }
+    ensures source_faults { result ≢ Status.ReadFault → S.faults source.new ≡ S.faults source.old }
+    ensures sink_faults { result ≢ Status.WriteFault → K.faults out.new ≡ K.faults out.old }
+{
+    let mut bytes = Vec::new(alloc);
+    match read_whole(source, &mut bytes, MOST) {
+        Ok(()) => {}
+        Err(InputError::Failed) => return Status::ReadFault,
+        Err(InputError::NoMemory) => return Status::NoMemory,
+    }
+    match certificate_of(alloc, &bytes) {
+        Ok(reply) => send(out, &reply.text, reply.status),
+        Err(NoMemory) => Status::NoMemory,
+    }
+}
+
 /// Answers a command and a source, or words that are no command.
 fn answer_command<V: Solver, S: Source, K: Sink>(
     solver: &V,
@@ -188,7 +197,7 @@ fn answer_command<V: Solver, S: Source, K: Sink>(
     ensures headline { IsWhole result →
         Answers (CommandGives command) (S.left source.old) (K.taken out.old) (K.taken out.new) result }
     ensures front { TakesNoMore (CommandGives command) (S.left source.old) (K.taken out.old) (K.taken out.new) }
-    ensures all { Reads command → IsWhole result → IsReadOut (S.left source.old) (S.left source.new) }
+    ensures all { Reads command → IsWhole result → IsReadOut longest_source (S.left source.old) (S.left source.new) }
     ensures unread { (Reads command → ⊥) → source.new ≡ source.old }
     ensures read { result ≡ Status.ReadFault → Reads command
         × Rose (S.faults source.old) (S.faults source.new) × (K.taken out.new ≡ K.taken out.old) }
@@ -204,6 +213,7 @@ fn answer_command<V: Solver, S: Source, K: Sink>(
         Some(Command::Demo(asked)) => send_summary(solver, alloc, asked, out),
         Some(Command::Waits) => solve_source(alloc, Finding::Waits, source, out),
         Some(Command::Ranges) => solve_source(alloc, Finding::Ranges, source, out),
+        Some(Command::Certify) => certify_source(alloc, source, out),
     }
 }
 
@@ -220,7 +230,7 @@ pub(crate) fn answer_words<V: Solver, S: Source, K: Sink>(
         Answers (MayGive (texts_of words.now)) (S.left source.old) (K.taken out.old) (K.taken out.new) result }
     ensures front { TakesNoMore (MayGive (texts_of words.now)) (S.left source.old) (K.taken out.old) (K.taken out.new) }
     ensures all { Reads (command_of (texts_of words.now)) → IsWhole result →
-        IsReadOut (S.left source.old) (S.left source.new) }
+        IsReadOut longest_source (S.left source.old) (S.left source.new) }
     ensures unread { (Reads (command_of (texts_of words.now)) → ⊥) → source.new ≡ source.old }
     ensures read { result ≡ Status.ReadFault → Reads (command_of (texts_of words.now))
         × Rose (S.faults source.old) (S.faults source.new) × (K.taken out.new ≡ K.taken out.old) }

@@ -3,14 +3,14 @@
 ghost use Rattle.std.specs.Prelude.{◌≡◌, ◌≢◌, ◌⊎◌, ℕ, List, IfOk, false};
 ghost use Rattle.tm_io.specs.Faults.{Rose};
 ghost use Rattle.cmd_words.specs.Words.{command_of, texts_of};
-ghost use Rattle.tm_terms.specs.declared.refusals.Refusal.{Refusal as RefusalOf};
-ghost use Rattle.analyser.specs.Answers.{Accepts, AnswersFor, IsCommand, IsReadOut, MayGive, Reads, Refuses};
-ghost use Rattle.analyser.specs.Taken.{Answers};
-ghost use Rattle.analyser.specs.Answers.{asks_workers};
-ghost use Rattle.analyser.specs.Taken.{TakesNoMore};
+ghost use Rattle.analyser.specs.Answers.{Accepts, AnswersFor, IsCommand, MayGive, Reads, Refuses, asks_workers};
+ghost use Rattle.program_streams.specs.Statuses.{IsReported, IsWhole};
+ghost use Rattle.program_streams.specs.Streams.{IsReadOut};
+ghost use Rattle.program_streams.specs.Taken.{Answers, TakesNoMore};
+ghost use Rattle.source_replays.specs.source_programs.LaidSources.{longest_source};
 ghost use Rattle.worker_solutions.specs.program_systems.ReadPrograms.{program_of};
 ghost use Rattle.analyser.specs.Soundness.{AsksForReport, IsSound};
-ghost use Rattle.analyser.specs.Statuses.{IsReported, IsSinkStop, IsStop, IsWhole};
+ghost use Rattle.analyser.specs.Statuses.{IsSinkStop, IsStop};
 ghost use Rattle.analyser.specs.reading.Manners.{AreFew};
 ghost use Rattle.analyser.specs.reading.Replies.{IsSolved};
 
@@ -58,7 +58,7 @@ pub fn analyse<R: Threads + Wait + Sync, S: Source, K: Sink, G: Gate>(
 
     // A command that reads the source reads all that it has left, unless it is too long.
     ensures all { Reads (command_of (texts_of words.now)) → IsWhole result →
-        IsReadOut (S.left source.old) (S.left source.new) }
+        IsReadOut longest_source (S.left source.old) (S.left source.new) }
 
     // Usage comes exactly where the words are no command. Where they are no command that reads, nothing is read.
     ensures words { IsCommand (command_of (texts_of words.now)) → result ≢ Status.Usage }
@@ -72,13 +72,12 @@ pub fn analyse<R: Threads + Wait + Sync, S: Source, K: Sink, G: Gate>(
     ensures source_faults { result ≢ Status.ReadFault → S.faults source.new ≡ S.faults source.old }
     ensures sink_faults { result ≢ Status.WriteFault → K.faults out.new ≡ K.faults out.old }
 
-    // Bytes that the command accepts come to a report, and those that it refuses to their refusal, unless a device
+    // Bytes that the command accepts come to their answer, and those that it refuses to their refusal, unless a device
     // fails or memory runs out.
     ensures accepted { (bytes : List ℕ) → AnswersFor (command_of (texts_of words.now)) (S.left source.old) bytes →
         Accepts (command_of (texts_of words.now)) bytes → IsReported result ⊎ IsStop result }
-    ensures refused { (bytes : List ℕ) (r : RefusalOf) →
-        AnswersFor (command_of (texts_of words.now)) (S.left source.old) bytes →
-        Refuses (command_of (texts_of words.now)) bytes r → (result ≡ Status.Refused) ⊎ IsStop result }
+    ensures refused { (bytes : List ℕ) → AnswersFor (command_of (texts_of words.now)) (S.left source.old) bytes →
+        Refuses (command_of (texts_of words.now)) bytes → (result ≡ Status.Refused) ⊎ IsStop result }
 {
     let solve = |analysis: Analysis, workers: u32, history: bool| -> Result<Solved, NoMemory>
         requires { AreFew workers history }
@@ -125,7 +124,7 @@ pub fn analyse_alone<S: Source, K: Sink>(
         Answers IsSound (S.left source.old) (K.taken out.old) (K.taken out.new) result }
     ensures front { TakesNoMore (MayGive (texts_of words.now)) (S.left source.old) (K.taken out.old) (K.taken out.new) }
     ensures all { Reads (command_of (texts_of words.now)) → IsWhole result →
-        IsReadOut (S.left source.old) (S.left source.new) }
+        IsReadOut longest_source (S.left source.old) (S.left source.new) }
     ensures words { IsCommand (command_of (texts_of words.now)) → result ≢ Status.Usage }
     ensures usage { (IsCommand (command_of (texts_of words.now)) → ⊥) → (result ≡ Status.Usage) ⊎ IsSinkStop result }
     ensures unread { (Reads (command_of (texts_of words.now)) → ⊥) → source.new ≡ source.old }
@@ -136,9 +135,8 @@ pub fn analyse_alone<S: Source, K: Sink>(
     ensures sink_faults { result ≢ Status.WriteFault → K.faults out.new ≡ K.faults out.old }
     ensures accepted { (bytes : List ℕ) → AnswersFor (command_of (texts_of words.now)) (S.left source.old) bytes →
         Accepts (command_of (texts_of words.now)) bytes → IsReported result ⊎ IsStop result }
-    ensures refused { (bytes : List ℕ) (r : RefusalOf) →
-        AnswersFor (command_of (texts_of words.now)) (S.left source.old) bytes →
-        Refuses (command_of (texts_of words.now)) bytes r → (result ≡ Status.Refused) ⊎ IsStop result }
+    ensures refused { (bytes : List ℕ) → AnswersFor (command_of (texts_of words.now)) (S.left source.old) bytes →
+        Refuses (command_of (texts_of words.now)) bytes → (result ≡ Status.Refused) ⊎ IsStop result }
 {
     answer_words(&Alone, alloc, words, source, out)
 }

@@ -5,6 +5,7 @@
 --     replay    nothing more
 --     waits     nothing more
 --     ranges    nothing more
+--     certify   nothing more
 --     generate  one number from 1 to 400
 --     demo      --workers N or --workers=N once at most; one number from 1 to 400; in any order
 --
@@ -19,7 +20,8 @@ use Rattle.std.specs.declared.alloc.Global.{Global as Heap}
 use Rattle.cmd_words.specs.declared.arguments.Argument.{Argument}
 use Rattle.cmd_words.specs.declared.arguments.Argument.TheVariants.{Workers, Json, History, Number}
 use Rattle.cmd_words.specs.declared.commands.Command.{Command}
-use Rattle.cmd_words.specs.declared.commands.Command.TheVariants.{Analyse, Replay, Generate, Demo, Waits, Ranges}
+use Rattle.cmd_words.specs.declared.commands.Command.TheVariants.{Analyse, Replay, Generate, Demo}
+use Rattle.cmd_words.specs.declared.commands.Command.TheVariants.{Waits, Ranges, Certify}
 use Rattle.cmd_words.specs.Numbers.{number_of}
 
 -- the words as lists of bytes
@@ -175,6 +177,7 @@ named_command name words =
     else if bytes_eq name (codes "demo") then option_and_then demo_of (arguments_of words)
     else if bytes_eq name (codes "waits") then alone Waits words
     else if bytes_eq name (codes "ranges") then alone Ranges words
+    else if bytes_eq name (codes "certify") then alone Certify words
     else None
 
 -- the command that words are, if they are one
@@ -190,3 +193,4 @@ IsWithin (Generate count) = (1 ≤ count) × (count ≤ 400)
 IsWithin (Demo asked) = ((1 ≤ asked.workers) × (asked.workers ≤ 16)) × ((1 ≤ asked.count) × (asked.count ≤ 400))
 IsWithin Waits = Unit {0}
 IsWithin Ranges = Unit {0}
+IsWithin Certify = Unit {0}

@@ -71,4 +71,6 @@ pub enum Command {
     Waits,
     /// The least and the greatest number of each object of a source, and its dead places.
     Ranges,
+    /// A certificate of a source: its text with its least solution.
+    Certify,
 }

@@ -172,6 +172,8 @@ fn read_named(alloc: Global, name: &str, words: &[String]) -> Result<Option<Comm
         Ok(alone(Command::Waits, words))
     } else if name == "ranges" {
         Ok(alone(Command::Ranges, words))
+    } else if name == "certify" {
+        Ok(alone(Command::Certify, words))
     } else {
         Ok(None)
     }

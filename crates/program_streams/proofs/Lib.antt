@@ -1,2 +1,3 @@
--- Pieces that are written (Written).
+-- Pieces that are written (Written), and answers to what was read that are sent (Sent).
 pub mod Written
+pub mod Sent

@@ -8,8 +8,10 @@
 
 mod input;
 mod output;
+mod sending;
 mod statuses;
 
 pub use input::{InputError, read_whole};
 pub use output::write_whole;
+pub use sending::send;
 pub use statuses::Status;

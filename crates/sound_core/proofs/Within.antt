@@ -12,7 +12,7 @@ use Rattle.sound_tables.specs.concrete_steps.Worlds.{World}
 use Rattle.sound_tables.specs.concrete_steps.Occurring.{IsReached}
 use Rattle.sound_tables.specs.interfere_set.Stores.{Interferences}
 use Rattle.sound_tables.specs.transfer_rows.StateForms.{State}
-use Rattle.sound_tables.specs.program_reports.least_tables.Solutions.{NodeTable}
+use Rattle.sound_tables.specs.program_reports.table_covers.Solutions.{NodeTable}
 use Rattle.sound_tables.specs.program_equations.Programs.{ProgramBodies, IsProgram}
 use Rattle.sound_tables.specs.program_equations.Solutions.{tables_of as lists_of, IsPair}
 use Rattle.sound_tables.specs.program_shape.Shape.{IsShared, abstract_of_cell}

@@ -3,7 +3,7 @@ use Rattle.std.specs.Prelude.{ℕ, ◌<◌, List, length, slice_index_or}
 use Rattle.std.proofs.lemmas.List.Elements.{Contains-get_or}
 use Rattle.value_ranges.specs.program_reports.interfere_set.Stores.{Interferences}
 use Rattle.value_ranges.specs.program_reports.transfer_rows.StateForms.{State}
-use Rattle.value_ranges.specs.program_reports.least_tables.Solutions.{NodeTable}
+use Rattle.value_ranges.specs.program_reports.table_covers.Solutions.{NodeTable}
 use Rattle.program_solutions.specs.program_equations.Programs.{ProgramBodies}
 use Rattle.value_ranges.specs.declared.object_bounds.ObjectBounds.{ObjectBounds}
 use Rattle.value_ranges.specs.Ranges.{AreRanges}

@@ -143,7 +143,7 @@ fn told_of(
 }
 
 /// The line of a refusal.
-fn refused(alloc: Heap, refusal: Refusal) -> Result<FindingReply, NoMemory>
+pub(crate) fn refused(alloc: Heap, refusal: Refusal) -> Result<FindingReply, NoMemory>
     ensures status { IfOk result (λ reply. reply.status ≡ Status.Refused) }
     ensures text { IfOk result (λ reply. reply.text.items ≡ refusal_text refusal) }
 {

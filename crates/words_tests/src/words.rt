@@ -6,7 +6,7 @@ use std::process::Abort;
 use std::test::Fail;
 
 // Words with a comma between each and the next, and the command in one line.
-static WORDS: [(&str, &str); 73] = [
+static WORDS: [(&str, &str); 78] = [
     // No command.
     ("", "usage"),
     (",analyse", "usage"),
@@ -14,7 +14,7 @@ static WORDS: [(&str, &str); 73] = [
     ("analyse ", "usage"),
     ("analys", "usage"),
     ("--json,analyse", "usage"),
-    ("certify", "usage"),
+    ("Certify", "usage"),
     ("check", "usage"),
     ("--help", "usage"),
     ("--version", "usage"),
@@ -87,6 +87,11 @@ static WORDS: [(&str, &str); 73] = [
     ("waits,--json", "usage"),
     ("ranges", "ranges"),
     ("ranges,17", "usage"),
+    ("certify", "certify"),
+    ("certify,--", "usage"),
+    ("certify,--json", "usage"),
+    ("certify,17", "usage"),
+    ("certify,", "usage"),
 ];
 
 // The commands with a number.
@@ -156,6 +161,7 @@ fn line_of(alloc: Global, command: Option<Command>) -> Result<String, Fail> {
         }
         Some(Command::Waits) => Ok(String::from_str(alloc, "waits")?),
         Some(Command::Ranges) => Ok(String::from_str(alloc, "ranges")?),
+        Some(Command::Certify) => Ok(String::from_str(alloc, "certify")?),
         None => Ok(String::from_str(alloc, "usage")?),
     }
 }

@@ -1,7 +1,8 @@
 -- In which manners commands ask for reports: for how many workers, and with their history or without.
 use Rattle.std.specs.Prelude.{◌≡◌, ◌≤◌, ℕ, Bool, false, Option, Some, None}
 use Rattle.cmd_words.specs.declared.commands.Command.{Command}
-use Rattle.cmd_words.specs.declared.commands.Command.TheVariants.{Analyse, Replay, Generate, Demo, Waits, Ranges}
+use Rattle.cmd_words.specs.declared.commands.Command.TheVariants.{Analyse, Replay, Generate, Demo}
+use Rattle.cmd_words.specs.declared.commands.Command.TheVariants.{Waits, Ranges, Certify}
 
 -- one worker, whose history is not asked for
 abbrev pub IsAlone : ℕ → Bool → Type 0
@@ -20,3 +21,4 @@ IsServed serves (Some (Generate count)) = Unit {0}
 IsServed serves (Some (Demo w)) = serves w.workers false
 IsServed serves (Some Waits) = Unit {0}
 IsServed serves (Some Ranges) = Unit {0}
+IsServed serves (Some Certify) = Unit {0}

@@ -1,5 +1,5 @@
 -- What the code tells of a least solution, before it is known of which source it is.
-use Rattle.std.specs.Prelude.{◌≡◌, ℕ, List, ◌++◌, get_or}
+use Rattle.std.specs.Prelude.{◌≡◌, ◌⊎◌, ℕ, ◌<◌, ◌≤◌, List, ◌++◌, get_or, length}
 use Rattle.std.specs.List.{flat_map}
 use Rattle.tm_terms.specs.declared.places.Place.{Place}
 use Rattle.tm_terms.specs.Spelling.{text_of}
@@ -14,8 +14,11 @@ use Rattle.value_ranges.specs.declared.object_bounds.ObjectBounds.{ObjectBounds}
 use Rattle.value_ranges.specs.Ranges.{AreRanges}
 use Rattle.value_ranges.specs.Places.{AreDead}
 use Rattle.program_streams.specs.declared.statuses.Status.{Status}
-use Rattle.program_streams.specs.declared.statuses.Status.TheVariants.{NoAlarm}
+use Rattle.program_streams.specs.declared.statuses.Status.TheVariants.{NoAlarm, Refused}
+use Rattle.certificate_texts.specs.Limits.{certificate_limit}
+use Rattle.certificate_texts.specs.Certificates.{certificate_text}
 use Rattle.source_findings.specs.Findings.{waits_status}
+use Rattle.source_findings.specs.Certificates.{too_long_line}
 use Rattle.source_findings.specs.declared.findings.Finding.{Finding}
 use Rattle.source_findings.specs.declared.findings.Finding.TheVariants.{Waits, Ranges}
 
@@ -42,3 +45,20 @@ pub record TellsRangesOf (p : ProgramBodies) (bytes : List ℕ) (pair : Pair) (s
 abbrev pub TellsOf : Finding → ProgramBodies → List ℕ → Pair → Status → List ℕ → Type 0
 TellsOf Waits p bytes = TellsWaitsOf p
 TellsOf Ranges p bytes = TellsRangesOf p bytes
+
+-- ## Certificates
+
+-- the text of the source and the pair, which is not too long
+pub record TellsText (bytes : List ℕ) (pair : Pair) (status : Status) (text : List ℕ) : Type 0 where
+  pub comes : status ≡ NoAlarm
+  pub is : text ≡ certificate_text bytes pair
+  pub short : length text ≤ certificate_limit
+
+-- it is too long
+pub record TellsTooLong (bytes : List ℕ) (pair : Pair) (status : Status) (text : List ℕ) : Type 0 where
+  pub comes : status ≡ Refused
+  pub long : certificate_limit < length (certificate_text bytes pair)
+  pub is : text ≡ too_long_line
+
+abbrev pub TellsCertificateOf : List ℕ → Pair → Status → List ℕ → Type 0
+TellsCertificateOf bytes pair status text = TellsText bytes pair status text ⊎ TellsTooLong bytes pair status text

@@ -2,12 +2,14 @@ use Rattle.std.proofs.Common.{◌∙◌, ap, subst, Some}
 use Rattle.big_source.specs.GeneratedSources.{source_text}
 use Rattle.analyser.specs.Answers.{CommandGives, HasAnswer, HasSummary, IsGenerated, IsReplayed, SaysUsage}
 use Rattle.source_findings.specs.Findings.{HasFinding}
+use Rattle.source_findings.specs.Certificates.{HasCertificate}
 use Rattle.source_findings.specs.declared.findings.Finding.TheVariants as Findings
 use Rattle.analyser.specs.reading.Manners.{IsServed}
 use Rattle.analyser.proofs.CommandLemmas.{said_answers, said_takes, more_answers, more_takes}
 use Rattle.analyser.proofs.CommandLemmas.{usage_of_none, answer_of_replay, answer_of_analyse, answer_of_generate}
 use Rattle.analyser.proofs.CommandLemmas.{answer_of_demo, reads_none, reads_replay, reads_generate, reads_demo}
 use Rattle.analyser.proofs.CommandLemmas.{reads_analyse, answer_of_waits, answer_of_ranges, reads_waits, reads_ranges}
+use Rattle.analyser.proofs.CommandLemmas.{answer_of_certify, reads_certify}
 use Rattle.analyser.proofs.commands.answer_command.Goals as goal
 
 pub returns-in-None-clause-headline : goal.returns-in-None-clause-headline
@@ -127,3 +129,21 @@ pub send_summary-requires : goal.send_summary-requires
 send_summary-requires g c =
     subst (IsServed (g.V.Solver.serves c.args.solver.now)) (c.in-Some-Demo.is ∙ ap Some c.in-Some-Demo.field-0-is)
     c.requires.served
+
+pub returns-in-Some-Certify-clause-headline : goal.returns-in-Some-Certify-clause-headline
+returns-in-Some-Certify-clause-headline g c h =
+    more_answers HasCertificate (CommandGives c.args.command) (answer_of_certify c.args.command (c.in-Some-Certify.is ∙ ap Some c.in-Some-Certify.field-0-is)) _ _ _
+    c.certify_source.result (c.certify_source.ensures.whole h)
+
+pub returns-in-Some-Certify-clause-front : goal.returns-in-Some-Certify-clause-front
+returns-in-Some-Certify-clause-front g c =
+    more_takes HasCertificate (CommandGives c.args.command) (answer_of_certify c.args.command (c.in-Some-Certify.is ∙ ap Some c.in-Some-Certify.field-0-is)) _ _ _
+    c.certify_source.ensures.front
+
+pub returns-in-Some-Certify-clause-unread : goal.returns-in-Some-Certify-clause-unread
+returns-in-Some-Certify-clause-unread g c none = absurd (none (reads_certify c.args.command (c.in-Some-Certify.is ∙ ap Some c.in-Some-Certify.field-0-is)))
+
+pub returns-in-Some-Certify-clause-read : goal.returns-in-Some-Certify-clause-read
+returns-in-Some-Certify-clause-read g c e =
+    let fault = c.certify_source.ensures.read e in
+    (reads_certify c.args.command (c.in-Some-Certify.is ∙ ap Some c.in-Some-Certify.field-0-is), fault.0, fault.1)

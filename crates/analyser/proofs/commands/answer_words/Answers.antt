@@ -1,6 +1,6 @@
 use Rattle.std.proofs.Common.{sym, subst}
 use Rattle.analyser.specs.Answers.{CommandGives, Reads}
-use Rattle.analyser.specs.Taken.{Answers, TakesNoMore}
+use Rattle.program_streams.specs.Taken.{Answers, TakesNoMore}
 use Rattle.analyser.specs.reading.Manners.{IsServed}
 use Rattle.analyser.proofs.commands.answer_words.Goals as goal
 

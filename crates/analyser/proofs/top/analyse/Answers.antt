@@ -37,6 +37,6 @@ returns-clause-accepted g c bytes e a =
     c.answer_words.ensures.headline bytes e a
 
 pub returns-clause-refused : goal.returns-clause-refused
-returns-clause-refused g c bytes refusal e r =
+returns-clause-refused g c bytes e r =
     refused_refused (command_of (texts_of c.args.words.now)) _ _ _ c.answer_words.result
-    c.answer_words.ensures.headline bytes refusal e r
+    c.answer_words.ensures.headline bytes e r

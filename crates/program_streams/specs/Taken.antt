@@ -1,4 +1,4 @@
--- What a sink has taken of the answers to what a source told.
+-- What a stream has taken of the answers to what another told.
 use Rattle.std.specs.Prelude.{◌≡◌, ◌⊎◌, ℕ, List, ◌++◌, Option, IfSome}
 use Rattle.std.specs.Io.KnownBytes.{append_known}
 use Rattle.program_streams.specs.declared.statuses.Status.{Status}
