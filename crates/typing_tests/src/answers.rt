@@ -6,12 +6,31 @@ use c_typing::typed;
 use std::alloc::Global;
 use std::process::Abort;
 use std::test::Fail;
-use tm_terms::{Fail as Refused, refusal_line};
+use tm_terms::{Fail as Refused, Token, refusal_line};
+use tm_trees::File;
 
-fn line_of(alloc: Global, fail: Refused) -> Result<String, Fail> {
+// The line of a refusal, or `typed` where there is none.
+fn line_of(alloc: Global, fail: Option<Refused>) -> Result<String, Fail> {
     match fail {
-        Refused::Refused(refusal) => Ok(refusal_line(alloc, &refusal)?),
-        Refused::NoMemory => Ok(String::from_str(alloc, "no memory")?),
+        Some(Refused::Refused(refusal)) => Ok(refusal_line(alloc, &refusal)?),
+        Some(Refused::NoMemory) => Ok(String::from_str(alloc, "no memory")?),
+        None => Ok(String::from_str(alloc, "typed")?),
+    }
+}
+
+// (Each station has a function of its own, with one way out: each way out of a function that owns trees, tables or
+// tokens has a proof of how they are let go.)
+fn refused_by_typing(alloc: Global, file: &File) -> Option<Refused> {
+    match typed(alloc, file, None) {
+        Ok(_typed) => None,
+        Err(fail) => Some(fail),
+    }
+}
+
+fn refused_behind_lexis(alloc: Global, tokens: &[Token]) -> Option<Refused> {
+    match parse(alloc, tokens) {
+        Ok(file) => refused_by_typing(alloc, &file),
+        Err(fail) => Some(fail),
     }
 }
 
@@ -20,16 +39,11 @@ pub fn answer_line(alloc: Global, source: &[u8]) -> Result<String, Fail> {
     if source.len() > 1_048_576 {
         return Ok(String::from_str(alloc, "too long")?);
     }
-    match lex(alloc, source) {
-        Err(fail) => line_of(alloc, fail),
-        Ok(tokens) => match parse(alloc, &tokens) {
-            Err(fail) => line_of(alloc, fail),
-            Ok(file) => match typed(alloc, &file, None) {
-                Err(fail) => line_of(alloc, fail),
-                Ok(_) => Ok(String::from_str(alloc, "typed")?),
-            },
-        },
-    }
+    let refused = match lex(alloc, source) {
+        Ok(tokens) => refused_behind_lexis(alloc, &tokens),
+        Err(fail) => Some(fail),
+    };
+    line_of(alloc, refused)
 }
 
 /// The source has this answer.

@@ -12,7 +12,7 @@ use std::process::Abort;
 use std::test::Fail;
 use tm_terms::Expr;
 use tm_trees::{BlockPart, File, Function, Item, Parameter, Parameters, Statement};
-use tm_typed::{CType, FunctionEntry, Named, Operand, Qualified, Sort, is_same_int};
+use tm_typed::{CType, FunctionEntry, Named, Qualified, Sort, is_same_int};
 
 // The declarations before each expression.
 static BEFORE: [&str; 7] = [
@@ -347,8 +347,8 @@ static VALUES: [(&str, i128); 100] = [
     ("sizeof((void *)0)", 4),
 ];
 
-// The tree of a source of this table.
-fn file_of(alloc: Global, wanted: &str, expression: &str) -> Result<File, Fail> {
+// A source of this table.
+fn text_of(alloc: Global, wanted: &str, expression: &str) -> Result<Vec<u8>, Fail> {
     let mut text = Vec::new(alloc);
     for line in BEFORE.iter() {
         text.extend_from_slice(line.as_bytes())?;
@@ -357,16 +357,21 @@ fn file_of(alloc: Global, wanted: &str, expression: &str) -> Result<File, Fail> 
     text.extend_from_slice(b"void run(void){")?;
     text.extend_from_slice(expression.as_bytes())?;
     text.extend_from_slice(b";}")?;
+    Ok(text)
+}
+
+// The tree of a source.
+fn file_of(alloc: Global, text: &[u8]) -> Result<File, Fail> {
     if text.len() > 1_048_576 {
         return Err("too long")?;
     }
-    let Ok(tokens) = lex(alloc, &text) else {
+    let Ok(tokens) = lex(alloc, text) else {
         return Err("no tokens")?;
     };
-    let Ok(file) = parse(alloc, &tokens) else {
-        return Err("no file")?;
-    };
-    Ok(file)
+    match parse(alloc, &tokens) {
+        Ok(file) => Ok(file),
+        Err(_) => Err("no file")?,
+    }
 }
 
 // The number of the type of a parameter.
@@ -387,25 +392,36 @@ fn parameter_type(alloc: Global, state: &mut State, parameter: &Parameter) -> Re
     Ok(shape.of.number)
 }
 
-// A function of the table is declared.
-fn declare(alloc: Global, state: &mut State, function: &Function) -> Result<(), Fail> {
+// The number of the type that a function gives.
+fn result_type(alloc: Global, state: &mut State, function: &Function) -> Result<u32, Fail> {
     let Ok(said) = specified(alloc, state, &function.specifiers) else {
         return Err("no result")?;
     };
     let Ok(shape) = declared_pointers(state, base(said), &function.pointers) else {
         return Err("no result")?;
     };
+    Ok(shape.of.number)
+}
+
+fn parameter_types(alloc: Global, state: &mut State, list: &Parameters) -> Result<Vec<u32>, Fail> {
     let mut parameters = Vec::new(alloc);
-    if let Parameters::List(list) = &function.parameters {
+    if let Parameters::List(list) = list {
         for parameter in list {
             parameters.push(parameter_type(alloc, state, parameter)?)?;
         }
     }
+    Ok(parameters)
+}
+
+// A function of the table is declared.
+fn declare(alloc: Global, state: &mut State, function: &Function) -> Result<(), Fail> {
+    let result = result_type(alloc, state, function)?;
     let Ok(number) = u32::try_from(state.functions_len()) else {
         return Err("too many functions")?;
     };
+    let parameters = parameter_types(alloc, state, &function.parameters)?;
     state.add_function(FunctionEntry {
-        result: shape.of.number,
+        result,
         parameters,
         defined: false,
     })?;
@@ -424,8 +440,8 @@ fn expression_of(function: &Function) -> Option<&Expr> {
     }
 }
 
-// The state behind the declarations of a file, and the typed expression of its body.
-fn typed_row(alloc: Global, file: &File, state: &mut State) -> Result<Operand, Fail> {
+// The expression of the body of a file, in the state behind its declarations.
+fn row_expression<'a>(alloc: Global, file: &'a File, state: &mut State) -> Result<&'a Expr, Fail> {
     for item in &file.items {
         match item {
             Item::Declaration(declaration) => {
@@ -434,12 +450,7 @@ fn typed_row(alloc: Global, file: &File, state: &mut State) -> Result<Operand, F
                 }
             }
             Item::Function(function) => match expression_of(function) {
-                Some(expr) => {
-                    let Ok(operand) = state.typed_in(alloc, expr) else {
-                        return Err("an expression is refused")?;
-                    };
-                    return Ok(operand);
-                }
+                Some(expr) => return Ok(expr),
                 None => declare(alloc, state, function)?,
             },
             Item::Empty | Item::Mutex { .. } | Item::Task { .. } => {}
@@ -448,8 +459,35 @@ fn typed_row(alloc: Global, file: &File, state: &mut State) -> Result<Operand, F
     Err("no expression")?
 }
 
+// What is asked of an expression.
+#[derive(Clone, Copy)]
+struct Typed {
+    // its sort as a value
+    sort: Sort,
+    // its folded value
+    value: Option<i128>,
+}
+
+// (A typed tree, a file and a state each have a function of their own that owns them, with one way out behind them: how
+// they are let go is proved for each way out, and of a state that is dear.)
+fn typed_expression(alloc: Global, state: &mut State, expr: &Expr) -> Result<Typed, Fail> {
+    match state.typed_in(alloc, expr) {
+        Ok(operand) => {
+            let value = folded_value(&operand);
+            match valued(alloc, state.scope(), operand) {
+                Ok(valued) => Ok(Typed {
+                    sort: valued.sort,
+                    value,
+                }),
+                Err(_) => Err("no memory")?,
+            }
+        }
+        Err(_) => Err("an expression is refused")?,
+    }
+}
+
 // The type of the object that the last declaration of a file declares.
-fn wanted_type(file: &File, state: &State) -> Result<Qualified, Fail> {
+fn wanted_type(file: &File, state: &State) -> Qualified {
     let mut wanted = Qualified {
         number: 0,
         constant: false,
@@ -467,7 +505,7 @@ fn wanted_type(file: &File, state: &State) -> Result<Qualified, Fail> {
             }
         }
     }
-    Ok(wanted)
+    wanted
 }
 
 fn is_same(state: &State, sort: Sort, of: Qualified) -> bool {
@@ -483,23 +521,37 @@ fn is_same(state: &State, sort: Sort, of: Qualified) -> bool {
     }
 }
 
+// Whether the expression of a file has the type of the object that its last declaration declares, and its folded value.
+fn told_in(alloc: Global, file: &File, state: &mut State) -> Result<(bool, Option<i128>), Fail> {
+    let expr = row_expression(alloc, file, state)?;
+    let typed = typed_expression(alloc, state, expr)?;
+    let is_wanted = is_same(state, typed.sort, wanted_type(file, state));
+    Ok((is_wanted, typed.value))
+}
+
+fn told_of(alloc: Global, file: &File) -> Result<(bool, Option<i128>), Fail> {
+    let mut state = State::new(alloc)?;
+    told_in(alloc, file, &mut state)
+}
+
+// The same of the file of this table with a further declaration and this expression.
+fn told(alloc: Global, wanted: &str, expression: &str) -> Result<(bool, Option<i128>), Fail> {
+    let text = text_of(alloc, wanted, expression)?;
+    let file = file_of(alloc, &text)?;
+    told_of(alloc, &file)
+}
+
 // The expression has the type of the object that is declared so.
 fn has_type(rt: &impl Abort, alloc: Global, expression: &str, wanted: &str) -> Result<(), Fail> {
-    let file = file_of(alloc, wanted, expression)?;
-    let mut state = State::new(alloc)?;
-    let operand = typed_row(alloc, &file, &mut state)?;
-    let valued = valued(alloc, state.scope(), operand)?;
-    let of = wanted_type(&file, &state)?;
-    assert!(rt; is_same(&state, valued.sort, of), "{expression}");
+    let (is_wanted, _value) = told(alloc, wanted, expression)?;
+    assert!(rt; is_wanted, "{expression}");
     Ok(())
 }
 
 // The expression is folded to this value.
-fn has_value(rt: &impl Abort, alloc: Global, expression: &str, value: i128) -> Result<(), Fail> {
-    let file = file_of(alloc, "", expression)?;
-    let mut state = State::new(alloc)?;
-    let operand = typed_row(alloc, &file, &mut state)?;
-    assert_eq!(rt; folded_value(&operand), Some(value), "{expression}");
+fn has_value(rt: &impl Abort, alloc: Global, expression: &str, wanted: i128) -> Result<(), Fail> {
+    let (_is_wanted, value) = told(alloc, "", expression)?;
+    assert_eq!(rt; value, Some(wanted), "{expression}");
     Ok(())
 }
 
