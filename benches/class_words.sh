@@ -4,7 +4,8 @@
 #     benches/class_words.sh
 #
 # The table of docs/ALARMS.md is what the others are compared with: the definitions of names, sentences and helps; the
-# order of the classes in reports; the list of all classes in a log; the table of classes in docs/LANGUAGE.md; the
+# order of the classes in reports; the list of all classes in a summary; the table of classes in docs/LANGUAGE.md; the
+# rules WAIT and DEAD of a log, with a table of their own; the
 # headings of docs/ALARMS.md, each with the name and the sentence of its section; and each line of a document or of a
 # stored report that has the form `PLACE: NAME: SENTENCE`. Nothing is said of the code, which is proved equal to the
 # definitions. Status 1 where words differ, with a line for each.
@@ -51,9 +52,24 @@ differs 'help_text of crates/report_views/specs/Sentences.antt' "$folder/helps" 
 sed -n 's/^class_number \([A-Za-z]*\) = \([0-9]*\)$/\2 \1/p' crates/tm_terms/specs/Alarms.antt | sort -n |
     awk '{ print toupper($2) }' >"$folder/found"
 differs 'class_number of crates/tm_terms/specs/Alarms.antt' "$folder/names" "$folder/found"
-sed -n 's/^classes = \(.*\) ∷ \[\]$/\1/p' crates/report_views/specs/Sarif.antt | sed 's/ ∷ /\n/g' |
+sed -n 's/^classes = \(.*\) ∷ \[\]$/\1/p' crates/report_views/specs/Sentences.antt | sed 's/ ∷ /\n/g' |
     tr '[:lower:]' '[:upper:]' >"$folder/found"
-differs 'classes of crates/report_views/specs/Sarif.antt' "$folder/names" "$folder/found"
+differs 'classes of crates/report_views/specs/Sentences.antt' "$folder/names" "$folder/found"
+
+# the rules beside the classes: sentence, help and level, and the sentences of tools/findings.awk
+rows docs/ALARMS.md 'WAIT and DEAD in a log' | awk -F ' *[|] *' '{ print $2 "|" $3 "|" $4 "|" $5 }' >"$folder/rules"
+for function in level_text rule_sentence rule_help; do
+    tr -s '\n ' ' ' <crates/report_views/specs/Sentences.antt |
+        grep -oE "$function (Wait|Dead) = codes \"[^\"]*\"" |
+        sed "s/^$function \([A-Za-z]*\) = codes \"\(.*\)\"\$/\1|\2/" | awk -F '|' '{ print toupper($1) "|" $2 }' >"$folder/$function"
+done
+join -t '|' <(sort "$folder/level_text") <(sort "$folder/rule_sentence") | join -t '|' - <(sort "$folder/rule_help") |
+    sort -r >"$folder/found"
+differs 'the rules of crates/report_views/specs/Sentences.antt' "$folder/rules" "$folder/found"
+while IFS='|' read -r name _ sentence _; do
+    grep -Fq ": $name: $sentence\"" tools/findings.awk || { echo "tools/findings.awk has not the sentence of $name"; status=1; }
+done <"$folder/rules"
+
 rows docs/LANGUAGE.md 'Error classes' | awk '{ print $2 }' >"$folder/found"
 differs 'the table of docs/LANGUAGE.md' "$folder/names" "$folder/found"
 sed -n 's/^## \([A-Z]*\): \(.*\)$/\1|\2/p' docs/ALARMS.md >"$folder/found"

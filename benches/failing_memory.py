@@ -165,7 +165,7 @@ def commands(top):
     choices = b"\n#replay\nwake 0\nrun 0 0\nrun 0 0\n"
     for name, text in sources(top):
         for words in ["analyse", "analyse --json", "analyse --history", "analyse --json --history",
-                      "analyse --workers 3", "analyse 17 40", "waits", "ranges"]:
+                      "analyse --workers 3", "analyse 17 40", "waits", "ranges", "certify"]:
             yield f"{words} < {name}", words.split(), text
         yield f"replay < {name}", ["replay"], text + choices
     yield "replay < no choices", ["replay"], b"int x;\n"
@@ -184,8 +184,15 @@ def views(top, program, view, folder):
         path = f"{folder}/{os.path.basename(name)}"
         with open(path, "wb") as it:
             it.write(text)
-        for form in ["--lines", "--sarif", "--summary"]:
-            yield f"{form} < the report of {name}", [view, form, path, name], report.stdout
+        others = []
+        for command in ["waits", "ranges"]:
+            found = subprocess.run([program, command], input=text, stdout=subprocess.PIPE, check=False).stdout
+            others.append(f"{path}.{command}")
+            with open(others[-1], "wb") as it:
+                # (of the answer of `ranges` the view takes what stands behind the lines of objects, of four words)
+                it.writelines(line for line in found.splitlines(keepends=True) if len(line.split()) == 2)
+        for words in [["--lines", path, name], ["--sarif", path, name, *others], ["--summary", path, name]]:
+            yield f"{words[0]} < the report of {name}", [view, *words], report.stdout
 
 
 def main():

@@ -2,9 +2,11 @@
 # What the gate costs: for each crate the processor seconds of its proof from nothing, of the same with its tests, and
 # of its must-fail edits, as a table for docs/ARCHITECTURE.md, with what is over the budget; and whether the whole is.
 #
-#     benches/gate.sh [NAME..]          proves what tools/prove.py has not kept yet, and tells what each part took
+#     benches/gate.sh [NAME..]          proves what tools/prove.py has not measured yet, and tells what each part took
 #     benches/gate.sh --kept [NAME..]   proves nothing, and tells what is kept
 #     benches/gate.sh --anew            proves all from nothing, one crate after another, for a quiet machine
+#     benches/gate.sh --of ROWS..       tells what a run of `rt ci` took that benches/gate_parts.py watched; of several
+#                                       files the last one that has a part counts
 #
 # The status is 1 where a crate or the whole is over its budget, where a row is not filled, or where something is not
 # proved. It judges no proof: `rt ci` does.
@@ -22,7 +24,15 @@ most_of_a_crate=480
 most_of_all=12000
 
 way=fill
+rows=()
 case ${1:-} in
+--of)
+    way=of
+    shift
+    [ $# -gt 0 ] || { echo "gate.sh: behind --of stands no file" >&2 && exit 2; }
+    for file; do rows+=("$(readlink -f -- "$file")"); done
+    shift $#
+    ;;
 --kept | --anew)
     way=${1#--}
     shift
@@ -39,10 +49,15 @@ status=0
 case $way in
 anew)
     export CEDRATCLEAT_KEPT=$room/kept
-    python3 tools/prove.py --tests --edits --jobs 1 "$@" >&2 || status=1
+    python3 tools/prove.py --measure --tests --edits --jobs 1 "$@" >&2 || status=1
     ;;
-fill) python3 tools/prove.py --tests --edits "$@" >&2 || status=1 ;;
+fill) python3 tools/prove.py --measure --tests --edits "$@" >&2 || status=1 ;;
 esac
+
+# The seconds of a part in the files of rows.
+row_of() { # CRATE PART
+    awk -v crate="$1" -v part="$2" '$1 == crate && $2 == part { found = $3 } END { print found }' "${rows[@]}"
+}
 
 lines_in() { # FOLDER..
     find "$@" -type f \( -name '*.rt' -o -name '*.antt' \) -exec cat {} + 2>/dev/null | wc -l
@@ -56,6 +71,7 @@ total=0
 while IFS='|' read -r _ name lines proof tests edits _; do
     name=$(tr -d ' `' <<<"$name")
     lines=${lines// /} proof=${proof// /} tests=${tests// /} edits=${edits// /}
+    [ $way != of ] || { proof=$(row_of "$name" proof) tests=$(row_of "$name" tests) edits=$(row_of "$name" edits); }
     count=$(find "crates/$name/must-fail" -name '*.edit' 2>/dev/null | wc -l)
     ghost=$(lines_in "crates/$name/specs" "crates/$name/proofs")
     over=
@@ -76,6 +92,10 @@ done < <(python3 tools/prove.py --table "$@" | grep '^| `')
 
 ways=$(python3 benches/ways.py | sed -n 1p)
 sums=$(sed 's/.*: \([0-9]*\) processor seconds.*/\1/' <<<"$ways")
+if [ $way = of ]; then
+    sums=$(row_of rt own)
+    ways="The kit took $sums seconds itself"
+fi
 printf '\nThe crates take %d processor minutes.' $(((total + 30) / 60))
 if [ $# = 0 ]; then
     printf ' %s. The whole: %d of %d minutes.' "$ways" $(((total + sums + 30) / 60)) $((most_of_all / 60))

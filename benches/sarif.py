@@ -2,11 +2,24 @@
 """Checks logs against the required parts of the SARIF 2.1.0 schema: benches/sarif.py FILE..
 
 It reads each file with Python's json, and tells the first thing that is not as sections 3.13 to 3.49 of the standard have
-it: which members an object must have, of which types, and that each result names a rule and a place."""
+it: which members an object must have, of which types, and that each result names a rule and a place. It tells also where
+a log is not what this project writes: the rules are those of RULES, each with its one level, and the results come in
+three parts, alarms, waits and dead places."""
 import json
 import re
 import sys
 import urllib.parse
+
+
+# The rules, and the level of what each finds.
+RULES = {
+    **dict.fromkeys(["OVERFLOW", "DIV", "SHIFT", "INDEX", "POINTER", "DEREF", "LOCK", "RACE"], "warning"),
+    "WAIT": "warning",
+    "DEAD": "note",
+}
+
+# The parts in which the results come.
+PARTS = ["alarms", "WAIT", "DEAD"]
 
 
 class Wrong(Exception):
@@ -74,14 +87,19 @@ def places(log):
             rules.append(part(rule, "a rule", "id", str))
             text(part(rule, "a rule", "shortDescription", dict), "a description")
             text(part(rule, "a rule", "help", dict), "a help")
-        if len(set(rules)) != len(rules):
-            raise Wrong("two rules have one id")
+        if rules != list(RULES):
+            raise Wrong("the rules are not those of the project, each once and in their order")
+        last = 0
         for result in part(run, "a run", "results", list):
             only(result, "a result", "ruleId", "level", "message", "locations")
             if part(result, "a result", "ruleId", str) not in rules:
                 raise Wrong(f"there is no rule {result['ruleId']}")
-            if part(result, "a result", "level", str) not in ("none", "note", "warning", "error"):
-                raise Wrong("a level is none of the four")
+            if part(result, "a result", "level", str) != RULES[result["ruleId"]]:
+                raise Wrong(f"the level of a result is not that of {result['ruleId']}")
+            number = PARTS.index(result["ruleId"]) if result["ruleId"] in PARTS else 0
+            if number < last:
+                raise Wrong(f"a result of {result['ruleId']} stands behind one of {PARTS[last]}")
+            last = number
             text(part(result, "a result", "message", dict), "a message")
             here = part(result, "a result", "locations", list)
             if len(here) != 1:

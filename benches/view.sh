@@ -94,6 +94,14 @@ printf '# 7 "a b.h"\nint x;int y;\n__task(1) void t(void){x=__input(0,9);if(x>20
 wanted=$'a b.h:7:5: x is from 0 to 9\na b.h:7:11: y is from 0 to 0\na b.h:8:48: DEAD: no run reaches this\ndead 1'
 same "$wanted"$'\nstatus 0' "$(told "$top/analyse" --preprocessed --ranges "$work/ranges.c")" "ranges and a dead place"
 same $'waits 0\nstatus 0' "$(told "$top/analyse" --preprocessed --waits "$work/ranges.c")" "no circular wait"
+# A certificate has the text that the preprocessor made, and ends as its grammar says.
+printf '# 7 "a b.h"\nint x;\n__task(1) void t(void){x=1/x;}\n' >"$work/certified.c"
+told "$top/analyse" --preprocessed --certify "$work/certified.c" >"$work/certificate"
+same $'tmcert 1\nsource 50' "$(head -n 2 "$work/certificate")" "the head of a certificate"
+same $'store\nend\nstatus 0' "$(tail -n 3 "$work/certificate")" "the end of a certificate"
+same "$(cat "$work/certified.c")" "$(tail -n +3 "$work/certificate" | head -n 3)" "the source in a certificate"
+same "$(told "$top/analyse" --plain --preprocessed --certify "$work/certified.c")" "$(cat "$work/certificate")" \
+    "a certificate, plain"
 cd "$top/examples/project"
 told "$top/analyse" --ranges project.c >"$work/ranges"
 tail -n 1 "$work/ranges" | grep -q '^status 0$'
@@ -103,19 +111,24 @@ while read -r file line name; do
     same "$name" "$(sed -n "${line}p" "$file" | grep -ow "$name" | head -n 1)" "the place of $name in $file"
 done <"$work/names"
 
-# The logs and summaries of the examples: each log has the places and classes of the lines.
+# The logs and summaries of the examples: each log has the places and words of the lines, then those of the waits, then
+# those of the dead places, and its status is 1 where there is an alarm or a wait.
 for source in "$top"/examples/*.c "$top/examples/project/project.c"; do
     told "$top/analyse" --sarif "$source" >"$work/log"
+    for form in --summary --waits --ranges; do told "$top/analyse" "$form" "$source" >"$work/form$form"; done
+    same "$(cat "$work/form--summary" "$work/form--waits" | grep '^status' | sort | tail -n 1)" "$(tail -n 1 "$work/log")" \
+        "the status of the log of ${source##*/}"
     sed -i '$d' "$work/log"
     python3 "$here/sarif.py" "$work/log"
-    same "$(told "$top/analyse" "$source" | sed -n 's/^\(.*:[0-9]*:[0-9]*: [A-Z]*\): .*/\1/p')" \
+    same "$({ told "$top/analyse" "$source" && cat "$work/form--waits" "$work/form--ranges"; } |
+        sed -n 's/^\(.*:[0-9]*:[0-9]*: [A-Z]*\): .*/\1/p')" \
         "$(python3 -c 'import json, sys, urllib.parse
 for run in json.load(open(sys.argv[1]))["runs"]:
     for it in run["results"]:
         at = it["locations"][0]["physicalLocation"]
         print(urllib.parse.unquote(at["artifactLocation"]["uri"]), at["region"]["startLine"], at["region"]["startColumn"],
               " " + it["ruleId"], sep=":")' "$work/log")" "the log of ${source##*/}"
-    same "$(told "$top/analyse" "$source" | tail -n 2)" "$(told "$top/analyse" --summary "$source" | tail -n 2)" \
+    same "$(told "$top/analyse" "$source" | tail -n 2)" "$(tail -n 2 "$work/form--summary")" \
         "the summary of ${source##*/}"
 done
 
@@ -199,6 +212,9 @@ grep -q 'stands before 17' "$work/err"
 same "status 3" "$(told "$top/analyse" --sarif "$work/refused.c" --json)" "two forms"
 same "status 3" "$(told "$top/analyse" --waits --ranges "$work/refused.c")" "two answers"
 same "status 3" "$(told "$top/analyse" --sarif --ranges "$work/refused.c")" "a log of ranges"
+same "status 3" "$(told "$top/analyse" --sarif --certify "$work/refused.c")" "a log of a certificate"
+same "status 3" "$(told "$top/analyse" --certify --ranges "$work/refused.c")" "a certificate and ranges"
+same "status 3" "$(told "$top/analyse" --certify "$work/refused.c" "$work/refused.c")" "a certificate of two files"
 for word in --json --history --workers=2 17; do
     same "status 3" "$(told "$top/analyse" --waits "$work/refused.c" "$word")" "waits with $word"
 done

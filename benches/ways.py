@@ -3,9 +3,10 @@
 
     benches/ways.py [--most N]
 
-A way leads from a library along the lines of crates.txt to a crate below it. The kit reads the text of a crate anew
-along each way that leads to it, twice for each library that it proves, so what a line names is paid for by all crates
-above. A line has to name each crate whose code or definitions the crate's text names by themselves (`tm_laid::Laid`,
+A way leads from a library along the lines of crates.txt to a crate below it. Twice for each library that it proves, a
+kit makes a sum of the texts below: some kits read the text of a crate anew along each way that leads to it, so that
+what a line names is paid for by all crates above, others once (which of the two the kit at hand is, its `rt` tells). A
+line has to name each crate whose code or definitions the crate's text names by themselves (`tm_laid::Laid`,
 `Rattle.tm_laid.specs.Layouts`), and no other one. A crate that is reached through another one as well may be left out
 where that one passes on what is used, by `pub use` lines in src/lib.rt (code, item by item), in specs/Lib.antt
 (definitions) and below proofs/low/ (lemmas): the ways that this would spare are told for the dearest ten.
@@ -20,6 +21,7 @@ import signal
 import sys
 import time
 
+sys.dont_write_bytecode = True
 PARTS = ("src", "specs", "proofs")
 
 
@@ -67,6 +69,21 @@ def seconds_of(folder):
     return min(found)
 
 
+def seconds_of_kit(libraries, root):
+    """What the two sums of each library take by the kit at hand, if it reads each text once; else None."""
+    sys.path.insert(0, f"{root}/tools")
+    from kept_crates import rt, rtlib
+
+    if not hasattr(rt, "stamp_once"):
+        return None
+    rtlib.stop, rtlib.Crate = rt.stop, rt.Crate
+    crates = [it for it in rtlib.crates_below(f"{root}/crates") if it.name in libraries]
+    began = time.process_time()
+    for it in crates:
+        it.stamp()
+    return 2 * (time.process_time() - began)
+
+
 def main():
     words, root = sys.argv[1:], os.path.dirname(os.path.dirname(os.path.realpath(__file__)))
     if words and (len(words) != 2 or words[0] != "--most" or not words[1].isdigit()):
@@ -89,7 +106,9 @@ def main():
         for used in named[name]:
             leading[used] += leading[name]
     total = sum(map(ways, libraries))
-    spent = 2 * sum(leading[it] * seconds_of(f"{root}/crates/{it}") for it in named)
+    spent = seconds_of_kit(libraries, root)
+    if spent is None:
+        spent = 2 * sum(leading[it] * seconds_of(f"{root}/crates/{it}") for it in named)
     print(f"{total} ways of {len(libraries)} libraries: {spent:.0f} processor seconds of the kit in a run from nothing")
     for name in sorted(libraries, key=ways)[:-9:-1]:
         print(f"  {name}: {ways(name)}")

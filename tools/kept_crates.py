@@ -4,14 +4,22 @@ The store is the folder $CEDRATCLEAT_KEPT, or else ~/.cache/cedratcleat. In it N
 of a crate, and a mark for each of its parts that passed: its proof, its tests, its must-fail edits. SUM is of the text
 of the crate and of all below it and of the kit, so several checkouts share what has one text.
 
+Some kits keep what `rt ci` proves on a machine, in a store of their own (class Kept of their `rt`). What stands there
+of the same text, over the same libraries byte for byte, is taken from there (KitStore).
+
 It calls functions of the kit's own `rt`, so a newer kit may ask for changes here."""
+import contextlib
 import functools
 import hashlib
 import importlib.machinery
 import importlib.util
+import json
 import os
+import shutil
 import subprocess
 import sys
+import tempfile
+import types
 
 
 def kit():
@@ -32,8 +40,10 @@ STORE = os.environ.get("CEDRATCLEAT_KEPT") or f"{CACHE}/cedratcleat"
 
 @functools.lru_cache(maxsize=None)
 def kit_sum():
-    with open(f"{rt.KIT}/WHAT", "rb") as it:
-        return hashlib.sha256(it.read()).hexdigest()
+    made = hashlib.sha256()
+    for file in ("KIT-ID", "WHAT"):
+        made.update((rtlib.text_of(f"{rt.KIT}/{file}") or "").encode())
+    return made.hexdigest()
 
 
 def sum_of(folder, parts):
@@ -98,12 +108,85 @@ class Crate(rt.Crate):
     def is_kept(self, part):
         return os.path.isfile(self.mark(part)) and (part != "proof" or os.path.exists(self.made))
 
+    def keep_library(self, made):
+        """Puts a library that was made in the store into its place."""
+        shutil.rmtree(self.rlib, ignore_errors=True)
+        with contextlib.suppress(FileNotFoundError):
+            os.remove(f"{self.kept}/sum")
+        os.rename(made, self.rlib)
+
+    def built_sum(self):
+        """The sum of the library that is kept, as the kit makes it for the keys of the crates above; a program has none
+        above."""
+        if self.is_program:
+            return "program"
+        known = rtlib.text_of(f"{self.kept}/sum")
+        if not known:
+            files = [f"{at}/{name}" for at, _, names in os.walk(self.made) for name in names]
+            named = {f"rlib/{self.name}.rlib/{os.path.relpath(it, self.made)}": it for it in files}
+            known = hashlib.sha256(repr([(it, rtlib.sum_of(named[it])) for it in sorted(named)]).encode()).hexdigest()
+            write_anew(f"{self.kept}/sum", known)
+        return known
+
+
+def write_anew(file, text):
+    """Writes a file in one step."""
+    with open(f"{file}.{os.getpid()}", "w", encoding="utf-8") as it:
+        it.write(text)
+    os.replace(f"{file}.{os.getpid()}", file)
+
+
+class KitStore:
+    """What runs of `rt ci` kept on this machine, where the kit keeps anything."""
+
+    def __init__(self):
+        self.kept = rt.Kept([]) if hasattr(rt, "Kept") else None
+
+    def give(self, crates, wanted=None):
+        """Has the store of tools/prove.py keep each of these crates, lowest first, that the kit keeps, or, where names
+        are given, each of these names. All that is below one of the crates has to be among them."""
+        for it in crates if self.kept else ():
+            if it.name not in self.kept.rlibs and all(low.name in self.kept.rlibs for low in it.below()):
+                found = it.built_sum() if it.is_kept("proof") else self.told_sum(it)
+                if found and not it.is_kept("proof") and (wanted is None or it.name in wanted):
+                    with contextlib.suppress(OSError):
+                        self.give_one(it, found)
+                if found:
+                    self.kept.rlibs[it.name] = found
+
+    def told_sum(self, crate):
+        """The sum of what the kit keeps of a crate, as its list of files tells it; none where it keeps nothing."""
+        try:
+            key = self.kept.key(crate)
+            made = json.loads(rtlib.text_of(f"{self.kept.place(crate, False, key)}/made.json") or "{}")
+            rows = [(path, sum) for path, sum in made["files"]] if made.get("key") == key else []
+            return hashlib.sha256(repr(rows).encode()).hexdigest() if rows else None
+        except (OSError, ValueError, KeyError, TypeError):
+            return None
+
+    def give_one(self, crate, found):
+        os.makedirs(crate.kept, exist_ok=True)
+        with tempfile.TemporaryDirectory(prefix="making-", dir=crate.kept) as room:
+            # (the kit gives a crate its files in the folder out/ of the crate's own, and holds each to its sum)
+            to = types.SimpleNamespace(name=crate.name, folder=room, is_program=crate.is_program, is_static=False)
+            os.mkdir(f"{room}/out")
+            if not self.kept.give(to, False, self.kept.key(crate)):
+                return
+            if crate.is_program:
+                for ending in rt.BACKENDS.values():
+                    os.replace(f"{room}/out/{crate.name}{ending}", f"{crate.kept}/{crate.name}{ending}")
+            else:
+                crate.keep_library(f"{room}/out/rlib/{crate.name}.rlib")
+                write_anew(f"{crate.kept}/sum", found)
+            # (it has no numbers: nothing was measured)
+            write_anew(crate.mark("proof"), "of the kit's store")
+
 
 def read_crates(root):
     """The crates of the repository at this folder, each behind those below it."""
     Crate.cuts_libraries = True
     rtlib.stop, rtlib.Crate = rt.stop, Crate
-    Crate.allowed = rt.handles_of(root)
+    rt.Crate.allowed = rt.handles_of(root)
     rtlib.guarded()
     crates = rtlib.crates_below(f"{root}/crates")
     return sorted(crates, key=lambda it: len(it.below()))

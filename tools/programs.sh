@@ -3,9 +3,10 @@
 # `install` and `test` read this file; they set `top`, the folder of the repository or of what was installed, and `me`.
 #
 # A proved program stands in crates/NAME/out/NAME, and beside it a stamp: the sum of the sources that it was proved
-# from, and the sums of the programs' bytes. tools/prove.py keeps it in its store besides. An unproved program stands
-# in the folder `unproved` of that store alone, by the sum of its sources, and has a stamp of its own there: no look-up
-# for a proved program goes there, and nothing copies it.
+# from, and the sums of the programs' bytes. tools/prove.py keeps it in its store besides, and takes into it what
+# `rt ci` keeps in a store of the kit's, where the kit has one. An unproved program stands in the folder `unproved` of
+# the first store alone, by the sum of its sources, and has a stamp of its own there: no look-up for a proved program
+# goes there, and nothing copies it.
 
 # What `--prove` takes, as README.md has it, measured on a busy machine: processor minutes in all, and minutes for the
 # longest chain of crates, each of which stands on the one before.
@@ -96,18 +97,26 @@ find_sum() {
     unproved=$(store)/unproved/${sum:0:24}
 }
 
-# Whether the store can have a proof of these sources of which the checkout does not know. A proof that is older than
-# the unproved program is one of other sources, since the store was asked before that was built.
+# The folder in which a kit that keeps what `rt ci` proved on this machine does so.
+kit_store() {
+    local kit
+    kit=$(readlink -f -- "$(command -v rt)" 2>/dev/null)
+    kit=${kit%/*}
+    printf '%s' "${kit%/*/*}/rattle-kept"
+}
+
+# Whether one of the stores can have a proof of these sources of which the checkout does not know. A proof that is older
+# than the unproved program is one of other sources, since the stores were asked before that was built.
 may_be_proved() {
     local mark
-    for mark in "$(store)"/analyse_main/*/proof; do
-        [ ! -f "$mark" ] || [ "$unproved/stamp" -nt "$mark" ] || return 0
+    for mark in "$(store)"/analyse_main/*/proof "$(kit_store)"/proof-analyse_main-*; do
+        [ ! -e "$mark" ] || [ "$unproved/stamp" -nt "$mark" ] || return 0
     done
     return 1
 }
 
-# Takes the programs that tools/prove.py keeps for these sources, and copies them beside their crates where it can, so
-# that the store need not be asked again.
+# Takes the programs that tools/prove.py, or the kit's `rt ci`, keeps for these sources, and copies them beside their
+# crates where it can, so that the stores need not be asked again.
 take_kept() {
     local beside=$top/crates/analyse_main/out aside=$top/crates/report_view/out
     local -a found

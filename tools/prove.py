@@ -3,6 +3,7 @@
 a crate below it has changed.
 
     tools/prove.py [--tests] [--edits] [--jobs N] [NAME..]  proves the crates and all below them (no NAME: every crate)
+    tools/prove.py --measure ..                             as without it, and proves anew what was never measured
     tools/prove.py --check NAME [rattle's flags]            as `rt check` in crates/NAME, over libraries that are kept
     tools/prove.py --edit NAME EDIT..                       tries edits of a crate, which the prover must refuse
     tools/prove.py --lacks [NAME..]                         lists what is not kept, and proves nothing
@@ -15,8 +16,12 @@ as there are processors and memory. A line tells each part that has ended, and a
 what the parts took when they last passed. When the run is interrupted, the next one goes on where it stopped.
 
 What is proved is kept below $CEDRATCLEAT_KEPT, or else ~/.cache/cedratcleat, by the sum of the texts (kept_crates.py).
-It is no verdict: `rt ci` is, which proves all from nothing. It calls functions of the kit's own `rt`, so a newer kit
-may ask for changes here."""
+Where the kit keeps what `rt ci` proved on this machine, a library or program of the same text is taken from there, and
+a crate is proved here only where neither has it; so --check and the others serve beside `rt ci NAME..`, whichever of
+the two proved what is below. --measure takes nothing of the kit's, whose parts have no numbers. What prove.py proves
+counts for nothing in `rt ci`, which alone is the verdict.
+
+It calls functions of the kit's own `rt`, so a newer kit may ask for changes here."""
 import contextlib
 import fcntl
 import glob
@@ -32,7 +37,7 @@ import time
 from concurrent.futures import FIRST_COMPLETED, ThreadPoolExecutor, wait
 
 sys.dont_write_bytecode = True
-from kept_crates import crate_named, marks_of_any_text, numbers_of, read_crates, rt, rtlib
+from kept_crates import KitStore, crate_named, marks_of_any_text, numbers_of, read_crates, rt, rtlib
 
 # A check of one crate gains little from more processors.
 MOST_JOBS = 4
@@ -71,8 +76,7 @@ def keep_program(crate, room):
 
 
 def keep_library(crate, room):
-    shutil.rmtree(crate.rlib, ignore_errors=True)
-    os.rename(f"{room}/{crate.name}.rlib", crate.rlib)
+    crate.keep_library(f"{room}/{crate.name}.rlib")
     return True
 
 
@@ -92,11 +96,28 @@ def have_passed(crate):
     return not crate.ci(["--jobs", str(crate.jobs)], True) and rt.run(crate, True)
 
 
+def try_edit(crate, edit, seed):
+    """What the crate with the edit comes to, and what is said: over what was proved of it as it stands, or else, where
+    that does not settle it, from nothing."""
+    flags = ["--jobs", "1"]
+    if seed:
+        with tempfile.TemporaryDirectory(prefix=f"rt-edits-{os.getpid()}-") as room:
+            rt.linked(f"{seed}/seed", f"{room}/seed")
+            tried = rt.must_fail(crate, edit, flags, f"{room}/seed")
+        if tried[0] in rt.SETTLED:
+            return tried
+    return rt.must_fail(crate, edit, flags)
+
+
 def are_refused(crate, edits):
-    tried = rt.must_fail_all(crate, edits, ["--jobs", "1"])
-    for _, said in tried:
-        print(said, file=crate.out, flush=True)
-    return all(well for well, _ in tried)
+    with rt.ending():
+        seed = rt.seeded(crate, ["--jobs", str(crate.jobs)]) if len(edits) > 1 else None
+        passed = True
+        for it in edits:
+            kind, said = try_edit(crate, it, seed)
+            print(said, file=crate.out, flush=True)
+            passed = passed and kind in (rt.REFUSED, rt.AT_LIMIT)
+    return passed
 
 
 def end_with_parent():
@@ -144,7 +165,9 @@ class Costs:
     def memory_of(self, key):
         """The most bytes at one time."""
         if key not in self.memory:
-            known = [most for _, _, most in marks_of_any_text(key[0], "proof")]
+            # (some kernels answer more than the machine has, where a process shares its memory with others)
+            most_of_all = 1024 * rtlib.number_in("/proc/meminfo", r"MemTotal:\s+(\d+)")
+            known = [it for _, _, it in marks_of_any_text(key[0], "proof") if it <= most_of_all]
             by_lines = FIRST_MEMORY + LINE_MEMORY * self.crate_of[key[0]].count(rb"\n")
             self.memory[key] = max(known) if known else by_lines
         return self.memory[key]
@@ -164,11 +187,18 @@ class Run:
         self.crates = read_crates(root)
         self.crate_of = {it.name: it for it in self.crates}
         self.waits = self.parts_of(names, parts)
-        self.given = {key: True for key in self.waits if self.crate_of[key[0]].is_kept(key[1])}
+        self.is_measuring = "measure" in parts
+        if not self.is_measuring:
+            KitStore().give([self.crate_of[name] for name, part in self.waits if part == "proof"])
+        self.given = {key: True for key in self.waits if self.has(*key)}
         self.costs = Costs(self.crate_of)
         self.running, self.pids = {}, set()
         # Seconds that the parts which ended took by the clock, and those that were expected of them.
         self.took = self.expected = 0
+
+    def has(self, name, part):
+        crate = self.crate_of[name]
+        return crate.is_kept(part) and not (self.is_measuring and numbers_of(crate.mark(part)) is None)
 
     def parts_of(self, names, parts):
         """The parts that are asked for, and the proofs below them, each with those that it waits for."""
@@ -216,7 +246,7 @@ class Run:
         os.makedirs(crate.kept, exist_ok=True)
         with open(f"{crate.kept}/lock", "w", encoding="utf-8") as lock:
             fcntl.flock(lock, fcntl.LOCK_EX)
-            if crate.is_kept(part):
+            if self.has(name, part):
                 return True, 0
             with open(f"{crate.kept}/{part}.log", "w", encoding="utf-8") as log:
                 words = [sys.executable, os.path.realpath(__file__), "--part", *key, str(jobs)]
@@ -328,12 +358,14 @@ def check(root, name, flags):
 
 def try_edits(root, name, edits):
     crate = crate_named(root, name)
-    crate.out = sys.stdout
+    KitStore().give(crate.below())
+    crate.out, crate.jobs = sys.stdout, 1
     return 0 if are_refused(crate, [os.path.realpath(it) for it in edits]) else 1
 
 
 def where(root, names):
     crates = {it.name: it for it in read_crates(root)}
+    KitStore().give(crates.values(), names)
     found = [crates[it].made for it in names if it in crates and crates[it].is_kept("proof")]
     print("\n".join(found))
     return 0 if len(found) == len(names) else 1
@@ -365,7 +397,7 @@ def prove(root, words):
         lanes, words = int(words[at + 1]), words[:at] + words[at + 2 :]
     names = {it for it in words if not it.startswith("-")}
     flags = {it.removeprefix("--") for it in words} - names
-    if flags - {"tests", "edits", "lacks"}:
+    if flags - {"tests", "edits", "lacks", "measure"}:
         print(__doc__)
         return 2
     run = Run(root, names, flags, lanes)
