@@ -5,10 +5,10 @@ use crate::alone::expect_alone;
 use std::test::Fail;
 
 /// Divides by what is 0 at the start.
-const DIVISION: &str = "int x;\n__task(1) void t(void){x=1/x;}";
+const DIVISION: &[u8] = b"int x;\n__task(1) void t(void){x=1/x;}";
 
 /// Its certificate: nothing comes to the division's result, and at node 4 the temporary 3 is a copy of `x`.
-const DIVISION_CERTIFICATE: &str = "tmcert 1\nsource 37\nint x;\n__task(1) void t(void){x=1/x;}\n\
+const DIVISION_CERTIFICATE: &[u8] = b"tmcert 1\nsource 37\nint x;\n__task(1) void t(void){x=1/x;}\n\
 task 0\n\
 node 0\nc 0 i 0 0 0\n\
 node 1\nt 0 p 0 0 0 0 0 0\nc 0 i 0 0 0\n\
@@ -18,10 +18,10 @@ node 4\nt 0 p 0 0 0 0 0 0\nt 1 i 1 1 0\nt 3 i 0 0 0\nc 0 i 0 0 0\nk 3 0\n\
 store\nend\n";
 
 /// Stores once.
-const STORED: &str = "int x;\n__task(1) void t(void){x=1;}";
+const STORED: &[u8] = b"int x;\n__task(1) void t(void){x=1;}";
 
 /// Its certificate: behind the store the cell is fresh, and others may see 1 there.
-const STORED_CERTIFICATE: &str = "tmcert 1\nsource 35\nint x;\n__task(1) void t(void){x=1;}\n\
+const STORED_CERTIFICATE: &[u8] = b"tmcert 1\nsource 35\nint x;\n__task(1) void t(void){x=1;}\n\
 task 0\n\
 node 0\nc 0 i 0 0 0\n\
 node 1\nt 0 p 0 0 0 0 0 0\nc 0 i 0 0 0\n\
@@ -32,15 +32,15 @@ store\nw 0 0 0 i 1 1 0\nend\n";
 const USAGE: &[u8] = b"usage: COMMAND [OPTIONS] < source\n";
 
 /// The words, the input, the number with which the program ends on them, and the text that it writes.
-static CERTIFICATES: [(&[&str], &str, u8, &[u8]); 9] = [
-    (&["certify"], "", 0, b"tmcert 1\nsource 0\n\nstore\nend\n"),
-    (&["certify"], DIVISION, 0, DIVISION_CERTIFICATE.as_bytes()),
-    (&["certify"], STORED, 0, STORED_CERTIFICATE.as_bytes()),
-    (&["certify"], "int x", 2, b"1:5 refused Syntax\n"),
-    (&["certify"], "int x;/* x", 2, b"1:7 refused Lexical\n"),
+static CERTIFICATES: [(&[&str], &[u8], u8, &[u8]); 9] = [
+    (&["certify"], b"", 0, b"tmcert 1\nsource 0\n\nstore\nend\n"),
+    (&["certify"], DIVISION, 0, DIVISION_CERTIFICATE),
+    (&["certify"], STORED, 0, STORED_CERTIFICATE),
+    (&["certify"], b"int x", 2, b"1:5 refused Syntax\n"),
+    (&["certify"], b"int x;/* x", 2, b"1:7 refused Lexical\n"),
     (
         &["certify"],
-        "char a[65536],b;",
+        b"char a[65536],b;",
         2,
         b"refused Limit cells 65536\n",
     ),
@@ -53,7 +53,7 @@ static CERTIFICATES: [(&[&str], &str, u8, &[u8]); 9] = [
 fn certificates(rt: HostRuntime) -> Result<(), Fail> {
     let alloc = rt.alloc();
     for (words, input, number, text) in &CERTIFICATES {
-        expect_alone(&rt, alloc, words, input.as_bytes(), *number, text)?;
+        expect_alone(&rt, alloc, words, input, *number, text)?;
     }
     Ok(())
 }
