@@ -12,13 +12,6 @@ use tm_typed::{Binding, Named, ObjectNumber, Qualified, StaticCell, TypedStatic}
 // ## Objects
 
 impl State {
-    /// How many objects there are so far.
-    pub fn statics_len(&self) -> usize
-        ensures { result ≡ length self.now.statics }
-    {
-        self.statics.len()
-    }
-
     /// The type of an object.
     pub fn static_type(&self, number: u32) -> Qualified
         ensures { result ≡ static_type self.now number }

@@ -2,7 +2,7 @@
 ghost use Rattle.std.specs.Prelude.{◌≡◌, IfOk};
 ghost use Rattle.tm_laid.specs.Layouts.{laid_tree};
 ghost use Rattle.interfere_set.specs.Stores.{Interferences};
-ghost use Rattle.calculations.specs.transfer_rows.Actions.{Calculation, constant, gives, skips};
+ghost use Rattle.calculations.specs.transfer_rows.Actions.{Calculation, gives, skips};
 ghost use Rattle.calculations.specs.Given.{IsCalculated};
 ghost use Rattle.edge_actions.specs.Edges.{around_of, pointer_value, pointer_within};
 ghost use Rattle.edge_effects.specs.Effects.{IsAfter};
@@ -41,25 +41,6 @@ pub fn give(
 {
     let given = given_state(alloc, view, state, target, calculated.value, None)?;
     Ok(plain(alloc, given, calculated.classes))
-}
-
-/// An edge that gives a constant.
-pub fn give_constant(
-    alloc: Global,
-    view: &EdgeView,
-    state: &State<AbsValue>,
-    target: u32,
-    value: AbsValue,
-) -> Result<After, NoMemory>
-    ensures { IfOk result (λ after. (store : Interferences)
-        → IsAfter (around_of view.now) (gives target (constant value)) state.now store after) }
-{
-    let calculated = Calculated {
-        value,
-        classes: no_classes(),
-    };
-    let after = give(alloc, view, state, target, calculated)?;
-    Ok(after)
 }
 
 // The pointer to an object of this size; none beyond its end.

@@ -13,7 +13,7 @@ mod loads;
 mod temps;
 mod views;
 
-pub use givings::{give, give_constant, pointer_value, skip};
+pub use givings::{give, pointer_value, skip};
 pub use loads::{load, load_any, reached};
 pub use temps::{Ending, arrived_state, given_state, live_temps, with_temp, with_temps};
 pub use views::{After, plain};

@@ -15,6 +15,4 @@ mod types;
 
 pub use graphs::{are_same_copies, are_same_edges, are_same_heads, are_same_nodes};
 pub use layouts::is_same_layout;
-pub use lists::{
-    are_same_flags, are_same_lists, are_same_marks, are_same_numbers, are_same_priorities,
-};
+pub use lists::{are_same_lists, are_same_marks, are_same_priorities};

@@ -4,20 +4,6 @@ ghost use Rattle.graph_facts.specs.Lists.{numbers};
 
 use strided_dom::Marks;
 
-/// Whether two lists of numbers are the same.
-pub fn are_same_numbers(one: &[u32], other: &[u32]) -> bool
-    ensures { IsTrue result ↔ (one.now ≡ other.now) }
-{
-    one == other
-}
-
-/// Whether two lists of flags are the same.
-pub fn are_same_flags(one: &[bool], other: &[bool]) -> bool
-    ensures { IsTrue result ↔ (one.now ≡ other.now) }
-{
-    one == other
-}
-
 /// Whether two lists of priorities are the same.
 pub fn are_same_priorities(one: &[u8], other: &[u8]) -> bool
     ensures { IsTrue result ↔ (one.now ≡ other.now) }
