@@ -1,13 +1,11 @@
 //! What a file has to define, and that no function of it reaches itself.
 ghost use Rattle.std.specs.Prelude.{◌≡◌, is_some, option_map, find};
-ghost use Rattle.tm_typed.specs.Files.{typed_function, is_undefined, undefined_use, defined_by, main_of, file_of};
-ghost use Rattle.tm_typed.specs.TypedFiles.{typed_file_tree};
+ghost use Rattle.tm_typed.specs.Files.{typed_function, is_undefined, undefined_use, defined_by, main_of};
 ghost use Rattle.c_typing.specs.Views.{found_of};
 
 use crate::found::Found;
-use c_typing_state::Tables;
 use tm_terms::{Name, Place};
-use tm_typed::{Named, TypedFile, Use, Used};
+use tm_typed::{Named, Use, Used};
 
 // Whether a function has a body.
 fn has_body(found: &Found, number: u32) -> bool
@@ -64,52 +62,12 @@ fn defined_by(found: &Found, named: Option<Named>) -> Option<u32>
     }
 }
 
-// The function `main`, by its name.
-fn main_of(found: &Found, main: Option<Name>) -> Option<u32>
+/// The function `main`, by its name.
+pub(crate) fn main_of(found: &Found, main: Option<Name>) -> Option<u32>
     ensures { result ≡ main_of (found_of found.now) main }
 {
     match main {
         Some(name) => defined_by(found, found.state.scope().named(name)),
         None => None,
-    }
-}
-
-/// The typed file, with an order of its functions.
-pub(crate) fn finished(found: Found, main: Option<Name>, order: Vec<u32>) -> TypedFile
-    ensures file { typed_file_tree result ≡ file_of (found_of found) main }
-    ensures calls { result.calls ≡ found.calls }
-    ensures order { result.order ≡ order }
-{
-    let main = main_of(&found, main);
-    let Found {
-        state,
-        functions,
-        calls,
-        tasks,
-        mutexes,
-        definitions: _definitions,
-    } = found;
-    let Tables {
-        types,
-        structs,
-        statics,
-        uses: _uses,
-        lengths,
-        constants,
-        labels,
-    } = state.into_tables();
-    TypedFile {
-        types,
-        structs,
-        statics,
-        functions,
-        calls,
-        tasks,
-        mutexes,
-        main,
-        lengths,
-        constants,
-        labels,
-        order,
     }
 }

@@ -6,7 +6,7 @@ ghost use Rattle.call_graph.specs.Graphs.{lists};
 ghost use Rattle.call_graph.specs.Orders.{IsCallOrder, IsWholeOrder};
 ghost use Rattle.c_typing.specs.Views.{answer_of, found_of};
 
-use crate::closing::{finished, undefined_use};
+use crate::closing::undefined_use;
 use crate::found::{Found, nothing_found};
 use crate::items::items_in;
 use c_type_names::refusal;
@@ -51,7 +51,7 @@ fn closed(alloc: Global, file: &File, found: Found, main: Option<Name>) -> Resul
     ensures order { IfOk result (λ f. IsWholeOrder (lists f.calls.items) f.order.items) }
 {
     match order_of(alloc, file, &found)? {
-        CallOrder::Ordered(order) => Ok(finished(found, main, order)),
+        CallOrder::Ordered(order) => Ok(found.finished(main, order)),
         CallOrder::Recursive(function) => Err(recursive(&found, function)),
     }
 }

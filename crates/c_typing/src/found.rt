@@ -1,16 +1,18 @@
-//! What is found so far of a file.
+//! What is found so far of a file, and the typed file at its end.
 ghost use Rattle.std.specs.Prelude.{◌≡◌, IfOk, [], ◌∷◌, ◌++◌, OnOk};
-ghost use Rattle.tm_typed.specs.Files.{first_file_state};
+ghost use Rattle.tm_typed.specs.Files.{first_file_state, file_of};
+ghost use Rattle.tm_typed.specs.TypedFiles.{typed_file_tree};
 ghost use Rattle.c_typing.specs.Views.{found_of};
 
-use c_typing_state::State;
+use crate::closing::main_of;
+use c_typing_state::{State, Tables};
 use std::alloc::Global;
 use tm_lattice::NoMemory;
-use tm_typed::{MutexEntry, TypedFunction, TypedTask};
+use tm_terms::Name;
+use tm_typed::{MutexEntry, TypedFile, TypedFunction, TypedTask};
 
 /// The state of typing, the functions and the functions that each calls, the tasks and mutexes, and the functions with
 /// bodies in the order of the text.
-#[derive(Drop)]
 pub(crate) struct Found {
     pub(crate) state: State,
     pub(crate) functions: Vec<TypedFunction>,
@@ -18,6 +20,62 @@ pub(crate) struct Found {
     pub(crate) tasks: Vec<TypedTask>,
     pub(crate) mutexes: Vec<MutexEntry>,
     pub(crate) definitions: Vec<u32>,
+}
+
+// Written by hand, so that a function which lets it go calls this, and its check does not go through the tables.
+impl Drop for Found {
+    fn drop(self) {
+        let Found {
+            state: _state,
+            functions: _functions,
+            calls: _calls,
+            tasks: _tasks,
+            mutexes: _mutexes,
+            definitions: _definitions,
+        } = self;
+    }
+}
+
+impl Found {
+    /// The typed file, with an order of its functions.
+    pub(crate) fn finished(self, main: Option<Name>, order: Vec<u32>) -> TypedFile
+        ensures file { typed_file_tree result ≡ file_of (found_of self) main }
+        ensures calls { result.calls ≡ self.calls }
+        ensures order { result.order ≡ order }
+    {
+        let main = main_of(&self, main);
+        let Found {
+            state,
+            functions,
+            calls,
+            tasks,
+            mutexes,
+            definitions: _definitions,
+        } = self;
+        let Tables {
+            types,
+            structs,
+            statics,
+            uses: _uses,
+            lengths,
+            constants,
+            labels,
+        } = state.into_tables();
+        TypedFile {
+            types,
+            structs,
+            statics,
+            functions,
+            calls,
+            tasks,
+            mutexes,
+            main,
+            lengths,
+            constants,
+            labels,
+            order,
+        }
+    }
 }
 
 /// Before the first item.
