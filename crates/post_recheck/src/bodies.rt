@@ -7,13 +7,14 @@ ghost use Rattle.post_recheck.specs.reading.Numbers.{number_in, IsNumberedIn};
 
 use crate::solutions::Table;
 use cell_env::State;
+use edge_contributions::joined_contributions;
 use flow_graph::Edge;
 use interfere_set::Store;
 use mutex_configs::{EdgeCopy, Program};
 use pointer_dom::AbsValue;
 use shared_programs::{BodySystem, ProgramFacts, body_over_store, section_entry};
 use std::alloc::Global;
-use table_covers::{Uncovered, first_uncovered, joined_contributions};
+use table_covers::{Uncovered, first_uncovered};
 use tm_lattice::NoMemory;
 
 // What the check of a body finds.
@@ -62,7 +63,7 @@ fn checked_task(
             &program.configured[number as usize].copies,
             first,
         ))),
-        None => Ok(BodyCheck::Covered(joined_contributions(alloc, &system, table)?)),
+        None => Ok(BodyCheck::Covered(joined_contributions(alloc, &system, table, &[])?)),
     }
 }
 

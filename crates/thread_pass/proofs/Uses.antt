@@ -3,14 +3,8 @@ use Rattle.std.specs.Prelude.{◌≡◌, ℕ, zero, suc, Bool, true, false, List
 use Rattle.std.specs.Prelude.{option_map}
 use Rattle.std.proofs.Common.{sym, ap, subst, ◌∙◌}
 use Rattle.std.proofs.lemmas.Bool.{true≢false}
-use Rattle.std.specs.Ordering.{nat_cmp}
-use Rattle.std.specs.FinMap as map_of
-use Rattle.std.specs.FinMap.{get-empty}
-use Rattle.cell_env.specs.tm_lattice.Tables.{IsEntry, IsTable}
-use Rattle.interfere_set.specs.pointer_dom.Values.{IsValues, no_value}
-use Rattle.interfere_set.specs.Stores.{Interferences, HasNoEntry, IsNested, IsStore, IsStoreBelow, no_interference, joined_store}
+use Rattle.interfere_set.specs.Stores.{Interferences, IsStore, IsStoreBelow, no_interference}
 use Rattle.program_equality.specs.program_equations.laws.StoresFit.{bottom}
-use Rattle.interfere_set.specs.laws.StoreLaws.{store_order, store_join}
 use Rattle.flow_graph.specs.tm_laid.Layouts.{LaidTree}
 use Rattle.flow_graph.specs.declared.operations.Operation.{Operation}
 use Rattle.flow_graph.specs.declared.operations.Operation.TheVariants as Op
@@ -102,10 +96,6 @@ module _ (b : Body) (c : EdgeCopy) where
   pub unadded_along : adds_along b.edges c ≡ false → (s : State) → added_along b c s ≡ no_interference
   unadded_along unset s = unadded (around_along b c) b.laid b.task (tests_pointer b.pointers op) c.answer op unset s
 
-no_entries : IsNested map_of.empty
-no_entries k =
-    subst (IsEntry (IsTable (IsTable IsValues (λ v. v ≡ no_value)) HasNoEntry) HasNoEntry) (sym (get-empty nat_cmp k)) tt
-
 -- what the marks of a body's edges say of its contributions
 pub adds_nothing : (x b : Body) → b ≡ x → (adds : List Bool) → adds ≡ map (adds_along x.edges) x.copies → (k : ℕ)
     → slice_index_or adds k true ≡ false → (s : State) → added_along b (copy_at b k) s ≡ no_interference
@@ -114,12 +104,6 @@ adds_nothing x b b-is adds is k unset s =
     (unadded_along x (copy_at x k)
     (mark_at (adds_along x.edges) x.copies k (sym (ap (λ ms. slice_index_or ms k true) is) ∙ unset)) s)
 
--- a store joined with nothing
-pub joined_nothing : (store : Interferences) → IsStore store → joined_store store no_interference ≡ store
-joined_nothing store is =
-    let none : IsStore no_interference = record { weak = no_entries; sync = no_entries } in
-    let below : IsStoreBelow no_interference store = (let b = bottom [] in b.below store is) in
-    let all = store_join.value store no_interference is none in
-    store_order.antisymmetric (joined_store store no_interference) store all is
-    (store_join.least store no_interference store is none is (store_order.reflexive store is) below)
-    (store_join.left store no_interference is none)
+-- a store without entries lies below each
+pub nothing_below : (store : Interferences) → IsStore store → IsStoreBelow no_interference store
+nothing_below store is = let b = bottom [] in b.below store is

@@ -7,7 +7,6 @@
 #![tactic(auto)]
 
 mod analyses;
-mod contributions;
 mod equality;
 mod kept;
 mod kept_passes;

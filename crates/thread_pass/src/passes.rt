@@ -7,11 +7,11 @@ ghost use Rattle.thread_pass.specs.Analyses.{IsLeastTable, IsStartTable};
 ghost use Rattle.thread_pass.specs.Kept.{AreVisitsOf, first_of};
 
 use crate::analyses::Analysis;
-use crate::contributions::joined_contributions;
 use crate::equality::is_same_program;
 use crate::kept::Kept;
 use crate::kept_passes::{first_pass, next_pass};
 use crate::store_uses::{StoreUses, store_uses};
+use edge_contributions::joined_contributions;
 use interfere_set::Store;
 use least_tables::{Pass, Settled, least_table, settle};
 use program_systems::{BodyState, BodySystem, body_over_store};

@@ -1,8 +1,9 @@
-use Rattle.std.proofs.Common.{◌<◌, length, None, IfSome, subst, sym, ap, ◌∙◌}
+use Rattle.std.proofs.Common.{[], ◌<◌, length, None, IfSome, subst, sym, ap, ◌∙◌}
 use Rattle.std.proofs.lemmas.List.{get_or_default}
 use Rattle.shared_programs.specs.body_systems.Systems.{body_of, system_of}
 use Rattle.table_covers.specs.Solutions.{at, IsFirstUncovered}
 use Rattle.shared_programs.specs.program_equations.Programs.{body_at}
+use Rattle.shared_programs.specs.program_equations.laws.StoresFit.{bottom}
 use Rattle.shared_programs.specs.program_equations.Systems.{states, FitsBody}
 use Rattle.shared_programs.specs.program_systems.ProgramFacts.{program_with}
 use Rattle.post_recheck.specs.Pairs.{pair_of}
@@ -126,6 +127,9 @@ edge_number-requires c =
     (number_within (program_with program facts) (is program facts pair entries given) pair given.fits number lt
     (body_of over) over.entry over.store c.body_over_store-body.ensures.body system c.deref.result.now table
     c.in-Some.first h))
+
+pub joined_contributions-requires-clause-least : goal.joined_contributions-requires-clause-least
+joined_contributions-requires-clause-least c κs = λ store is. (let b = bottom [] in b.below store is)
 
 pub joined_contributions-requires-clause-nodes : goal.joined_contributions-requires-clause-nodes
 joined_contributions-requires-clause-nodes c κs =

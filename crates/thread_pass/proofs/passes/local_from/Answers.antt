@@ -14,7 +14,7 @@ use Rattle.program_equality.specs.program_equations.Programs.{body_at}
 use Rattle.thread_pass.specs.Analyses.{IsLeastTable, IsStartTable}
 use Rattle.thread_pass.specs.Kept.{AreVisitsOf}
 use Rattle.thread_pass.specs.StoreUses.{AreUses}
-use Rattle.thread_pass.proofs.Uses.{adds_nothing, joined_nothing}
+use Rattle.thread_pass.proofs.Uses.{adds_nothing, nothing_below}
 use Rattle.thread_pass.proofs.TaskTables.{in_bodies, entry_fits, table_is, visits_are}
 use Rattle.thread_pass.proofs.StartTables.{start_nodes, is_started, is_pending, last_is_least, last_added}
 use Rattle.thread_pass.proofs.passes.local_from.Goals as goal
@@ -187,8 +187,8 @@ joined_contributions-requires-clause-adds c κs = λ k lt quiet s.
     adds_nothing (body_at p c.args.task) (body_of over) c.body_over_store-body.ensures.body c.deref-2.result.now
     (c.deref-2.ensures.value ∙ uses.adders) k quiet s
 
-pub joined_contributions-requires-clause-neutral : goal.joined_contributions-requires-clause-neutral
-joined_contributions-requires-clause-neutral c κs = joined_nothing
+pub joined_contributions-requires-clause-least : goal.joined_contributions-requires-clause-least
+joined_contributions-requires-clause-least c κs = nothing_below
 
 pub returns-clause-visits : goal.returns-clause-visits
 returns-clause-visits c =

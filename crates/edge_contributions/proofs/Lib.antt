@@ -1,0 +1,2 @@
+-- Upper bounds of lists that grow, and of joins (BoundsKept).
+pub mod BoundsKept
