@@ -1,5 +1,5 @@
 //! The offsets of pointers in objects, from their words.
-ghost use Rattle.std.specs.Prelude.{◌≡◌, ◌≢◌, ◌<◌, ◌≤◌, ◌^◌, [], ◌∷◌, drop, length, IfOk, IfSome, MatchOption};
+ghost use Rattle.std.specs.Prelude.{◌≡◌, ◌≢◌, ◌≤◌, ◌^◌, [], ◌∷◌, drop, length, IfOk, IfSome, MatchOption};
 ghost use Rattle.std.specs.FinMap.{entries};
 ghost use Rattle.strided_dom.specs.Progression.{empty};
 ghost use Rattle.certificate_words.specs.Words.{AreWords};
@@ -32,7 +32,7 @@ fn offsets_of(size: u32, set: &Strided) -> Option<Offsets>
 
 /// The size of an object.
 fn size_at(sizes: &[u32], object: i128) -> Option<(u32, u32)>
-    requires { length sizes.now < 2 ^ 32 }
+    requires { length sizes.now ≤ 2 ^ 32 }
     ensures { MatchOption result (IsNoObject sizes.now object) (λ found. IsObject sizes.now object found.0 found.1) }
 {
     match u32::try_from(object) {
@@ -48,7 +48,7 @@ fn size_at(sizes: &[u32], object: i128) -> Option<(u32, u32)>
 /// least.
 fn object_in(words: &[Word], sizes: &[u32], bound: u64) -> Option<(u32, Offsets)>
     requires lawful { AreWords (words_of words.now) }
-    requires few { length sizes.now < 2 ^ 32 }
+    requires few { length sizes.now ≤ 2 ^ 32 }
     ensures object { MatchOption result (HasNoEntry object_onto (FitsObject sizes.now) IsNoWord bound (words_of words.now))
         (λ found. IsNextEntry object_onto (FitsObject sizes.now) IsNoWord bound (words_of words.now)
         (found.0, found.1) (words_of (drop 4 words.now))) }
@@ -79,7 +79,7 @@ pub fn objects_in(
     sizes: &[u32],
 ) -> Result<Option<Keyed<Offsets>>, NoMemory>
     requires lawful { AreWords (words_of words.now) }
-    requires few { length sizes.now < 2 ^ 32 }
+    requires few { length sizes.now ≤ 2 ^ 32 }
     ensures { IfOk result (λ found. MatchOption found (HasNoObjects sizes.now (words_of words.now))
         (λ t. AreEntries object_onto (FitsObject sizes.now) IsNoWord (words_of words.now) (entries t) [])) }
 {
@@ -124,7 +124,7 @@ pub fn pointers_in(
     sizes: &[u32],
 ) -> Result<Option<PointerSet>, NoMemory>
     requires lawful { AreWords (words_of words.now) }
-    requires few { length sizes.now < 2 ^ 32 }
+    requires few { length sizes.now ≤ 2 ^ 32 }
     ensures { IfOk result (λ found. MatchOption found (HasNoPointers sizes.now (words_of words.now))
         (ArePointers sizes.now (words_of words.now))) }
 {
