@@ -15,8 +15,8 @@ use Rattle.source_replays.specs.declared.replays.Outcome.TheVariants as Outcomes
 use Rattle.source_replays.proofs.Alike.{long_ones_are_alike}
 use Rattle.program_streams.specs.declared.statuses.Status.{Status}
 use Rattle.program_streams.specs.declared.statuses.Status.TheVariants.{NoAlarm, Alarms, Refused, Usage, ReadFault, WriteFault, NoMemory}
-use Rattle.analyser.specs.Answers.{Reports, WritesReport, HistoryFor, HasAnswer, HasSummary, IsGenerated}
-use Rattle.analyser.specs.Answers.{IsReplayed, replay_status, report_lines}
+use Rattle.analyser.specs.Headline.{Reports, WritesReport, HistoryFor, HasAnswer, HasSummary, IsGenerated}
+use Rattle.analyser.specs.Headline.{IsReplayed, replay_status, report_lines}
 use Rattle.source_findings.specs.Findings.{HasFinding, Solves}
 use Rattle.source_findings.specs.Certificates.{HasCertificate, IsRefusedBy, ExceedsCertificate}
 use Rattle.source_findings.specs.declared.findings.Finding.{Finding}

@@ -8,11 +8,11 @@ use Rattle.std.proofs.lemmas.Bool.{and_parts, or_parts, leb-true, ltb-false, con
 use Rattle.cmd_words.specs.declared.arguments.Argument.{Argument}
 use Rattle.cmd_words.specs.declared.commands.Command.{Command}
 use Rattle.cmd_words.specs.declared.commands.Command.TheVariants.{Analyse, Replay, Generate, Demo}
-use Rattle.cmd_words.specs.declared.commands.Command.TheVariants.{Waits, Ranges, Certify}
+use Rattle.cmd_words.specs.declared.commands.Command.TheVariants.{Waits, Ranges, Certify, Check}
 use Rattle.cmd_words.specs.Words.{command_of, named_command, analyse_of, analyse_words, demo_of, demo_words, generate_of}
 use Rattle.cmd_words.specs.Words.{alone, arguments_of, workers_in, workers_by, from_one, size_in, workers_asked}
 use Rattle.cmd_words.specs.Words.{json_count, history_count}
-use Rattle.analyser.specs.Answers.{asks_workers as asks}
+use Rattle.analyser.specs.Headline.{asks_workers as asks}
 use Rattle.analyser.specs.reading.Manners.{AreFew, IsAlone, IsServed}
 
 -- none, or a number from 1 to 16
@@ -86,7 +86,8 @@ named_asks name words =
     (λ e. cond_both (bytes_eq name (codes "waits")) _ _ (IsServed AreFew) (λ e. alone_asks Waits tt words)
     (λ e. cond_both (bytes_eq name (codes "ranges")) _ _ (IsServed AreFew) (λ e. alone_asks Ranges tt words)
     (λ e. cond_both (bytes_eq name (codes "certify")) _ _ (IsServed AreFew) (λ e. alone_asks Certify tt words)
-    (λ e. tt)))))))
+    (λ e. cond_both (bytes_eq name (codes "check")) _ _ (IsServed AreFew) (λ e. alone_asks Check tt words)
+    (λ e. tt))))))))
 
 pub few_served : (words : List (List ℕ)) → IsServed AreFew (command_of words)
 few_served [] = tt
@@ -107,6 +108,7 @@ alone_served (Some (Demo w)) few e = (only_one w.workers few.0 e, refl)
 alone_served (Some Waits) few e = tt
 alone_served (Some Ranges) few e = tt
 alone_served (Some Certify) few e = tt
+alone_served (Some Check) few e = tt
 
 -- what serves all manners of a kind serves a command that asks in such a manner
 pub served_by : (P Q : ℕ → Bool → Type 0) (c : Option Command) → ((workers : ℕ) (history : Bool) → P workers history → Q workers history)
@@ -119,3 +121,4 @@ served_by P Q (Some (Demo w)) each h = each w.workers false h
 served_by P Q (Some Waits) each h = tt
 served_by P Q (Some Ranges) each h = tt
 served_by P Q (Some Certify) each h = tt
+served_by P Q (Some Check) each h = tt

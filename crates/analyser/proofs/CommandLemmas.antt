@@ -1,16 +1,17 @@
 -- From the answer of a command to the answer to words.
-use Rattle.std.proofs.Common.{◌≡◌, ℕ, List, [], length, refl, sym, ap, ◌∙◌, subst, inl, inr, arith}
+use Rattle.std.proofs.Common.{◌≡◌, ℕ, ◌<◌, ◌≤◌, List, [], ◌∷◌, length, refl, sym, ap, ◌∙◌, subst, inl, inr, arith}
 use Rattle.std.specs.Prelude.{◌⊎◌, Option, Some, None}
 use Rattle.cmd_words.specs.declared.commands.AnalyseWords.{AnalyseWords}
 use Rattle.cmd_words.specs.declared.commands.Command.{Command}
 use Rattle.cmd_words.specs.declared.commands.Command.TheVariants.{Analyse, Replay, Generate, Demo}
-use Rattle.cmd_words.specs.declared.commands.Command.TheVariants.{Waits, Ranges, Certify}
+use Rattle.cmd_words.specs.declared.commands.Command.TheVariants.{Waits, Ranges, Certify, Check}
 use Rattle.cmd_words.specs.declared.commands.DemoWords.{DemoWords}
 use Rattle.big_source.specs.GeneratedSources.{source_text}
 use Rattle.tm_terms.specs.declared.alarms.Alarm.{Alarm}
 use Rattle.tm_terms.specs.declared.refusals.Refusal.{Refusal}
 use Rattle.worker_solutions.specs.program_equations.Programs.{ProgramBodies}
 use Rattle.source_replays.specs.source_programs.Sources.{IsAccepted, IsRefused}
+use Rattle.source_replays.specs.source_programs.LaidSources.{longest_source}
 use Rattle.source_replays.proofs.low.source_programs.OneSource.{none_is_both, one_program}
 use Rattle.source_replays.specs.declared.replays.Outcome.{Outcome}
 use Rattle.source_replays.specs.declared.replays.Outcome.TheVariants as Outcomes
@@ -18,12 +19,20 @@ use Rattle.source_replays.specs.Replays.{IsRefusedReplay, HasReplay, TellsRefusa
 use Rattle.source_replays.proofs.Alike.{none_is_both as no_replay}
 use Rattle.program_streams.specs.declared.statuses.Status.{Status}
 use Rattle.program_streams.specs.declared.statuses.Status.TheVariants.{NoAlarm, Alarms, Refused, Usage, ReadFault, WriteFault, NoMemory}
-use Rattle.analyser.specs.Answers.{Reports, WritesReport, HasAnswer, HasSummary, IsGenerated, SaysUsage, CommandGives}
-use Rattle.analyser.specs.Answers.{IsReplayed, AsksForRun, replay_status}
-use Rattle.analyser.specs.Answers.{IsCommand, Reads, AnswersFor, Accepts, Refuses}
-use Rattle.analyser.specs.Answers.{HasShortText, IsNotCertified, is_refused, has_long_text}
+use Rattle.analyser.specs.Headline.{Reports, WritesReport, HasAnswer, HasSummary, IsGenerated, SaysUsage, CommandGives}
+use Rattle.analyser.specs.Headline.{IsReplayed, AsksForRun, replay_status}
+use Rattle.analyser.specs.Headline.{IsCommand, Reads, AnswersFor, Accepts, Refuses, longest_of}
+use Rattle.analyser.specs.Headline.{HasShortText, AsksForCheck, IsNotCertified, is_refused, has_long_text}
+use Rattle.analyser.specs.Headline.{IsNotChecked, is_too_long, is_none, is_of_refused}
 use Rattle.worker_solutions.specs.program_solutions.LeastReports.{IsLeastPair}
 use Rattle.source_findings.specs.Certificates.{HasCertificate, WritesCertificate, IsRefusedBy, ExceedsCertificate}
+use Rattle.source_findings.specs.certificate_check.certificate_texts.Limits.{certificate_limit}
+use Rattle.source_findings.specs.certificate_check.VerdictTexts.{HasChecked, certified_status, verdict_status}
+use Rattle.source_findings.specs.certificate_check.Laws.{TestsPair}
+use Rattle.source_findings.specs.certificate_check.declared.verdicts.Verdict.{Verdict}
+use Rattle.source_findings.specs.certificate_check.declared.verdicts.Verdict.TheVariants as Verdicts
+use Rattle.source_findings.proofs.low.certificate_check.Reached.{certificates_are_tested, long_refused, none_refused}
+use Rattle.source_findings.proofs.low.certificate_check.Reached.{source_refused}
 use Rattle.program_streams.specs.Taken.{Answers, TakesNoMore, Told}
 use Rattle.source_findings.specs.Findings.{HasFinding, Solves}
 use Rattle.source_findings.specs.declared.findings.Finding.{Finding}
@@ -132,8 +141,22 @@ pub answer_of_certify : (c : Option Command) → c ≡ Some Certify → (bytes :
     → HasCertificate bytes status text → CommandGives c bytes status text
 answer_of_certify c e bytes status text h = subst (λ d. CommandGives d bytes status text) (sym e) h
 
+pub answer_of_check : (c : Option Command) → c ≡ Some Check → (bytes : List ℕ) (status : Status) (text : List ℕ)
+    → HasChecked bytes status text → CommandGives c bytes status text
+answer_of_check c e bytes status text h = subst (λ d. CommandGives d bytes status text) (sym e) h
+
 pub reads_certify : (c : Option Command) → c ≡ Some Certify → Reads c
 reads_certify c e = subst Reads (sym e) tt
+
+pub reads_check : (c : Option Command) → c ≡ Some Check → Reads c
+reads_check c e = subst Reads (sym e) tt
+
+-- each of these but `check` reads no more than a source may have
+pub longest_of_check : (c : Option Command) → c ≡ Some Check → certificate_limit ≡ longest_of c
+longest_of_check c e = sym (ap longest_of e)
+
+pub longest_of_other : (c d : Option Command) → c ≡ d → longest_of d ≡ longest_source → longest_source ≡ longest_of c
+longest_of_other c d e f = sym (ap longest_of e ∙ f)
 
 pub reads_waits : (c : Option Command) → c ≡ Some Waits → Reads c
 reads_waits c e = subst Reads (sym e) tt
@@ -176,6 +199,18 @@ never_usage Outcomes.Clean e = cc
 never_usage Outcomes.Found e = cc
 never_usage Outcomes.Refused e = cc
 
+report_never_usage : (report : List Alarm) → Usage ≡ certified_status report → ⊥
+report_never_usage [] e = cc
+report_never_usage (alarm ∷ report) e = cc
+
+verdict_never_usage : (v : Verdict) → Usage ≡ verdict_status v → ⊥
+verdict_never_usage Verdicts.TooLong e = cc
+verdict_never_usage Verdicts.NoCertificate e = cc
+verdict_never_usage (Verdicts.Refused refusal) e = cc
+verdict_never_usage (Verdicts.Uncovered body edge) e = cc
+verdict_never_usage Verdicts.UncoveredStore e = cc
+verdict_never_usage (Verdicts.Certified report) e = report_never_usage report.alarms.items e
+
 no_usage : (c : Option Command) → IsCommand c → (bytes text : List ℕ) → CommandGives c bytes Usage text → ⊥
 no_usage None is bytes text h = is
 no_usage (Some (Analyse w)) is bytes text h = h
@@ -185,6 +220,7 @@ no_usage (Some (Demo w)) is bytes text h = h
 no_usage (Some Waits) is bytes text h = h
 no_usage (Some Ranges) is bytes text h = h
 no_usage (Some Certify) is bytes text h = h
+no_usage (Some Check) is bytes text h = verdict_never_usage h.verdict h.comes
 
 -- words that are no command are answered with the usage line
 only_usage : (c : Option Command) → (IsCommand c → ⊥) → (bytes : List ℕ) (status : Status) (text : List ℕ)
@@ -197,6 +233,7 @@ only_usage (Some (Demo w)) none bytes status text h = absurd (none tt)
 only_usage (Some Waits) none bytes status text h = absurd (none tt)
 only_usage (Some Ranges) none bytes status text h = absurd (none tt)
 only_usage (Some Certify) none bytes status text h = absurd (none tt)
+only_usage (Some Check) none bytes status text h = absurd (none tt)
 
 -- what reads is a command
 reads_is : (c : Option Command) → Reads c → IsCommand c
@@ -208,6 +245,7 @@ reads_is (Some (Demo w)) r = absurd r
 reads_is (Some Waits) r = r
 reads_is (Some Ranges) r = r
 reads_is (Some Certify) r = r
+reads_is (Some Check) r = r
 
 sink_stop : (status : Status) → IsStop status → (status ≡ ReadFault → ⊥) → IsSinkStop status
 sink_stop NoAlarm s other = absurd s
@@ -352,6 +390,32 @@ refused_certificate bytes r ReadFault text h = absurd h
 refused_certificate bytes r WriteFault text h = absurd h
 refused_certificate bytes r NoMemory text h = absurd h
 
+-- the same of checks
+report_reported : (report : List Alarm) → IsReported (certified_status report)
+report_reported [] = inl refl
+report_reported (alarm ∷ report) = inr refl
+
+tested_reported : (v : Verdict) → TestsPair v → IsReported (verdict_status v)
+tested_reported Verdicts.TooLong h = absurd h
+tested_reported Verdicts.NoCertificate h = absurd h
+tested_reported (Verdicts.Refused refusal) h = absurd h
+tested_reported (Verdicts.Uncovered body edge) h = inr refl
+tested_reported Verdicts.UncoveredStore h = inr refl
+tested_reported (Verdicts.Certified report) h = report_reported report.alarms.items
+
+check_comes : (bytes : List ℕ) → AsksForCheck bytes → (status : Status) (text : List ℕ) → HasChecked bytes status text
+    → IsReported status
+check_comes bytes a status text h =
+    subst IsReported (sym h.comes)
+    (tested_reported h.verdict (certificates_are_tested bytes a.source a.program a.pair a.certificate h.verdict h.is))
+
+check_refused : (bytes : List ℕ) → IsNotChecked bytes → (status : Status) (text : List ℕ) → HasChecked bytes status text
+    → status ≡ Refused
+check_refused bytes (is_too_long long) status text h = h.comes ∙ long_refused bytes long h.verdict h.is
+check_refused bytes (is_none short none) status text h = h.comes ∙ none_refused bytes short none h.verdict h.is
+check_refused bytes (is_of_refused source told refusal short has r) status text h =
+    h.comes ∙ source_refused bytes source told refusal short has r h.verdict h.is
+
 -- ## Commands that accept or refuse
 
 command_reports : (c : Option Command) (left : Option (List ℕ)) (bytes known : List ℕ) → AnswersFor c left bytes
@@ -376,6 +440,9 @@ command_reports (Some Ranges) left bytes known e a t status text h =
 command_reports (Some Certify) left bytes known e a t status text h =
     let same : bytes ≡ known = told_bytes left bytes known e t in
     certificate_comes known (subst HasShortText same a) status text h
+command_reports (Some Check) left bytes known e a t status text h =
+    let same : bytes ≡ known = told_bytes left bytes known e t in
+    check_comes known (subst AsksForCheck same a) status text h
 
 command_refuses : (c : Option Command) (left : Option (List ℕ)) (bytes known : List ℕ) → AnswersFor c left bytes
     → Refuses c bytes → Told left known → (status : Status) (text : List ℕ) → CommandGives c known status text
@@ -399,6 +466,9 @@ command_refuses (Some Ranges) left bytes known e r t status text h =
 command_refuses (Some Certify) left bytes known e r t status text h =
     let same : bytes ≡ known = told_bytes left bytes known e t in
     refused_certificate known (subst IsNotCertified same r) status text h
+command_refuses (Some Check) left bytes known e r t status text h =
+    let same : bytes ≡ known = told_bytes left bytes known e t in
+    check_refused known (subst IsNotChecked same r) status text h
 
 -- ## The clauses of the top call
 

@@ -5,7 +5,7 @@ use Rattle.store_core.specs.Histories.{Past}
 use Rattle.interfere_set.specs.Stores.{Interferences}
 use Rattle.worker_solutions.specs.program_equations.Programs.{ProgramBodies}
 use Rattle.worker_solutions.specs.QuietHistories.{IsQuietHistory}
-use Rattle.analyser.specs.Answers.{HistoryFor}
+use Rattle.analyser.specs.Headline.{HistoryFor}
 use Rattle.analyser.specs.reading.Replies.{AreLines}
 
 module _ (past : Past Interferences) (lines : List ℕ) where

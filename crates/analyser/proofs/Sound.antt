@@ -4,18 +4,13 @@ use Rattle.tm_terms.specs.declared.alarms.Alarm.{Alarm}
 use Rattle.worker_solutions.specs.program_equations.Programs.{ProgramBodies}
 use Rattle.worker_solutions.specs.program_solutions.LeastReports.{IsLeastReport}
 use Rattle.source_replays.specs.source_programs.Sources.{IsAccepted}
-use Rattle.source_replays.proofs.low.source_programs.Accepted.{accepted_is_program}
-use Rattle.source_findings.proofs.low.sound_core.Alarmed.{errors_alarm}
-use Rattle.source_findings.proofs.Sourced.{comes_from}
+use Rattle.source_findings.proofs.low.certificate_check.Sourced.{lists_all as solution_lists_all}
 use Rattle.source_findings.specs.sound_core.Soundness.{ListsAll}
 
 module _ (given bytes : List ℕ) (p : ProgramBodies) (a : IsAccepted given bytes p) where
   pub lists_all : length a.laid.objects ≤ 2 ^ 32 → (report : List Alarm) → IsLeastReport p report
       → ListsAll a.laid report
-  lists_all few report h class place occurs =
+  lists_all few report h =
       let pair = h.pair in
       let least = h.least in
-      let is = h.exact in
-      (is.exact (record { place = place; class = class })).1
-      (errors_alarm a.laid p (comes_from given bytes p a) (accepted_is_program given bytes p a) few pair.tables pair.store least.solution class
-      place occurs)
+      solution_lists_all given bytes p a few pair.tables pair.store least.solution report h.exact

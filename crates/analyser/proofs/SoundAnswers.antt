@@ -14,7 +14,7 @@ use Rattle.tm_terms.specs.declared.alarms.Alarm.{Alarm}
 use Rattle.tm_terms.specs.Texts.{report_text}
 use Rattle.program_streams.specs.declared.statuses.Status.{Status}
 use Rattle.program_streams.specs.declared.statuses.Status.TheVariants.{NoAlarm, Alarms, Refused, Usage, ReadFault, WriteFault, NoMemory}
-use Rattle.analyser.specs.Answers.{CommandGives, MayGive, WritesReport, report_lines}
+use Rattle.analyser.specs.Headline.{CommandGives, MayGive, WritesReport, report_lines}
 use Rattle.analyser.specs.Soundness.{AsksForReport, IsSound}
 use Rattle.program_streams.specs.Statuses.{IsReported, IsWhole}
 use Rattle.program_streams.specs.Taken.{Answers}

@@ -4,8 +4,8 @@ ghost use Rattle.std.specs.Prelude.{◌≡◌, ◌≢◌, false};
 ghost use Rattle.tm_io.specs.Faults.{Rose};
 ghost use Rattle.cmd_words.specs.Words.{command_of, texts_of};
 ghost use Rattle.big_source.specs.GeneratedSources.{source_text};
-ghost use Rattle.analyser.specs.Answers.{CommandGives, HasAnswer, HasSummary, IsGenerated};
-ghost use Rattle.analyser.specs.Answers.{IsReplayed, MayGive, Reads, SaysUsage};
+ghost use Rattle.analyser.specs.Headline.{CommandGives, HasAnswer, HasSummary, IsGenerated};
+ghost use Rattle.analyser.specs.Headline.{IsReplayed, MayGive, Reads, SaysUsage, longest_of};
 ghost use Rattle.source_replays.specs.source_programs.LaidSources.{longest_source};
 ghost use Rattle.source_findings.specs.Findings.{HasFinding};
 ghost use Rattle.source_findings.specs.Certificates.{HasCertificate};
@@ -19,7 +19,7 @@ use crate::replies::{answer_to, generated, replayed, summarised};
 use crate::solvers::Solver;
 use cmd_words::{AnalyseWords, Command, DemoWords, read_words};
 use program_streams::{InputError, Status, read_whole, send};
-use source_findings::{Finding, certificate_of, finding_of};
+use source_findings::{Finding, certificate_of, check_source, finding_of};
 use std::alloc::Global as Heap;
 use tm_io::{Sink, Source};
 use tm_lattice::NoMemory;
@@ -130,8 +130,8 @@ fn replay_source<S: Source, K: Sink>(alloc: Heap, source: &mut S, out: &mut K) -
     }
 }
 
-/// The commands `waits` and `ranges`: reads the source to its end, or past the limit, and writes what its least solution
-/// tells, or its refusal.
+/// The commands `waits` and `ranges`: reads the source to its end, or past the limit, and writes what its least
+/// solution tells, or its refusal.
 fn solve_source<S: Source, K: Sink>(
     alloc: Heap,
     finding: Finding,
@@ -197,7 +197,8 @@ fn answer_command<V: Solver, S: Source, K: Sink>(
     ensures headline { IsWhole result →
         Answers (CommandGives command) (S.left source.old) (K.taken out.old) (K.taken out.new) result }
     ensures front { TakesNoMore (CommandGives command) (S.left source.old) (K.taken out.old) (K.taken out.new) }
-    ensures all { Reads command → IsWhole result → IsReadOut longest_source (S.left source.old) (S.left source.new) }
+    ensures all { Reads command → IsWhole result →
+        IsReadOut (longest_of command) (S.left source.old) (S.left source.new) }
     ensures unread { (Reads command → ⊥) → source.new ≡ source.old }
     ensures read { result ≡ Status.ReadFault → Reads command
         × Rose (S.faults source.old) (S.faults source.new) × (K.taken out.new ≡ K.taken out.old) }
@@ -214,6 +215,7 @@ fn answer_command<V: Solver, S: Source, K: Sink>(
         Some(Command::Waits) => solve_source(alloc, Finding::Waits, source, out),
         Some(Command::Ranges) => solve_source(alloc, Finding::Ranges, source, out),
         Some(Command::Certify) => certify_source(alloc, source, out),
+        Some(Command::Check) => check_source(alloc, source, out),
     }
 }
 
@@ -230,7 +232,7 @@ pub(crate) fn answer_words<V: Solver, S: Source, K: Sink>(
         Answers (MayGive (texts_of words.now)) (S.left source.old) (K.taken out.old) (K.taken out.new) result }
     ensures front { TakesNoMore (MayGive (texts_of words.now)) (S.left source.old) (K.taken out.old) (K.taken out.new) }
     ensures all { Reads (command_of (texts_of words.now)) → IsWhole result →
-        IsReadOut longest_source (S.left source.old) (S.left source.new) }
+        IsReadOut (longest_of (command_of (texts_of words.now))) (S.left source.old) (S.left source.new) }
     ensures unread { (Reads (command_of (texts_of words.now)) → ⊥) → source.new ≡ source.old }
     ensures read { result ≡ Status.ReadFault → Reads (command_of (texts_of words.now))
         × Rose (S.faults source.old) (S.faults source.new) × (K.taken out.new ≡ K.taken out.old) }

@@ -3,8 +3,8 @@
 ghost use Rattle.std.specs.Prelude.{◌≡◌, ◌++◌, IfOk, false, string_bytes};
 ghost use Rattle.big_source.specs.GeneratedSources.{source_text, summary_text};
 ghost use Rattle.tm_terms.specs.Texts.{refusal_text};
-ghost use Rattle.analyser.specs.Answers.{HasAnswer, HasSummary, IsGenerated, IsReplayed, replay_status};
-ghost use Rattle.analyser.specs.Answers.{report_lines};
+ghost use Rattle.analyser.specs.Headline.{HasAnswer, HasSummary, IsGenerated, IsReplayed, replay_status};
+ghost use Rattle.analyser.specs.Headline.{report_lines};
 ghost use Rattle.analyser.specs.reading.Replies.{IsFound, TellsAlarms};
 
 use crate::solvers::{Manner, Solved, Solver};

@@ -3,11 +3,11 @@
 ghost use Rattle.std.specs.Prelude.{◌≡◌, ◌≢◌, ◌⊎◌, ℕ, List, IfOk, false};
 ghost use Rattle.tm_io.specs.Faults.{Rose};
 ghost use Rattle.cmd_words.specs.Words.{command_of, texts_of};
-ghost use Rattle.analyser.specs.Answers.{Accepts, AnswersFor, IsCommand, MayGive, Reads, Refuses, asks_workers};
+ghost use Rattle.analyser.specs.Headline.{Accepts, AnswersFor, IsCommand, MayGive, Reads, Refuses};
+ghost use Rattle.analyser.specs.Headline.{asks_workers, longest_of};
 ghost use Rattle.program_streams.specs.Statuses.{IsReported, IsWhole};
 ghost use Rattle.program_streams.specs.Streams.{IsReadOut};
 ghost use Rattle.program_streams.specs.Taken.{Answers, TakesNoMore};
-ghost use Rattle.source_replays.specs.source_programs.LaidSources.{longest_source};
 ghost use Rattle.worker_solutions.specs.program_systems.ReadPrograms.{program_of};
 ghost use Rattle.analyser.specs.Soundness.{AsksForReport, IsSound};
 ghost use Rattle.analyser.specs.Statuses.{IsSinkStop, IsStop};
@@ -58,7 +58,7 @@ pub fn analyse<R: Threads + Wait + Sync, S: Source, K: Sink, G: Gate>(
 
     // A command that reads the source reads all that it has left, unless it is too long.
     ensures all { Reads (command_of (texts_of words.now)) → IsWhole result →
-        IsReadOut longest_source (S.left source.old) (S.left source.new) }
+        IsReadOut (longest_of (command_of (texts_of words.now))) (S.left source.old) (S.left source.new) }
 
     // Usage comes exactly where the words are no command. Where they are no command that reads, nothing is read.
     ensures words { IsCommand (command_of (texts_of words.now)) → result ≢ Status.Usage }
@@ -124,7 +124,7 @@ pub fn analyse_alone<S: Source, K: Sink>(
         Answers IsSound (S.left source.old) (K.taken out.old) (K.taken out.new) result }
     ensures front { TakesNoMore (MayGive (texts_of words.now)) (S.left source.old) (K.taken out.old) (K.taken out.new) }
     ensures all { Reads (command_of (texts_of words.now)) → IsWhole result →
-        IsReadOut longest_source (S.left source.old) (S.left source.new) }
+        IsReadOut (longest_of (command_of (texts_of words.now))) (S.left source.old) (S.left source.new) }
     ensures words { IsCommand (command_of (texts_of words.now)) → result ≢ Status.Usage }
     ensures usage { (IsCommand (command_of (texts_of words.now)) → ⊥) → (result ≡ Status.Usage) ⊎ IsSinkStop result }
     ensures unread { (Reads (command_of (texts_of words.now)) → ⊥) → source.new ≡ source.old }

@@ -5,7 +5,7 @@ use Rattle.std.specs.List.{filter_map}
 use Rattle.std.specs.Str.{bytes_eq}
 use Rattle.cmd_words.specs.declared.arguments.Argument.{Argument}
 use Rattle.cmd_words.specs.declared.commands.Command.{Command}
-use Rattle.cmd_words.specs.declared.commands.Command.TheVariants.{Replay, Generate, Waits, Ranges, Certify}
+use Rattle.cmd_words.specs.declared.commands.Command.TheVariants.{Replay, Generate, Waits, Ranges, Certify, Check}
 use Rattle.cmd_words.specs.Words.{IsWithin, analyse_of, analyse_words, arguments_of, demo_of, demo_words, from_one, generate_of, named_command, numbers_in, alone, size_by, size_in, workers_asked, workers_by, workers_in}
 
 from_one_within : (most n : ℕ) → IfSome (from_one most n) (λ m. (1 ≤ m) × (m ≤ most))
@@ -84,7 +84,8 @@ named_within name words =
     (chosen_within (bytes_eq name (codes "demo")) _ _ (read_within demo_of demo_within (arguments_of words))
     (chosen_within (bytes_eq name (codes "waits")) _ _ (alone_within Waits tt words)
     (chosen_within (bytes_eq name (codes "ranges")) _ _ (alone_within Ranges tt words)
-    (chosen_within (bytes_eq name (codes "certify")) _ None (alone_within Certify tt words) tt))))))
+    (chosen_within (bytes_eq name (codes "certify")) _ _ (alone_within Certify tt words)
+    (chosen_within (bytes_eq name (codes "check")) _ None (alone_within Check tt words) tt)))))))
 
 pub is_within : (name : List ℕ) (words : List (List ℕ)) (command : Option Command) → command ≡ named_command name words
     → IfSome command IsWithin

@@ -6,6 +6,7 @@
 --     waits     nothing more
 --     ranges    nothing more
 --     certify   nothing more
+--     check     nothing more
 --     generate  one number from 1 to 400
 --     demo      --workers N or --workers=N once at most; one number from 1 to 400; in any order
 --
@@ -21,7 +22,7 @@ use Rattle.cmd_words.specs.declared.arguments.Argument.{Argument}
 use Rattle.cmd_words.specs.declared.arguments.Argument.TheVariants.{Workers, Json, History, Number}
 use Rattle.cmd_words.specs.declared.commands.Command.{Command}
 use Rattle.cmd_words.specs.declared.commands.Command.TheVariants.{Analyse, Replay, Generate, Demo}
-use Rattle.cmd_words.specs.declared.commands.Command.TheVariants.{Waits, Ranges, Certify}
+use Rattle.cmd_words.specs.declared.commands.Command.TheVariants.{Waits, Ranges, Certify, Check}
 use Rattle.cmd_words.specs.Numbers.{number_of}
 
 -- the words as lists of bytes
@@ -178,6 +179,7 @@ named_command name words =
     else if bytes_eq name (codes "waits") then alone Waits words
     else if bytes_eq name (codes "ranges") then alone Ranges words
     else if bytes_eq name (codes "certify") then alone Certify words
+    else if bytes_eq name (codes "check") then alone Check words
     else None
 
 -- the command that words are, if they are one
@@ -194,3 +196,4 @@ IsWithin (Demo asked) = ((1 ≤ asked.workers) × (asked.workers ≤ 16)) × ((1
 IsWithin Waits = Unit {0}
 IsWithin Ranges = Unit {0}
 IsWithin Certify = Unit {0}
+IsWithin Check = Unit {0}

@@ -73,4 +73,6 @@ pub enum Command {
     Ranges,
     /// A certificate of a source: its text with its least solution.
     Certify,
+    /// Whether a text is a certificate, and what it certifies.
+    Check,
 }

@@ -174,6 +174,8 @@ fn read_named(alloc: Global, name: &str, words: &[String]) -> Result<Option<Comm
         Ok(alone(Command::Ranges, words))
     } else if name == "certify" {
         Ok(alone(Command::Certify, words))
+    } else if name == "check" {
+        Ok(alone(Command::Check, words))
     } else {
         Ok(None)
     }

@@ -8,18 +8,18 @@ use Rattle.program_solutions.specs.program_equations.Programs.{ProgramBodies, Is
 use Rattle.program_solutions.specs.program_equations.Readings.{read_layout}
 use Rattle.program_solutions.specs.post_recheck.Pairs.{Pair}
 use Rattle.program_solutions.specs.LeastReports.{IsLeastPair}
-use Rattle.source_programs.specs.Sources.{IsAccepted}
-use Rattle.source_programs.proofs.Accepted.{accepted_is_program}
-use Rattle.sound_core.proofs.Rings.{ring_listed}
-use Rattle.sound_core.proofs.Within.{within}
-use Rattle.sound_core.proofs.Reached.{never_listed}
+use Rattle.certificate_check.specs.source_programs.Sources.{IsAccepted}
+use Rattle.certificate_check.proofs.low.source_programs.Accepted.{accepted_is_program}
+use Rattle.certificate_check.proofs.low.sound_core.Rings.{ring_listed}
+use Rattle.certificate_check.proofs.low.sound_core.Within.{within}
+use Rattle.certificate_check.proofs.low.sound_core.Reached.{never_listed}
 use Rattle.program_streams.specs.declared.statuses.Status.{Status}
 use Rattle.source_findings.specs.Findings.{HasFinding, Solves, TellsWaits, TellsRanges}
 use Rattle.source_findings.specs.reading.Tellings.{TellsOf, TellsWaitsOf, TellsRangesOf, bounds_line_of}
 use Rattle.source_findings.specs.declared.findings.Finding.{Finding}
 use Rattle.source_findings.specs.declared.findings.Finding.TheVariants.{Waits, Ranges}
 use Rattle.source_findings.proofs.Solved.{found}
-use Rattle.source_findings.proofs.Sourced.{comes_from}
+use Rattle.certificate_check.proofs.Sourced.{comes_from}
 
 module _ (bytes : List ℕ) (p : ProgramBodies) (a : IsAccepted [] bytes p) (few : length a.laid.objects ≤ 2 ^ 32)
     (pair : Pair) (least : IsLeastPair p pair) where

@@ -1,2 +1,2 @@
 -- The crates below, passed on to those above.
-pub mod sound_core
+pub mod certificate_check

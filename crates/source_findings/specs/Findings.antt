@@ -8,8 +8,8 @@ use Rattle.tm_terms.specs.Spelling.{text_of}
 use Rattle.tm_terms.specs.Texts.{refusal_text}
 use Rattle.solution_lines.specs.SolutionTexts.{waits_text, range_line, dead_text}
 use Rattle.program_solutions.specs.tm_laid.Layouts.{LaidTree, object_at}
-use Rattle.sound_core.specs.concrete_steps.Worlds.{World, next_at}
-use Rattle.sound_core.specs.concrete_steps.Occurring.{IsReached}
+use Rattle.certificate_check.specs.sound_core.concrete_steps.Worlds.{World, next_at}
+use Rattle.certificate_check.specs.sound_core.concrete_steps.Occurring.{IsReached}
 use Rattle.program_solutions.specs.program_equations.Programs.{ProgramBodies}
 use Rattle.program_solutions.specs.program_equations.Solutions.{tables_of}
 use Rattle.program_solutions.specs.post_recheck.Pairs.{Pair}
@@ -18,10 +18,10 @@ use Rattle.lock_waits.specs.Waits.{AreWaits}
 use Rattle.value_ranges.specs.declared.object_bounds.ObjectBounds.{ObjectBounds}
 use Rattle.value_ranges.specs.Ranges.{AreRanges}
 use Rattle.value_ranges.specs.Places.{AreDead}
-use Rattle.sound_core.specs.Rings.{IsRing, AllLockAt}
-use Rattle.sound_core.specs.Ranges.{HoldsNumber, IsWithin}
-use Rattle.sound_core.specs.Places.{ActsAt, MayAct}
-use Rattle.source_programs.specs.Sources.{IsAccepted, IsRefused}
+use Rattle.certificate_check.specs.sound_core.Rings.{IsRing, AllLockAt}
+use Rattle.certificate_check.specs.sound_core.Ranges.{HoldsNumber, IsWithin}
+use Rattle.certificate_check.specs.sound_core.Places.{ActsAt, MayAct}
+use Rattle.certificate_check.specs.source_programs.Sources.{IsAccepted, IsRefused}
 use Rattle.program_streams.specs.declared.statuses.Status.{Status}
 use Rattle.program_streams.specs.declared.statuses.Status.TheVariants.{NoAlarm, Alarms, Refused, Usage, ReadFault}
 use Rattle.program_streams.specs.declared.statuses.Status.TheVariants.{WriteFault, NoMemory}

@@ -1,8 +1,8 @@
 -- What a source is answered, and what that promises of its runs (Findings); its certificate (Certificates); what the
 -- code tells of a solution (reading).
 -- The crates below, passed on to those above.
-pub use Rattle.certificate_texts.specs as certificate_texts
-pub use Rattle.sound_core.specs as sound_core
+pub use Rattle.certificate_check.specs as certificate_check
+pub use Rattle.certificate_check.specs.sound_core
 pub mod Findings
 pub mod Certificates
 pub mod reading

@@ -1,29 +1,30 @@
 //! The answer of `certify`: a source with its least solution, as a certificate.
 
 ghost use Rattle.std.specs.Prelude.{◌≡◌, IfOk};
-ghost use Rattle.source_findings.specs.Certificates.{HasCertificate, too_long_line};
+ghost use Rattle.program_solutions.specs.program_systems.ReadPrograms.{program_of};
+ghost use Rattle.source_findings.specs.Certificates.{HasCertificate};
 ghost use Rattle.source_findings.specs.reading.Tellings.{TellsCertificateOf};
 
 use crate::findings::{FindingReply, refused};
-use certificate_texts::{Written, written};
+use certificate_check::{Written, numbers_are_small, source_program, too_long_line, written};
 use program_solutions::{Analysis, Solution, solution};
 use program_streams::Status;
-use source_programs::source_program;
 use std::alloc::Global as Heap;
 use tm_lattice::NoMemory;
 use tm_terms::Fail;
 
-/// The line of a certificate that is too long.
-fn too_long_line() -> &'static str
-    ensures { result.now ≡ too_long_line }
-{
-    "refused Limit certificate 67108864\n"
-}
-
 /// The certificate of a source and its least solution, or that it is too long.
-fn certificate_reply(alloc: Heap, bytes: &[u8], found: &Solution) -> Result<FindingReply, NoMemory>
-    ensures { IfOk result (λ reply. TellsCertificateOf bytes.now found.now reply.status reply.text.items) }
+fn certificate_reply(
+    alloc: Heap,
+    bytes: &[u8],
+    analysis: &Analysis,
+    found: &Solution,
+) -> Result<FindingReply, NoMemory>
+    ensures { IfOk result (λ reply.
+        TellsCertificateOf (program_of analysis.now) bytes.now found.now reply.status reply.text.items) }
 {
+    let (program, facts) = analysis.parts();
+    numbers_are_small(program, facts);
     match written(alloc, bytes, found.tables(), found.store())? {
         Written::Text(text) => Ok(FindingReply {
             status: Status::NoAlarm,
@@ -45,7 +46,7 @@ pub fn certificate_of(alloc: Heap, bytes: &[u8]) -> Result<FindingReply, NoMemor
         Ok(program) => {
             let analysis = Analysis::new(alloc, program)?;
             let found = solution(alloc, &analysis)?;
-            certificate_reply(alloc, bytes, &found)
+            certificate_reply(alloc, bytes, &analysis, &found)
         }
         Err(Fail::Refused(refusal)) => refused(alloc, refusal),
         Err(Fail::NoMemory) => Err(NoMemory),

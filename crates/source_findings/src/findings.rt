@@ -8,11 +8,11 @@ ghost use Rattle.program_solutions.specs.LeastReports.{IsLeastPair};
 ghost use Rattle.source_findings.specs.Findings.{HasFinding, waits_status};
 ghost use Rattle.source_findings.specs.reading.Tellings.{TellsOf, TellsRangesOf, TellsWaitsOf, bounds_line_of};
 
+use certificate_check::source_program;
 use lock_waits::circular;
 use program_solutions::{Analysis, Solution, solution};
 use program_streams::Status;
 use solution_lines::{push_dead_places, push_range, waits_text};
-use source_programs::source_program;
 use std::alloc::Global as Heap;
 use tm_laid::LaidObject;
 use tm_lattice::NoMemory;

@@ -6,7 +6,7 @@ use std::process::Abort;
 use std::test::Fail;
 
 // Words with a comma between each and the next, and the command in one line.
-static WORDS: [(&str, &str); 78] = [
+static WORDS: [(&str, &str); 82] = [
     // No command.
     ("", "usage"),
     (",analyse", "usage"),
@@ -15,7 +15,7 @@ static WORDS: [(&str, &str); 78] = [
     ("analys", "usage"),
     ("--json,analyse", "usage"),
     ("Certify", "usage"),
-    ("check", "usage"),
+    ("checks", "usage"),
     ("--help", "usage"),
     ("--version", "usage"),
     ("--", "usage"),
@@ -92,6 +92,10 @@ static WORDS: [(&str, &str); 78] = [
     ("certify,--json", "usage"),
     ("certify,17", "usage"),
     ("certify,", "usage"),
+    ("check", "check"),
+    ("check,--", "usage"),
+    ("check,check", "usage"),
+    ("check,", "usage"),
 ];
 
 // The commands with a number.
@@ -162,6 +166,7 @@ fn line_of(alloc: Global, command: Option<Command>) -> Result<String, Fail> {
         Some(Command::Waits) => Ok(String::from_str(alloc, "waits")?),
         Some(Command::Ranges) => Ok(String::from_str(alloc, "ranges")?),
         Some(Command::Certify) => Ok(String::from_str(alloc, "certify")?),
+        Some(Command::Check) => Ok(String::from_str(alloc, "check")?),
         None => Ok(String::from_str(alloc, "usage")?),
     }
 }

@@ -2,7 +2,7 @@
 use Rattle.std.specs.Prelude.{◌≡◌, ◌≤◌, ℕ, Bool, false, Option, Some, None}
 use Rattle.cmd_words.specs.declared.commands.Command.{Command}
 use Rattle.cmd_words.specs.declared.commands.Command.TheVariants.{Analyse, Replay, Generate, Demo}
-use Rattle.cmd_words.specs.declared.commands.Command.TheVariants.{Waits, Ranges, Certify}
+use Rattle.cmd_words.specs.declared.commands.Command.TheVariants.{Waits, Ranges, Certify, Check}
 
 -- one worker, whose history is not asked for
 abbrev pub IsAlone : ℕ → Bool → Type 0
@@ -22,3 +22,4 @@ IsServed serves (Some (Demo w)) = serves w.workers false
 IsServed serves (Some Waits) = Unit {0}
 IsServed serves (Some Ranges) = Unit {0}
 IsServed serves (Some Certify) = Unit {0}
+IsServed serves (Some Check) = Unit {0}

@@ -13,7 +13,7 @@ use Rattle.analyser.specs.declared.replies.Found.TheVariants as Finds
 use Rattle.program_streams.specs.declared.statuses.Status.{Status}
 use Rattle.program_streams.specs.declared.statuses.Status.TheVariants.{NoAlarm, Alarms, Refused, Usage, ReadFault}
 use Rattle.program_streams.specs.declared.statuses.Status.TheVariants.{WriteFault, NoMemory}
-use Rattle.analyser.specs.Answers.{HasAlarm, HistoryFor, Reports}
+use Rattle.analyser.specs.Headline.{HasAlarm, HistoryFor, Reports}
 
 -- the lines of a past, where they are asked for
 abbrev pub AreLines : Bool → Past Interferences → List ℕ → Type 0

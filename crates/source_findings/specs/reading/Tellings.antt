@@ -15,10 +15,11 @@ use Rattle.value_ranges.specs.Ranges.{AreRanges}
 use Rattle.value_ranges.specs.Places.{AreDead}
 use Rattle.program_streams.specs.declared.statuses.Status.{Status}
 use Rattle.program_streams.specs.declared.statuses.Status.TheVariants.{NoAlarm, Refused}
-use Rattle.certificate_texts.specs.Limits.{certificate_limit}
-use Rattle.certificate_texts.specs.Certificates.{certificate_text}
+use Rattle.certificate_check.specs.certificate_texts.Limits.{certificate_limit}
+use Rattle.certificate_check.specs.certificate_texts.Sizes.{HasSmallNumbers}
+use Rattle.certificate_check.specs.certificate_texts.Certificates.{certificate_text}
+use Rattle.certificate_check.specs.VerdictTexts.{too_long_line}
 use Rattle.source_findings.specs.Findings.{waits_status}
-use Rattle.source_findings.specs.Certificates.{too_long_line}
 use Rattle.source_findings.specs.declared.findings.Finding.{Finding}
 use Rattle.source_findings.specs.declared.findings.Finding.TheVariants.{Waits, Ranges}
 
@@ -48,11 +49,13 @@ TellsOf Ranges p bytes = TellsRangesOf p bytes
 
 -- ## Certificates
 
--- the text of the source and the pair, which is not too long
-pub record TellsText (bytes : List ℕ) (pair : Pair) (status : Status) (text : List ℕ) : Type 0 where
-  pub comes : status ≡ NoAlarm
-  pub is : text ≡ certificate_text bytes pair
-  pub short : length text ≤ certificate_limit
+-- the text of the source and the pair, which is not too long, of a program with small numbers
+pub record TellsText (p : ProgramBodies) (bytes : List ℕ) (pair : Pair) (status : Status) (text : List ℕ) : Type 0
+  where
+    pub small : HasSmallNumbers p
+    pub comes : status ≡ NoAlarm
+    pub is : text ≡ certificate_text bytes pair
+    pub short : length text ≤ certificate_limit
 
 -- it is too long
 pub record TellsTooLong (bytes : List ℕ) (pair : Pair) (status : Status) (text : List ℕ) : Type 0 where
@@ -60,5 +63,5 @@ pub record TellsTooLong (bytes : List ℕ) (pair : Pair) (status : Status) (text
   pub long : certificate_limit < length (certificate_text bytes pair)
   pub is : text ≡ too_long_line
 
-abbrev pub TellsCertificateOf : List ℕ → Pair → Status → List ℕ → Type 0
-TellsCertificateOf bytes pair status text = TellsText bytes pair status text ⊎ TellsTooLong bytes pair status text
+abbrev pub TellsCertificateOf : ProgramBodies → List ℕ → Pair → Status → List ℕ → Type 0
+TellsCertificateOf p bytes pair status text = TellsText p bytes pair status text ⊎ TellsTooLong bytes pair status text

@@ -1,15 +1,18 @@
-use Rattle.std.proofs.Common.{◌∙◌, ap, subst, Some}
+use Rattle.std.proofs.Common.{◌∙◌, ap, refl, subst, Some}
 use Rattle.big_source.specs.GeneratedSources.{source_text}
-use Rattle.analyser.specs.Answers.{CommandGives, HasAnswer, HasSummary, IsGenerated, IsReplayed, SaysUsage}
+use Rattle.analyser.specs.Headline.{CommandGives, HasAnswer, HasSummary, IsGenerated, IsReplayed, SaysUsage}
+use Rattle.program_streams.specs.Streams.{IsReadOut}
 use Rattle.source_findings.specs.Findings.{HasFinding}
 use Rattle.source_findings.specs.Certificates.{HasCertificate}
+use Rattle.source_findings.specs.certificate_check.VerdictTexts.{HasChecked}
 use Rattle.source_findings.specs.declared.findings.Finding.TheVariants as Findings
 use Rattle.analyser.specs.reading.Manners.{IsServed}
 use Rattle.analyser.proofs.CommandLemmas.{said_answers, said_takes, more_answers, more_takes}
 use Rattle.analyser.proofs.CommandLemmas.{usage_of_none, answer_of_replay, answer_of_analyse, answer_of_generate}
 use Rattle.analyser.proofs.CommandLemmas.{answer_of_demo, reads_none, reads_replay, reads_generate, reads_demo}
 use Rattle.analyser.proofs.CommandLemmas.{reads_analyse, answer_of_waits, answer_of_ranges, reads_waits, reads_ranges}
-use Rattle.analyser.proofs.CommandLemmas.{answer_of_certify, reads_certify}
+use Rattle.analyser.proofs.CommandLemmas.{answer_of_certify, answer_of_check, reads_certify, reads_check}
+use Rattle.analyser.proofs.CommandLemmas.{longest_of_check, longest_of_other}
 use Rattle.analyser.proofs.commands.answer_command.Goals as goal
 
 pub returns-in-None-clause-headline : goal.returns-in-None-clause-headline
@@ -147,3 +150,51 @@ pub returns-in-Some-Certify-clause-read : goal.returns-in-Some-Certify-clause-re
 returns-in-Some-Certify-clause-read g c e =
     let fault = c.certify_source.ensures.read e in
     (reads_certify c.args.command (c.in-Some-Certify.is ∙ ap Some c.in-Some-Certify.field-0-is), fault.0, fault.1)
+
+pub returns-in-Some-Check-clause-headline : goal.returns-in-Some-Check-clause-headline
+returns-in-Some-Check-clause-headline g c h =
+    more_answers HasChecked (CommandGives c.args.command) (answer_of_check c.args.command (c.in-Some-Check.is ∙ ap Some c.in-Some-Check.field-0-is)) _ _ _
+    c.check_source.result (c.check_source.ensures.whole h)
+
+pub returns-in-Some-Check-clause-front : goal.returns-in-Some-Check-clause-front
+returns-in-Some-Check-clause-front g c =
+    more_takes HasChecked (CommandGives c.args.command) (answer_of_check c.args.command (c.in-Some-Check.is ∙ ap Some c.in-Some-Check.field-0-is)) _ _ _
+    c.check_source.ensures.front
+
+pub returns-in-Some-Check-clause-unread : goal.returns-in-Some-Check-clause-unread
+returns-in-Some-Check-clause-unread g c none = absurd (none (reads_check c.args.command (c.in-Some-Check.is ∙ ap Some c.in-Some-Check.field-0-is)))
+
+pub returns-in-Some-Check-clause-read : goal.returns-in-Some-Check-clause-read
+returns-in-Some-Check-clause-read g c e =
+    let fault = c.check_source.ensures.read e in
+    (reads_check c.args.command (c.in-Some-Check.is ∙ ap Some c.in-Some-Check.field-0-is), fault.0, fault.1)
+
+pub returns-in-Some-Analyse-clause-all : goal.returns-in-Some-Analyse-clause-all
+returns-in-Some-Analyse-clause-all g c r w =
+    subst (λ most. IsReadOut most (g.S.Source.left c.args.source.now) (g.S.Source.left c.analyse_source.new.source))
+    (longest_of_other c.args.command _ (c.in-Some-Analyse.is ∙ ap Some c.in-Some-Analyse.field-0-is) refl) (c.analyse_source.ensures.all w)
+
+pub returns-in-Some-Replay-clause-all : goal.returns-in-Some-Replay-clause-all
+returns-in-Some-Replay-clause-all g c r w =
+    subst (λ most. IsReadOut most (g.S.Source.left c.args.source.now) (g.S.Source.left c.replay_source.new.source))
+    (longest_of_other c.args.command _ (c.in-Some-Replay.is ∙ ap Some c.in-Some-Replay.field-0-is) refl) (c.replay_source.ensures.all w)
+
+pub returns-in-Some-Waits-clause-all : goal.returns-in-Some-Waits-clause-all
+returns-in-Some-Waits-clause-all g c r w =
+    subst (λ most. IsReadOut most (g.S.Source.left c.args.source.now) (g.S.Source.left c.solve_source.new.source))
+    (longest_of_other c.args.command _ (c.in-Some-Waits.is ∙ ap Some c.in-Some-Waits.field-0-is) refl) (c.solve_source.ensures.all w)
+
+pub returns-in-Some-Ranges-clause-all : goal.returns-in-Some-Ranges-clause-all
+returns-in-Some-Ranges-clause-all g c r w =
+    subst (λ most. IsReadOut most (g.S.Source.left c.args.source.now) (g.S.Source.left c.solve_source-in-Some-Ranges.new.source))
+    (longest_of_other c.args.command _ (c.in-Some-Ranges.is ∙ ap Some c.in-Some-Ranges.field-0-is) refl) (c.solve_source-in-Some-Ranges.ensures.all w)
+
+pub returns-in-Some-Certify-clause-all : goal.returns-in-Some-Certify-clause-all
+returns-in-Some-Certify-clause-all g c r w =
+    subst (λ most. IsReadOut most (g.S.Source.left c.args.source.now) (g.S.Source.left c.certify_source.new.source))
+    (longest_of_other c.args.command _ (c.in-Some-Certify.is ∙ ap Some c.in-Some-Certify.field-0-is) refl) (c.certify_source.ensures.all w)
+
+pub returns-in-Some-Check-clause-all : goal.returns-in-Some-Check-clause-all
+returns-in-Some-Check-clause-all g c r w =
+    subst (λ most. IsReadOut most (g.S.Source.left c.args.source.now) (g.S.Source.left c.check_source.new.source))
+    (longest_of_check c.args.command (c.in-Some-Check.is ∙ ap Some c.in-Some-Check.field-0-is)) (c.check_source.ensures.all w)

@@ -1,5 +1,6 @@
 use Rattle.std.proofs.Common.{sym, subst}
-use Rattle.analyser.specs.Answers.{CommandGives, Reads}
+use Rattle.analyser.specs.Headline.{CommandGives, Reads, longest_of}
+use Rattle.program_streams.specs.Streams.{IsReadOut}
 use Rattle.program_streams.specs.Taken.{Answers, TakesNoMore}
 use Rattle.analyser.specs.reading.Manners.{IsServed}
 use Rattle.analyser.proofs.commands.answer_words.Goals as goal
@@ -21,7 +22,9 @@ returns-in-Ok-clause-front g c =
     (g.K.Sink.taken c.answer_command.new.out)) c.in-Ok.ensures.command c.answer_command.ensures.front
 
 pub returns-in-Ok-clause-all : goal.returns-in-Ok-clause-all
-returns-in-Ok-clause-all g c r = c.answer_command.ensures.all (subst Reads (sym c.in-Ok.ensures.command) r)
+returns-in-Ok-clause-all g c r w =
+    subst (λ k. IsReadOut (longest_of k) (g.S.Source.left c.args.source.now) (g.S.Source.left c.answer_command.new.source))
+    c.in-Ok.ensures.command (c.answer_command.ensures.all (subst Reads (sym c.in-Ok.ensures.command) r) w)
 
 pub returns-in-Ok-clause-unread : goal.returns-in-Ok-clause-unread
 returns-in-Ok-clause-unread g c none =

@@ -1,6 +1,6 @@
 use Rattle.std.proofs.Common.{subst}
 use Rattle.std.specs.Prelude.{string_bytes}
-use Rattle.analyser.specs.Answers.{IsReplayed}
+use Rattle.analyser.specs.Headline.{IsReplayed}
 use Rattle.program_streams.proofs.Sent.{known, past_limit, read_out, sent_whole, sent_front}
 use Rattle.source_replays.specs.source_programs.LaidSources.{longest_source}
 use Rattle.analyser.proofs.AnswerLemmas.{longer_replayed}

@@ -1,5 +1,5 @@
 use Rattle.std.specs.Prelude.{string_bytes}
-use Rattle.analyser.specs.Answers.{IsGenerated}
+use Rattle.analyser.specs.Headline.{IsGenerated}
 use Rattle.analyser.proofs.AnswerLemmas.{said_whole, said_front}
 use Rattle.analyser.proofs.commands.send_source.Goals as goal
 

@@ -1,6 +1,6 @@
 use Rattle.std.specs.Prelude.{string_bytes}
 use Rattle.big_source.specs.GeneratedSources.{source_text}
-use Rattle.analyser.specs.Answers.{HasSummary}
+use Rattle.analyser.specs.Headline.{HasSummary}
 use Rattle.analyser.proofs.AnswerLemmas.{said_whole, said_front}
 use Rattle.analyser.proofs.commands.send_summary.Goals as goal
 

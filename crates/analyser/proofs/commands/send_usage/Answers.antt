@@ -1,7 +1,7 @@
 use Rattle.std.proofs.Common.{refl, ◌∙◌}
 use Rattle.tm_terms.specs.Texts.{usage_text}
 use Rattle.program_streams.specs.declared.statuses.Status.TheVariants.{Usage}
-use Rattle.analyser.specs.Answers.{SaysUsage}
+use Rattle.analyser.specs.Headline.{SaysUsage}
 use Rattle.analyser.proofs.AnswerLemmas.{said_whole, said_front}
 use Rattle.analyser.proofs.commands.send_usage.Goals as goal
 

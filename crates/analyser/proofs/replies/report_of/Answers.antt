@@ -1,5 +1,5 @@
 use Rattle.worker_solutions.specs.tm_laid.Layouts.{laid_tree}
-use Rattle.source_findings.proofs.Sourced.{few_objects}
+use Rattle.source_findings.proofs.low.certificate_check.Sourced.{few_objects}
 use Rattle.analyser.proofs.Sound.{lists_all}
 use Rattle.analyser.proofs.replies.report_of.Goals as goal
 

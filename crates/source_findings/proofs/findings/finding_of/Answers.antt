@@ -1,7 +1,7 @@
 use Rattle.std.specs.Prelude.{[]}
 use Rattle.program_solutions.specs.tm_laid.Layouts.{laid_tree}
 use Rattle.source_findings.proofs.Solved.{if_ok_by}
-use Rattle.source_findings.proofs.Sourced.{few_objects}
+use Rattle.certificate_check.proofs.Sourced.{few_objects}
 use Rattle.source_findings.proofs.Told.{told}
 use Rattle.source_findings.proofs.findings.finding_of.Goals as goal
 

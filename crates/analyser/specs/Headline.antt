@@ -4,13 +4,17 @@ use Rattle.std.specs.Prelude.{nat_lt, ◌||◌}
 use Rattle.source_findings.specs.Findings.{HasFinding}
 use Rattle.source_findings.specs.Certificates.{HasCertificate}
 use Rattle.source_findings.specs.sound_core.Soundness.{ListsAll}
-use Rattle.source_findings.specs.certificate_texts.Limits.{certificate_limit}
-use Rattle.source_findings.specs.certificate_texts.Certificates.{certificate_text}
+use Rattle.source_findings.specs.certificate_check.VerdictTexts.{HasChecked}
+use Rattle.source_findings.specs.certificate_check.Heads.{HasSource}
+use Rattle.source_findings.specs.certificate_check.Certificates.{IsCertificate}
+use Rattle.source_findings.specs.certificate_check.Verdicts.{IsNoCertificate}
+use Rattle.source_findings.specs.certificate_check.certificate_texts.Limits.{certificate_limit}
+use Rattle.source_findings.specs.certificate_check.certificate_texts.Certificates.{certificate_text}
 use Rattle.source_findings.specs.declared.findings.Finding.TheVariants as Findings
 use Rattle.cmd_words.specs.declared.commands.AnalyseWords.{AnalyseWords}
 use Rattle.cmd_words.specs.declared.commands.Command.{Command}
 use Rattle.cmd_words.specs.declared.commands.Command.TheVariants.{Analyse, Replay, Generate, Demo}
-use Rattle.cmd_words.specs.declared.commands.Command.TheVariants.{Waits, Ranges, Certify}
+use Rattle.cmd_words.specs.declared.commands.Command.TheVariants.{Waits, Ranges, Certify, Check}
 use Rattle.cmd_words.specs.Words.{command_of}
 use Rattle.report_json.specs.JsonReports.{json_text}
 use Rattle.store_core.specs.Histories.{Past}
@@ -25,6 +29,7 @@ use Rattle.worker_solutions.specs.tm_laid.Layouts.{LaidTree}
 use Rattle.worker_solutions.specs.program_equations.Programs.{ProgramBodies}
 use Rattle.interfere_set.specs.Stores.{Interferences}
 use Rattle.worker_solutions.specs.QuietHistories.{IsQuietHistory}
+use Rattle.source_replays.specs.source_programs.LaidSources.{longest_source}
 use Rattle.source_replays.specs.source_programs.Sources.{IsAccepted, IsRefused}
 use Rattle.worker_solutions.specs.program_solutions.LeastReports.{IsLeastPair, IsLeastReport}
 use Rattle.worker_solutions.specs.program_solutions.post_recheck.Pairs.{Pair}
@@ -137,6 +142,7 @@ CommandGives (Some (Demo w)) bytes status text = HasSummary (source_text w.count
 CommandGives (Some Waits) bytes status text = HasFinding Findings.Waits bytes status text
 CommandGives (Some Ranges) bytes status text = HasFinding Findings.Ranges bytes status text
 CommandGives (Some Certify) bytes status text = HasCertificate bytes status text
+CommandGives (Some Check) bytes status text = HasChecked bytes status text
 
 -- the text that may come with a status, for these words and bytes
 abbrev pub MayGive : List (List ℕ) → List ℕ → Status → List ℕ → Type 0
@@ -152,6 +158,7 @@ IsCommand (Some (Demo w)) = Unit {0}
 IsCommand (Some Waits) = Unit {0}
 IsCommand (Some Ranges) = Unit {0}
 IsCommand (Some Certify) = Unit {0}
+IsCommand (Some Check) = Unit {0}
 
 -- whether the command asks for workers: for more than one, or for the history of one
 abbrev pub asks_workers : Option Command → Bool
@@ -163,6 +170,7 @@ asks_workers (Some (Demo w)) = nat_lt 1 w.workers
 asks_workers (Some Waits) = false
 asks_workers (Some Ranges) = false
 asks_workers (Some Certify) = false
+asks_workers (Some Check) = false
 
 -- the command reads the source
 abbrev pub Reads : Option Command → Type 0
@@ -174,6 +182,7 @@ Reads (Some (Demo w)) = ⊥
 Reads (Some Waits) = Unit {0}
 Reads (Some Ranges) = Unit {0}
 Reads (Some Certify) = Unit {0}
+Reads (Some Check) = Unit {0}
 
 -- the bytes that a command answers for: all that the source has left, where it reads, or the generated text
 abbrev pub AnswersFor : Option Command → Option (List ℕ) → List ℕ → Type 0
@@ -185,6 +194,7 @@ AnswersFor (Some (Demo w)) left bytes = bytes ≡ source_text w.count
 AnswersFor (Some Waits) left bytes = left ≡ Some bytes
 AnswersFor (Some Ranges) left bytes = left ≡ Some bytes
 AnswersFor (Some Certify) left bytes = left ≡ Some bytes
+AnswersFor (Some Check) left bytes = left ≡ Some bytes
 
 -- ## What is accepted, and what is refused
 
@@ -200,10 +210,24 @@ pub record HasLongText (bytes : List ℕ) : Type 0 where
   pub accepted : IsAccepted [] bytes program
   pub long : (pair : Pair) → IsLeastPair program pair → certificate_limit < length (certificate_text bytes pair)
 
+-- the bytes are a certificate
+pub record AsksForCheck (bytes : List ℕ) : Type 0 where
+  pub source : List ℕ
+  pub program : ProgramBodies
+  pub pair : Pair
+  pub certificate : IsCertificate bytes source program pair
+
 -- why bytes are refused as an input of `certify`
 pub data IsNotCertified (bytes : List ℕ) : Type 0 where
   is_refused : (refusal : Refusal) → IsRefused bytes refusal → IsNotCertified bytes
   has_long_text : HasLongText bytes → IsNotCertified bytes
+
+-- why bytes are refused as an input of `check`
+pub data IsNotChecked (bytes : List ℕ) : Type 0 where
+  is_too_long : certificate_limit < length bytes → IsNotChecked bytes
+  is_none : length bytes ≤ certificate_limit → IsNoCertificate bytes → IsNotChecked bytes
+  is_of_refused : (source told : List ℕ) (refusal : Refusal) → length bytes ≤ certificate_limit
+      → HasSource bytes source told → IsRefused source refusal → IsNotChecked bytes
 
 -- a command accepts these bytes
 abbrev pub Accepts : Option Command → List ℕ → Type 0
@@ -215,6 +239,7 @@ Accepts (Some (Demo w)) bytes = (p : ProgramBodies) × IsAccepted [] bytes p
 Accepts (Some Waits) bytes = (p : ProgramBodies) × IsAccepted [] bytes p
 Accepts (Some Ranges) bytes = (p : ProgramBodies) × IsAccepted [] bytes p
 Accepts (Some Certify) bytes = HasShortText bytes
+Accepts (Some Check) bytes = AsksForCheck bytes
 
 -- a command refuses these bytes
 abbrev pub Refuses : Option Command → List ℕ → Type 0
@@ -226,3 +251,18 @@ Refuses (Some (Demo w)) bytes = (refusal : Refusal) × IsRefused bytes refusal
 Refuses (Some Waits) bytes = (refusal : Refusal) × IsRefused bytes refusal
 Refuses (Some Ranges) bytes = (refusal : Refusal) × IsRefused bytes refusal
 Refuses (Some Certify) bytes = IsNotCertified bytes
+Refuses (Some Check) bytes = IsNotChecked bytes
+
+-- ## What is read
+
+-- how many bytes a command takes at most: it reads one more to see that they are too many
+abbrev pub longest_of : Option Command → ℕ
+longest_of None = longest_source
+longest_of (Some (Analyse w)) = longest_source
+longest_of (Some Replay) = longest_source
+longest_of (Some (Generate count)) = longest_source
+longest_of (Some (Demo w)) = longest_source
+longest_of (Some Waits) = longest_source
+longest_of (Some Ranges) = longest_source
+longest_of (Some Certify) = longest_source
+longest_of (Some Check) = certificate_limit

@@ -1,2 +1,3 @@
 -- The crates below, passed on to those above.
-pub use Rattle.sound_core.proofs.Alarmed
+pub mod sound_core
+pub mod source_programs

@@ -1,0 +1,5 @@
+use Rattle.certificate_check.proofs.OneVerdict.{one_verdict}
+use Rattle.certificate_check.proofs.laws.one_verdict.Goals as goal
+
+pub returns : goal.returns
+returns c = one_verdict
