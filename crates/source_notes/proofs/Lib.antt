@@ -1,0 +1,4 @@
+-- Pieces of a line, one after the other (Pieces). What is told of a solution is what its source is answered, and answers
+-- come with a whole text (NotesTold).
+pub mod Pieces
+pub mod NotesTold

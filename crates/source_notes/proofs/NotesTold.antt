@@ -1,0 +1,145 @@
+-- What the code tells of the least solution of a source is what the source is answered; and answers come with a whole
+-- text, which sources that are too long have already where only a front of them is known.
+use Rattle.std.proofs.Common.{◌≡◌, ◌∙◌, sym, ap, subst, ℕ, ◌<◌, ◌≤◌, ◌^◌, List, [], ◌∷◌, ◌++◌, length, arith, length-append}
+use Rattle.tm_terms.specs.declared.refusals.Refusal.{Refusal}
+use Rattle.tm_laid.specs.Layouts.{LaidTree}
+use Rattle.program_solutions.specs.program_equations.Programs.{ProgramBodies, IsProgram}
+use Rattle.program_solutions.specs.post_recheck.Pairs.{Pair}
+use Rattle.program_solutions.specs.LeastReports.{IsLeastPair}
+use Rattle.program_solutions.specs.program_equations.Solutions.{tables_of}
+use Rattle.access_groups.specs.declared.object_access.AccessGroup.{AccessGroup}
+use Rattle.access_groups.proofs.One.{grouped_alarms}
+use Rattle.request_circles.specs.declared.rings.Ring.{Ring}
+use Rattle.request_circles.specs.Rings.{ring_places}
+use Rattle.source_programs.specs.LaidSources.{longest_source, IsLaidSource}
+use Rattle.source_programs.specs.Sources.{IsAccepted, IsRefused}
+use Rattle.source_programs.specs.Sources.IsRefused.{too_long, not_lexed, not_parsed, not_typed, not_laid, not_prepared}
+use Rattle.source_programs.proofs.Accepted.{accepted_is_program}
+use Rattle.sound_core.proofs.Rings.{ring_listed}
+use Rattle.program_streams.specs.declared.statuses.Status.{Status}
+use Rattle.program_streams.specs.declared.statuses.Status.TheVariants.{NoAlarm, Alarms, Refused, Usage, ReadFault}
+use Rattle.program_streams.specs.declared.statuses.Status.TheVariants.{WriteFault, NoMemory}
+use Rattle.program_streams.specs.Statuses.{IsWhole}
+use Rattle.source_findings.specs.Findings.{Solves}
+use Rattle.certificate_check.proofs.Sourced.{comes_from}
+use Rattle.source_notes.specs.Names.{task_names, mutex_names, object_names}
+use Rattle.source_notes.specs.RingTexts.{rings_text}
+use Rattle.source_notes.specs.RaceTexts.{groups_text}
+use Rattle.source_notes.specs.declared.names.Names.{Names}
+use Rattle.source_notes.specs.declared.answers.Note.{Note}
+use Rattle.source_notes.specs.declared.answers.Note.TheVariants.{Rings, Races}
+use Rattle.source_notes.specs.Notes.{rings_status, races_status, TellsRings, TellsRaces, Tells, HasNotes}
+use Rattle.source_notes.specs.reading.Told.{TellsRingsOf, TellsRacesOf, TellsOf}
+
+module _ (bytes : List ℕ) (p : ProgramBodies) (a : IsAccepted [] bytes p) (few : length a.laid.objects ≤ 2 ^ 32)
+    (pair : Pair) (least : IsLeastPair p pair) where
+  solves : Solves bytes
+  solves = record { program = p; accepted = a; pair = pair; least = least }
+
+  is : IsProgram p
+  is = accepted_is_program [] bytes p a
+
+  module _ (laid : LaidTree) (of : IsLaidSource bytes laid) (names : Names) (are_tasks : names.tasks.items
+      ≡ task_names laid) (are_mutexes : names.mutexes.items ≡ mutex_names laid) (are_objects : names.objects.items
+      ≡ object_names laid) where
+    rings_told : (status : Status) (text : List ℕ)
+        → TellsRingsOf p bytes names.tasks.items names.mutexes.items pair status text → TellsRings bytes status text
+    unfolding solves
+    rings_told status text t = record {
+      rings = t.rings;
+      finds = record {
+        solves = solves;
+        are = t.are;
+        blocked = λ w reached tasks ring. ring_listed a.laid p (comes_from [] bytes p a) is few pair.tables pair.store
+            least.solution (ring_places t.rings) (let r = t.are in r.places) w reached tasks ring;
+      };
+      comes = t.comes;
+      laid = laid;
+      of = of;
+      is = t.is ∙ ap (λ ts. rings_text bytes ts names.mutexes.items t.rings) are_tasks
+          ∙ ap (λ ms. rings_text bytes (task_names laid) ms t.rings) are_mutexes;
+    }
+
+    races_told : (status : Status) (text : List ℕ)
+        → TellsRacesOf p bytes names.objects.items names.tasks.items names.mutexes.items pair status text
+        → TellsRaces bytes status text
+    unfolding solves
+    races_told status text t = record {
+      groups = t.groups;
+      finds = record {
+        solves = solves;
+        are = t.are;
+        alarmed = λ report r place. grouped_alarms p (tables_of pair.tables) t.groups t.are place report r;
+      };
+      comes = t.comes;
+      laid = laid;
+      of = of;
+      is = t.is ∙ ap (λ os. groups_text bytes os names.tasks.items names.mutexes.items t.groups) are_objects
+          ∙ ap (λ ts. groups_text bytes (object_names laid) ts names.mutexes.items t.groups) are_tasks
+          ∙ ap (λ ms. groups_text bytes (object_names laid) (task_names laid) ms t.groups) are_mutexes;
+    }
+
+    -- the status is one of the two
+    rings_by : (rings : List Ring) (status : Status) (text : List ℕ) → status ≡ rings_status rings
+        → TellsRings bytes status text → HasNotes Rings bytes status text
+    rings_by [] status text e t =
+        subst (λ s. TellsRings bytes s text → HasNotes Rings bytes s text) (sym e) (λ u. u) t
+    rings_by (ring ∷ rings) status text e t =
+        subst (λ s. TellsRings bytes s text → HasNotes Rings bytes s text) (sym e) (λ u. u) t
+
+    races_by : (groups : List AccessGroup) (status : Status) (text : List ℕ) → status ≡ races_status groups
+        → TellsRaces bytes status text → HasNotes Races bytes status text
+    races_by [] status text e t =
+        subst (λ s. TellsRaces bytes s text → HasNotes Races bytes s text) (sym e) (λ u. u) t
+    races_by (group ∷ groups) status text e t =
+        subst (λ s. TellsRaces bytes s text → HasNotes Races bytes s text) (sym e) (λ u. u) t
+
+    pub told : (n : Note) (status : Status) (text : List ℕ) → TellsOf n p bytes names pair status text
+        → HasNotes n bytes status text
+    told Rings status text t = rings_by t.rings status text t.comes (rings_told status text t)
+    told Races status text t = races_by t.groups status text t.comes (races_told status text t)
+
+-- ## Whole texts
+
+pub notes_are_whole : (n : Note) (bytes : List ℕ) (status : Status) (text : List ℕ) → HasNotes n bytes status text
+    → IsWhole status
+notes_are_whole n bytes NoAlarm text h = tt
+notes_are_whole n bytes Alarms text h = tt
+notes_are_whole n bytes Refused text h = tt
+notes_are_whole n bytes Usage text h = absurd h
+notes_are_whole n bytes ReadFault text h = absurd h
+notes_are_whole n bytes WriteFault text h = absurd h
+notes_are_whole n bytes NoMemory text h = absurd h
+
+-- ## Sources that are too long
+
+longer_refused : (bytes more : List ℕ) (refusal : Refusal) → longest_source < length bytes → IsRefused bytes refusal
+    → IsRefused (bytes ++ more) refusal
+longer_refused bytes more refusal h (too_long k) = too_long (omega (arith, length-append bytes more))
+longer_refused bytes more refusal h (not_lexed k l) = absurd (omega arith)
+longer_refused bytes more refusal h (not_parsed k l q) = absurd (omega arith)
+longer_refused bytes more refusal h (not_typed k l t) = absurd (omega arith)
+longer_refused bytes more refusal h (not_laid k l t e) = absurd (omega arith)
+longer_refused bytes more refusal h (not_prepared source e) =
+    absurd (let k : length bytes ≤ longest_source = source.short in omega arith)
+
+not_solved : (bytes : List ℕ) → longest_source < length bytes → Solves bytes → ⊥
+not_solved bytes long s =
+    let accepted = s.accepted in
+    let source = accepted.source in
+    let short : length bytes ≤ longest_source = source.short in
+    omega (arith, long, short)
+
+solved_by : (n : Note) (bytes : List ℕ) (status : Status) (text : List ℕ) → Tells n bytes status text → Solves bytes
+solved_by Rings bytes status text t = (let f = t.finds in f.solves)
+solved_by Races bytes status text t = (let f = t.finds in f.solves)
+
+pub longer_notes : (n : Note) (bytes more : List ℕ) → longest_source < length bytes → (status : Status) (text : List ℕ)
+    → HasNotes n bytes status text → HasNotes n (bytes ++ more) status text
+longer_notes n bytes more long NoAlarm text h = absurd (not_solved bytes long (solved_by n bytes NoAlarm text h))
+longer_notes n bytes more long Alarms text h = absurd (not_solved bytes long (solved_by n bytes Alarms text h))
+longer_notes n bytes more long Refused text h = (h.0, longer_refused bytes more h.0 long h.1, h.2)
+longer_notes n bytes more long Usage text h = absurd h
+longer_notes n bytes more long ReadFault text h = absurd h
+longer_notes n bytes more long WriteFault text h = absurd h
+longer_notes n bytes more long NoMemory text h = absurd h

@@ -1,0 +1,15 @@
+use Rattle.std.proofs.Common.{sym, subst}
+use Rattle.std.specs.Prelude.{IfOk}
+use Rattle.program_solutions.specs.program_systems.ReadPrograms.{program_of}
+use Rattle.source_notes.specs.reading.Told.{TellsOf}
+use Rattle.source_notes.proofs.answers.reply_of.Goals as goal
+
+pub returns-in-Rings : goal.returns-in-Rings
+returns-in-Rings c =
+    subst (λ n. IfOk c.rings_reply.result (λ reply. TellsOf n (program_of c.args.analysis.now) c.args.bytes.now
+    c.args.names.now c.args.found.now reply.status reply.text.items)) (sym c.in-Rings.is) c.rings_reply.ensures
+
+pub returns-in-Races : goal.returns-in-Races
+returns-in-Races c =
+    subst (λ n. IfOk c.races_reply.result (λ reply. TellsOf n (program_of c.args.analysis.now) c.args.bytes.now
+    c.args.names.now c.args.found.now reply.status reply.text.items)) (sym c.in-Races.is) c.races_reply.ensures

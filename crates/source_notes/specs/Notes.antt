@@ -1,0 +1,87 @@
+-- What is answered to a source: the rings in which its tasks may come to wait for each other, or its races by object.
+use Rattle.std.specs.Prelude.{◌≡◌, ◌↔◌, ℕ, List, [], ◌∷◌, Contains}
+use Rattle.tm_cint.specs.declared.Class.TheVariants.{Race}
+use Rattle.tm_terms.specs.declared.alarms.Alarm.{Alarm}
+use Rattle.tm_terms.specs.declared.places.Place.{Place}
+use Rattle.tm_terms.specs.declared.refusals.Refusal.{Refusal}
+use Rattle.tm_terms.specs.Texts.{refusal_text}
+use Rattle.program_solutions.specs.program_equations.Solutions.{tables_of}
+use Rattle.request_circles.specs.declared.rings.Ring.{Ring}
+use Rattle.request_circles.specs.Rings.{ring_places}
+use Rattle.lock_waits.specs.Waits.{AreRings}
+use Rattle.program_reports.specs.Reports.{IsReport}
+use Rattle.access_groups.specs.declared.object_access.AccessGroup.{AccessGroup}
+use Rattle.access_groups.specs.Groups.{AreGroups, HasRacingAt}
+use Rattle.tm_laid.specs.Layouts.{LaidTree}
+use Rattle.source_programs.specs.LaidSources.{IsLaidSource}
+use Rattle.source_programs.specs.Sources.{IsRefused}
+use Rattle.program_streams.specs.declared.statuses.Status.{Status}
+use Rattle.program_streams.specs.declared.statuses.Status.TheVariants.{NoAlarm, Alarms, Refused, Usage, ReadFault}
+use Rattle.program_streams.specs.declared.statuses.Status.TheVariants.{WriteFault, NoMemory}
+use Rattle.source_findings.specs.Findings.{Solves, ListsRings}
+use Rattle.source_notes.specs.Names.{task_names, mutex_names, object_names}
+use Rattle.source_notes.specs.RingTexts.{rings_text}
+use Rattle.source_notes.specs.RaceTexts.{groups_text}
+use Rattle.source_notes.specs.declared.answers.Note.{Note}
+use Rattle.source_notes.specs.declared.answers.Note.TheVariants.{Rings, Races}
+
+-- ## Rings
+
+-- For each place of a circular wait of the least solution a shortest ring that begins there; and in each world that a
+-- run reaches and that has not stopped, each task of each ring of blocked tasks is about to lock at one of these places.
+pub record FindsRings (bytes : List ℕ) (rings : List Ring) : Type 0 where
+  pub solves : Solves bytes
+  pub are : (let s = solves in let pair = s.pair in AreRings s.program (tables_of pair.tables) rings)
+  pub blocked : (let s = solves in let a = s.accepted in ListsRings a.laid (ring_places rings))
+
+-- whether there are any
+abbrev pub rings_status : List Ring → Status
+rings_status [] = NoAlarm
+rings_status (ring ∷ rings) = Alarms
+
+pub record TellsRings (bytes : List ℕ) (status : Status) (text : List ℕ) : Type 0 where
+  pub rings : List Ring
+  pub finds : FindsRings bytes rings
+  pub comes : status ≡ rings_status rings
+  pub laid : LaidTree
+  pub of : IsLaidSource bytes laid
+  pub is : text ≡ rings_text bytes (task_names laid) (mutex_names laid) rings
+
+-- ## Races
+
+-- The objects with races in the tables of the least solution, each with all accesses to it, racing or not; and the report
+-- of these tables, which lists each error that occurs in a run, has a race at exactly the places of those that race.
+pub record FindsRaces (bytes : List ℕ) (groups : List AccessGroup) : Type 0 where
+  pub solves : Solves bytes
+  pub are : (let s = solves in let pair = s.pair in AreGroups s.program (tables_of pair.tables) groups)
+  pub alarmed : (let s = solves in let pair = s.pair in (report : List Alarm)
+      → IsReport s.program (tables_of pair.tables) report → (place : Place)
+      → Contains report (record { place = place; class = Race }) ↔ HasRacingAt groups place)
+
+abbrev pub races_status : List AccessGroup → Status
+races_status [] = NoAlarm
+races_status (group ∷ groups) = Alarms
+
+pub record TellsRaces (bytes : List ℕ) (status : Status) (text : List ℕ) : Type 0 where
+  pub groups : List AccessGroup
+  pub finds : FindsRaces bytes groups
+  pub comes : status ≡ races_status groups
+  pub laid : LaidTree
+  pub of : IsLaidSource bytes laid
+  pub is : text ≡ groups_text bytes (object_names laid) (task_names laid) (mutex_names laid) groups
+
+-- ## Both
+
+abbrev pub Tells : Note → List ℕ → Status → List ℕ → Type 0
+Tells Rings = TellsRings
+Tells Races = TellsRaces
+
+-- The status and the text that these bytes are answered with.
+abbrev pub HasNotes : Note → List ℕ → Status → List ℕ → Type 0
+HasNotes n bytes NoAlarm text = Tells n bytes NoAlarm text
+HasNotes n bytes Alarms text = Tells n bytes Alarms text
+HasNotes n bytes Refused text = (refusal : Refusal) × IsRefused bytes refusal × (text ≡ refusal_text refusal)
+HasNotes n bytes Usage text = ⊥
+HasNotes n bytes ReadFault text = ⊥
+HasNotes n bytes WriteFault text = ⊥
+HasNotes n bytes NoMemory text = ⊥

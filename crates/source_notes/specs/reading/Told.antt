@@ -1,0 +1,36 @@
+-- What the code tells of a least solution, before it is known of which source it is.
+use Rattle.std.specs.Prelude.{◌≡◌, ℕ, List}
+use Rattle.tm_terms.specs.declared.tokens.Name.{Name}
+use Rattle.program_solutions.specs.program_equations.Programs.{ProgramBodies}
+use Rattle.program_solutions.specs.program_equations.Solutions.{tables_of}
+use Rattle.program_solutions.specs.post_recheck.Pairs.{Pair}
+use Rattle.request_circles.specs.declared.rings.Ring.{Ring}
+use Rattle.lock_waits.specs.Waits.{AreRings}
+use Rattle.access_groups.specs.declared.object_access.AccessGroup.{AccessGroup}
+use Rattle.access_groups.specs.Groups.{AreGroups}
+use Rattle.program_streams.specs.declared.statuses.Status.{Status}
+use Rattle.source_notes.specs.Notes.{rings_status, races_status}
+use Rattle.source_notes.specs.RingTexts.{rings_text}
+use Rattle.source_notes.specs.RaceTexts.{groups_text}
+use Rattle.source_notes.specs.declared.names.Names.{Names}
+use Rattle.source_notes.specs.declared.names.ObjectName.{ObjectName}
+use Rattle.source_notes.specs.declared.answers.Note.{Note}
+use Rattle.source_notes.specs.declared.answers.Note.TheVariants.{Rings, Races}
+
+pub record TellsRingsOf (p : ProgramBodies) (bytes : List ℕ) (tasks mutexes : List Name) (pair : Pair)
+    (status : Status) (text : List ℕ) : Type 0 where
+  pub rings : List Ring
+  pub are : AreRings p (tables_of pair.tables) rings
+  pub comes : status ≡ rings_status rings
+  pub is : text ≡ rings_text bytes tasks mutexes rings
+
+pub record TellsRacesOf (p : ProgramBodies) (bytes : List ℕ) (objects : List ObjectName) (tasks mutexes : List Name)
+    (pair : Pair) (status : Status) (text : List ℕ) : Type 0 where
+  pub groups : List AccessGroup
+  pub are : AreGroups p (tables_of pair.tables) groups
+  pub comes : status ≡ races_status groups
+  pub is : text ≡ groups_text bytes objects tasks mutexes groups
+
+abbrev pub TellsOf : Note → ProgramBodies → List ℕ → Names → Pair → Status → List ℕ → Type 0
+TellsOf Rings p bytes names = TellsRingsOf p bytes names.tasks.items names.mutexes.items
+TellsOf Races p bytes names = TellsRacesOf p bytes names.objects.items names.tasks.items names.mutexes.items

@@ -1,0 +1,141 @@
+//! The answer to the bytes of a source.
+ghost use Rattle.std.specs.Prelude.{◌≡◌, IfOk};
+ghost use Rattle.program_solutions.specs.program_systems.ReadPrograms.{program_of};
+ghost use Rattle.program_solutions.specs.LeastReports.{IsLeastPair};
+ghost use Rattle.source_notes.specs.Notes.{HasNotes, rings_status, races_status};
+ghost use Rattle.source_notes.specs.reading.Told.{TellsOf, TellsRingsOf, TellsRacesOf};
+
+use crate::names::{Names, names_of};
+use crate::race_lines::groups_text;
+use crate::ring_lines::rings_text;
+use access_groups::{AccessGroup, groups};
+use lock_waits::rings;
+use program_solutions::{Analysis, Solution, solution};
+use program_streams::Status;
+use request_circles::Ring;
+use source_programs::source_program;
+use std::alloc::Global as Heap;
+use tm_lattice::NoMemory;
+use tm_terms::{Fail, refusal_line};
+
+/// What the notes are on.
+#[derive(Clone, Copy)]
+pub enum Note {
+    /// Rings of tasks that may come to wait for each other.
+    Rings,
+    /// Races by object.
+    Races,
+}
+
+/// A status and the whole text that goes with it. Names stand in it byte for byte, as in the source.
+#[derive(Drop)]
+pub struct NoteReply {
+    pub status: Status,
+    pub text: Vec<u8>,
+}
+
+/// Whether there is a ring.
+fn rings_status(rings: &[Ring]) -> Status
+    ensures { result ≡ rings_status rings.now }
+{
+    if rings.is_empty() {
+        Status::NoAlarm
+    } else {
+        Status::Alarms
+    }
+}
+
+/// Whether there is a race.
+fn races_status(groups: &[AccessGroup]) -> Status
+    ensures { result ≡ races_status groups.now }
+{
+    if groups.is_empty() {
+        Status::NoAlarm
+    } else {
+        Status::Alarms
+    }
+}
+
+/// What a least solution tells of rings.
+fn rings_reply(
+    alloc: Heap,
+    bytes: &[u8],
+    names: &Names,
+    analysis: &Analysis,
+    found: &Solution,
+) -> Result<NoteReply, NoMemory>
+    requires { IsLeastPair (program_of analysis.now) found.now }
+    ensures { IfOk result (λ reply. TellsRingsOf (program_of analysis.now) bytes.now names.now.tasks.items
+        names.now.mutexes.items found.now reply.status reply.text.items) }
+{
+    let (program, _) = analysis.parts();
+    let rings = rings(alloc, program, found.tables())?;
+    let text = rings_text(alloc, bytes, names, &rings)?;
+    Ok(NoteReply {
+        status: rings_status(&rings),
+        text,
+    })
+}
+
+/// What a least solution tells of races.
+fn races_reply(
+    alloc: Heap,
+    bytes: &[u8],
+    names: &Names,
+    analysis: &Analysis,
+    found: &Solution,
+) -> Result<NoteReply, NoMemory>
+    requires { IsLeastPair (program_of analysis.now) found.now }
+    ensures { IfOk result (λ reply. TellsRacesOf (program_of analysis.now) bytes.now names.now.objects.items
+        names.now.tasks.items names.now.mutexes.items found.now reply.status reply.text.items) }
+{
+    let (program, facts) = analysis.parts();
+    let groups = groups(alloc, program, facts, found.tables(), found.store())?;
+    let text = groups_text(alloc, bytes, names, &groups)?;
+    Ok(NoteReply {
+        status: races_status(&groups),
+        text,
+    })
+}
+
+/// What a least solution tells.
+fn reply_of(
+    alloc: Heap,
+    note: Note,
+    bytes: &[u8],
+    names: &Names,
+    analysis: &Analysis,
+    found: &Solution,
+) -> Result<NoteReply, NoMemory>
+    requires { IsLeastPair (program_of analysis.now) found.now }
+    ensures { IfOk result (λ reply.
+        TellsOf note (program_of analysis.now) bytes.now names.now found.now reply.status reply.text.items) }
+{
+    match note {
+        Note::Rings => rings_reply(alloc, bytes, names, analysis, found),
+        Note::Races => races_reply(alloc, bytes, names, analysis, found),
+    }
+}
+
+/// The notes on the bytes of a source, or its refusal. The solution is that of one worker, with no numbers given as
+/// thresholds.
+pub fn notes_of(alloc: Heap, note: Note, bytes: &[u8]) -> Result<NoteReply, NoMemory>
+    ensures { IfOk result (λ reply. HasNotes note bytes.now reply.status reply.text.items) }
+{
+    match source_program(alloc, bytes, &[]) {
+        Ok(program) => {
+            let names = names_of(alloc, &program.laid)?;
+            let analysis = Analysis::new(alloc, program)?;
+            let found = solution(alloc, &analysis)?;
+            reply_of(alloc, note, bytes, &names, &analysis, &found)
+        }
+        Err(Fail::Refused(refusal)) => {
+            let text = refusal_line(alloc, &refusal)?;
+            Ok(NoteReply {
+                status: Status::Refused,
+                text: text.into_bytes(),
+            })
+        }
+        Err(Fail::NoMemory) => Err(NoMemory),
+    }
+}
