@@ -5,7 +5,8 @@ use Rattle.std.specs.Io.KnownBytes.{append_known}
 use Rattle.report_views.specs.declared.causes.Cause.{Cause}
 use Rattle.report_views.specs.declared.views.Form.{Form}
 use Rattle.report_views.specs.Causes.{cause_text, IsCause, IsLogCause, longest_report, longest_text}
-use Rattle.report_views.specs.Views.{IsLog, IsView}
+use Rattle.report_views.specs.Views.{IsView}
+use Rattle.report_logs.specs.Logs.{IsLog}
 use Rattle.program_streams.specs.Streams.{IsRead, TakesFrontOf}
 
 -- By what two streams have left before and after a call: the report, and the text whose first file has this name.
@@ -47,16 +48,18 @@ module _ (form : Form) (name : List ℕ) (report_left report_left' text_left tex
   abbrev pub ShowsNoMore : Option (List ℕ) → Option (List ℕ) → Type 0
   ShowsNoMore taken taken' = (taken' ≡ taken) ⊎ ShowsFront taken taken'
 
--- By what four streams have left before and after a call: the report, the text whose first file has this name, the text
--- of the waits, and that of the dead places.
-module _ (name : List ℕ) (report_left report_left' text_left text_left' : Option (List ℕ))
-    (waits_left waits_left' dead_left dead_left' : Option (List ℕ)) where
+-- By what five streams have left before and after a call: the report, the text whose first file has this name, the text
+-- of the waits, that of the dead places, and the lines of the files from which those of the text come; and by the folders
+-- of documents and from which names of files are seen.
+module _ (documents folder name : List ℕ) (report_left report_left' text_left text_left' : Option (List ℕ))
+    (waits_left waits_left' dead_left dead_left' lines_left lines_left' : Option (List ℕ)) where
   -- these bytes were read: each to its end, or past the most that it may have
-  pub record AllAreRead (report text waits dead : List ℕ) : Type 0 where
+  pub record AllAreRead (report text waits dead lines : List ℕ) : Type 0 where
     pub report_read : IsRead report_left report_left' (longest_report + 1) report
     pub text_read : IsRead text_left text_left' (longest_text + 1) text
     pub waits_read : IsRead waits_left waits_left' (longest_report + 1) waits
     pub dead_read : IsRead dead_left dead_left' (longest_report + 1) dead
+    pub lines_read : IsRead lines_left lines_left' (longest_report + 1) lines
 
   -- a log of what was read
   pub record IsLogRead (log : List ℕ) : Type 0 where
@@ -64,8 +67,9 @@ module _ (name : List ℕ) (report_left report_left' text_left text_left' : Opti
     pub text : List ℕ
     pub waits : List ℕ
     pub dead : List ℕ
-    pub read : AllAreRead report text waits dead
-    pub is : IsLog name report waits dead text log
+    pub lines : List ℕ
+    pub read : AllAreRead report text waits dead lines
+    pub is : IsLog documents folder name report waits dead text lines log
 
   -- a stream has taken the whole log
   pub record Logs (taken taken' : Option (List ℕ)) : Type 0 where
@@ -85,7 +89,8 @@ module _ (name : List ℕ) (report_left report_left' text_left text_left' : Opti
     pub text : List ℕ
     pub waits : List ℕ
     pub dead : List ℕ
-    pub read : AllAreRead report text waits dead
+    pub lines : List ℕ
+    pub read : AllAreRead report text waits dead lines
     pub cause : Cause
     pub is : IsLogCause name report waits dead text cause
     pub appended : taken' ≡ append_known taken (cause_text cause)

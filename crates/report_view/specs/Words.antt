@@ -29,12 +29,24 @@ pub record AskedLog : Type 0 where
   pub name : List ℕ
   pub waits : List ℕ
   pub dead : List ℕ
+  pub lines : List ℕ
+  pub folder : List ℕ
+  pub documents : List ℕ
 
--- `--sarif`, the file that holds the text, the name of the file from which its first line comes, and the files that
--- hold the texts of the waits and of the dead places; no other words ask for a log
+-- `--sarif`, the file that holds the text, the name of the file from which its first line comes, the files that hold the
+-- texts of the waits and of the dead places and the lines of the files from which those of the text come, the folder
+-- from which names of files are seen, and that of the documents; no other words ask for a log
 abbrev pub asked_log_of : List (List ℕ) → Option AskedLog
-asked_log_of (word ∷ file ∷ first ∷ waits ∷ dead ∷ []) =
+asked_log_of (word ∷ file ∷ first ∷ waits ∷ dead ∷ lines ∷ folder ∷ documents ∷ []) =
     if bytes_eq word (codes "--sarif")
-    then Some (record { text = file; name = first; waits = waits; dead = dead })
+    then Some (record {
+      text = file;
+      name = first;
+      waits = waits;
+      dead = dead;
+      lines = lines;
+      folder = folder;
+      documents = documents;
+    })
     else None
 asked_log_of _ = None

@@ -1,10 +1,11 @@
 //! The program `report_view FORM TEXT NAME < REPORT`: it reads a report, as JSON, from standard input, and the text
 //! that it is of from the file TEXT, and writes the view of the report to standard output. FORM is `--lines` or
 //! `--summary`; NAME is the name of the file from which the first line of the text comes, spelled as in a line mark.
-//! `report_view --sarif TEXT NAME WAITS DEAD < REPORT` reads also what `waits` answers from the file WAITS, and what
-//! `ranges` answers behind the bounds of objects from the file DEAD, and writes the log of the three. Why a text is
-//! refused goes to standard error. Where the system does not give the program its words, it writes nothing and ends
-//! with status 7.
+//! `report_view --sarif TEXT NAME WAITS DEAD LINES FOLDER DOCUMENTS < REPORT` reads also what `waits` answers from the
+//! file WAITS, what `ranges` answers behind the bounds of objects from the file DEAD, and the lines of the files from
+//! which those of the text come from the file LINES, and writes the log of the three; FOLDER is the folder from which
+//! names of files are seen, and DOCUMENTS that in which ALARMS.md stands. Why a text is refused goes to standard error.
+//! Where the system does not give the program its words, it writes nothing and ends with status 7.
 #![tactic(auto)]
 
 mod top;
@@ -31,8 +32,8 @@ fn status_without_words(reason: ErrorKind) -> u8 {
 }
 
 /// The line that says how the program is used.
-const USAGE: &str =
-    "usage: report_view --lines|--summary TEXT NAME < REPORT, or report_view --sarif TEXT NAME WAITS DEAD < REPORT";
+const USAGE: &str = "usage: report_view --lines|--summary TEXT NAME < REPORT, \
+    or report_view --sarif TEXT NAME WAITS DEAD LINES FOLDER DOCUMENTS < REPORT";
 
 /// Writes the log that is asked for.
 fn write_log(rt: &HostRuntime, asked: AskedLog<'_>) -> Status {
@@ -45,10 +46,14 @@ fn write_log(rt: &HostRuntime, asked: AskedLog<'_>) -> Status {
     let Ok(dead) = File::open(rt, asked.dead) else {
         return Status::ReadFault;
     };
+    let Ok(lines) = File::open(rt, asked.lines) else {
+        return Status::ReadFault;
+    };
     let mut report = StdSource::new(rt.stdin());
     let mut text = StdSource::new(text);
     let mut waits = StdSource::new(waits);
     let mut dead = StdSource::new(dead);
+    let mut lines = StdSource::new(lines);
     let mut out = StdSink::new(rt.stdout());
     let mut told = StdSink::new(rt.stderr());
     answer_log(
@@ -58,6 +63,7 @@ fn write_log(rt: &HostRuntime, asked: AskedLog<'_>) -> Status {
         &mut text,
         &mut waits,
         &mut dead,
+        &mut lines,
         &mut out,
         &mut told,
     )

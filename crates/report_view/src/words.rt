@@ -46,21 +46,25 @@ pub fn read_words(words: &[String]) -> Option<Asked<'_>>
 }
 
 /// What words that ask for a log ask for: the file that holds the text, the name of the file from which its first line
-/// comes, and the files that hold the texts of the waits and of the dead places.
+/// comes, the files that hold the texts of the waits and of the dead places, the one that holds the lines of the files
+/// from which those of the text come, the folder from which names of files are seen, and that of the documents.
 #[derive(Clone, Copy)]
 pub struct AskedLog<'a> {
     pub text: &'a str,
     pub name: &'a str,
     pub waits: &'a str,
     pub dead: &'a str,
+    pub lines: &'a str,
+    pub folder: &'a str,
+    pub documents: &'a str,
 }
 
-/// The log that words ask for, if they are `--sarif` and four words more.
+/// The log that words ask for, if they are `--sarif` and seven words more.
 pub fn read_log_words(words: &[String]) -> Option<AskedLog<'_>>
     ensures { option_map asked_log_seen result ≡ asked_log_of (map (λ w. string_bytes w) words.now) }
 {
     match words {
-        [form, text, name, waits, dead] => {
+        [form, text, name, waits, dead, lines, folder, documents] => {
             if form.as_str() != "--sarif" {
                 return None;
             }
@@ -69,6 +73,9 @@ pub fn read_log_words(words: &[String]) -> Option<AskedLog<'_>>
                 name: name.as_str(),
                 waits: waits.as_str(),
                 dead: dead.as_str(),
+                lines: lines.as_str(),
+                folder: folder.as_str(),
+                documents: documents.as_str(),
             })
         }
         _ => None,

@@ -1,3 +1,2 @@
 pub mod ViewFound
-pub mod LogText
 pub mod ClassLines

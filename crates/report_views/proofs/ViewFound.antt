@@ -1,19 +1,16 @@
--- What the findings give is a view or a log, or a cause for which there is none.
+-- What the findings give is a view, or a cause for which there is none.
 use Rattle.std.proofs.Common.{◌≡◌, ◌∙◌, ℕ, Bool, List, map, sym, subst}
 use Rattle.std.specs.Prelude.{IfOk, Result, Ok, Err}
 use Rattle.tm_terms.specs.declared.alarms.Alarm.{Alarm}
 use Rattle.source_marks.specs.Marks.{Origin}
-use Rattle.report_reading.specs.declared.listings.Listing.{Listing}
-use Rattle.report_views.specs.Causes.{AreFindings, AreOrigins, IsCause, IsLogCause, IsMisplaced, IsReportOf}
+use Rattle.report_views.specs.Causes.{AreOrigins, IsCause, IsMisplaced, IsReportOf}
 use Rattle.report_views.specs.Spots.{finding_of}
-use Rattle.report_views.specs.Views.{IsLog, IsLogged, IsShown, IsView}
+use Rattle.report_views.specs.Views.{IsShown, IsView}
 use Rattle.report_views.specs.declared.spots.Finding.{Finding}
 use Rattle.report_views.specs.declared.views.Form.{Form}
 use Rattle.report_views.specs.declared.causes.Cause.{Cause}
 use Rattle.report_views.specs.declared.causes.Cause.TheVariants.{LongReport, NotJson, NotReport, LongText, BrokenMark}
 use Rattle.report_views.specs.declared.causes.Cause.TheVariants.{Outside, LongListing, NotListing}
-
--- ## Views
 
 by_alarms : (name report text : List ℕ) (alarms : List Alarm) (origins : List Origin) → IsReportOf report alarms
     → AreOrigins name text origins → (cause : Cause) → IsMisplaced origins (map finding_of alarms) cause
@@ -48,43 +45,6 @@ view_of form name report text alarms findings origins origins' reads marks same_
       reads = reads;
       marks = subst Q (sym same_origins) marks;
       shown = subst S same_findings shown;
-    }
-
--- ## Logs
-
-by_findings : (name report waits dead text : List ℕ) (findings : List Finding) (origins : List Origin)
-    → AreFindings report waits dead findings → AreOrigins name text origins → (cause : Cause)
-    → IsMisplaced origins findings cause → IsLogCause name report waits dead text cause
-by_findings name report waits dead text findings origins reads marks LongReport m = absurd m
-by_findings name report waits dead text findings origins reads marks NotJson m = absurd m
-by_findings name report waits dead text findings origins reads marks NotReport m = absurd m
-by_findings name report waits dead text findings origins reads marks LongText m = absurd m
-by_findings name report waits dead text findings origins reads marks (BrokenMark number) m = absurd m
-by_findings name report waits dead text findings origins reads marks (Outside place) m = (findings, origins, reads, marks, m)
-by_findings name report waits dead text findings origins reads marks (LongListing listing) m = absurd m
-by_findings name report waits dead text findings origins reads marks (NotListing listing) m = absurd m
-
-pub misplaced_log : (name report waits dead text : List ℕ) (findings findings' : List Finding) (origins origins' : List Origin)
-    → AreFindings report waits dead findings → AreOrigins name text origins → findings' ≡ findings → origins' ≡ origins
-    → (cause : Cause) → IsMisplaced origins' findings' cause → IsLogCause name report waits dead text cause
-misplaced_log name report waits dead text findings findings' origins origins' reads marks same_findings same_origins cause m =
-    let P : List Finding → Type 0 = λ f. AreFindings report waits dead f in
-    let Q : List Origin → Type 0 = λ o. AreOrigins name text o in
-    by_findings name report waits dead text findings' origins' (subst P (sym same_findings) reads)
-    (subst Q (sym same_origins) marks) cause m
-
-pub log_of : (name report waits dead text : List ℕ) (findings findings' : List Finding) (origins origins' : List Origin)
-    → AreFindings report waits dead findings → AreOrigins name text origins → findings' ≡ findings → origins' ≡ origins
-    → (log : List ℕ) → IsLogged origins' findings' log → IsLog name report waits dead text log
-log_of name report waits dead text findings findings' origins origins' reads marks same_findings same_origins log logged =
-    let P : List Finding → Type 0 = λ f. AreFindings report waits dead f in
-    let Q : List Origin → Type 0 = λ o. AreOrigins name text o in
-    record {
-      findings = findings';
-      origins = origins';
-      reads = subst P (sym same_findings) reads;
-      marks = subst Q (sym same_origins) marks;
-      logged = logged;
     }
 
 pub if_ok_by : {T E : Type 0} (P Q : T → Type 0) (r : Result T E) → IfOk r P → ((x : T) → P x → Q x) → IfOk r Q

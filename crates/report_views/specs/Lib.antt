@@ -1,6 +1,5 @@
 pub mod Causes
 pub mod Lines
-pub mod Sarif
 pub mod Sentences
 pub mod Spots
 pub mod Summaries

@@ -1,10 +1,10 @@
--- Alarms as compilers print them: a line FILE:LINE:COL: RULE: SENTENCE for each, and then their number.
+-- Alarms as compilers print them: a line FILE:LINE:COL: LEVEL: SENTENCE [RULE] for each, and then their number.
 use Rattle.std.specs.Prelude.{ℕ, ◌+◌, ◌/◌, ◌%◌, ◌==◌, ◌||◌, List, [], ◌∷◌, ◌++◌, length, nat_lt, codes, decimal}
 use Rattle.std.specs.Prelude.{if◌then◌else◌}
 use Rattle.std.specs.List.{flat_map}
 use Rattle.tm_terms.specs.Texts.{count_line, line_of}
 use Rattle.source_marks.specs.Names.{decoded}
-use Rattle.report_views.specs.Sentences.{rule_sentence, rule_text}
+use Rattle.report_views.specs.Sentences.{level_text, rule_sentence, rule_text}
 use Rattle.report_views.specs.declared.sentences.Rule.{Rule}
 use Rattle.report_views.specs.Spots.{Spot}
 
@@ -22,11 +22,12 @@ shown name = flat_map shown_byte name
 abbrev pub place_in : Spot → List ℕ
 place_in spot = codes ":" ++ (decimal spot.line ++ (codes ":" ++ (decimal spot.col ++ codes ": ")))
 
--- RULE: SENTENCE
+-- LEVEL: SENTENCE [RULE]
 abbrev pub rule_line : Rule → List ℕ
-rule_line rule = line_of (rule_text rule ++ (codes ": " ++ rule_sentence rule))
+rule_line rule =
+    line_of (level_text rule ++ (codes ": " ++ (rule_sentence rule ++ (codes " [" ++ (rule_text rule ++ codes "]")))))
 
--- FILE:LINE:COL: RULE: SENTENCE
+-- FILE:LINE:COL: LEVEL: SENTENCE [RULE]
 abbrev pub spot_line : Spot → List ℕ
 spot_line spot = shown (decoded spot.name) ++ (place_in spot ++ rule_line spot.rule)
 

@@ -1,10 +1,9 @@
--- The view of a report over a text, and the log of a report, its waits and its dead places.
+-- The view of a report over a text.
 use Rattle.std.specs.Prelude.{◌≡◌, ℕ, Bool, List, [], ◌∷◌, map, Some, true, false}
 use Rattle.tm_terms.specs.declared.alarms.Alarm.{Alarm}
 use Rattle.source_marks.specs.Marks.{Origin}
-use Rattle.report_views.specs.Causes.{AreFindings, AreOrigins, IsReportOf}
+use Rattle.report_views.specs.Causes.{AreOrigins, IsReportOf}
 use Rattle.report_views.specs.Lines.{lines_text}
-use Rattle.report_views.specs.Sarif.{sarif_text}
 use Rattle.report_views.specs.Summaries.{summary_text}
 use Rattle.report_views.specs.Spots.{Spot, finding_of, spots_of}
 use Rattle.report_views.specs.declared.spots.Finding.{Finding}
@@ -37,19 +36,3 @@ pub record IsView (form : Form) (name report text : List ℕ) (alarm : Bool) (vi
   pub reads : IsReportOf report alarms
   pub marks : AreOrigins name text origins
   pub shown : IsShown form origins (map finding_of alarms) alarm view
-
--- the log of findings, where the lines of their text have these origins: a result for each, at its place in its file
-pub record IsLogged (origins : List Origin) (findings : List Finding) (log : List ℕ) : Type 0 where
-  pub spots : List Spot
-  pub placed : spots_of origins findings ≡ Some spots
-  pub written : log ≡ sarif_text spots
-
--- the log of a report, of its waits and of its dead places, as bytes, over a text, whose first file has this name: a
--- result for each alarm, then one for each lock that the waits list, then one for each dead place, all at the places
--- that the line marks of the text give
-pub record IsLog (name report waits dead text log : List ℕ) : Type 0 where
-  pub findings : List Finding
-  pub origins : List Origin
-  pub reads : AreFindings report waits dead findings
-  pub marks : AreOrigins name text origins
-  pub logged : IsLogged origins findings log

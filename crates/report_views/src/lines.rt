@@ -6,7 +6,7 @@ ghost use Rattle.tm_terms.specs.Texts.{count_line};
 ghost use Rattle.report_views.specs.Lines.{lines_text, place_in, rule_line, shown, shown_byte, spot_line};
 ghost use Rattle.report_views.specs.reading.Seen.{spot_seen};
 
-use crate::sentences::{Rule, rule_sentence, rule_word};
+use crate::sentences::{Rule, level, rule_sentence, rule_word};
 use crate::spots::Spot;
 use source_marks::name_bytes;
 use std::alloc::{AllocError, Global};
@@ -48,13 +48,14 @@ fn place_in(alloc: Global, spot: Spot<'_>) -> Result<String, AllocError>
     format!(in alloc; ":{line}:{col}: ")
 }
 
-/// A rule and what it says.
+/// The level of a rule, what it says, and its word.
 fn rule_line(alloc: Global, rule: Rule) -> Result<String, AllocError>
     ensures { IfOk result (λ text. string_bytes text ≡ rule_line rule) }
 {
-    let word = rule_word(rule);
+    let level = level(rule);
     let said = rule_sentence(rule);
-    format!(in alloc; "{word}: {said}\n")
+    let word = rule_word(rule);
+    format!(in alloc; "{level}: {said} [{word}]\n")
 }
 
 /// The name of the file of a finding.

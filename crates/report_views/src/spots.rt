@@ -67,7 +67,7 @@ pub fn push_places(
 }
 
 /// A finding in its file, by the origins of the lines of the text.
-fn spot_of<'a>(origins: &[Origin<'a>], finding: Finding) -> Option<Spot<'a>>
+pub fn spot_of<'a>(origins: &[Origin<'a>], finding: Finding) -> Option<Spot<'a>>
     ensures { option_map spot_seen result ≡ spot_of (map origin_seen origins.now) finding }
 {
     let line = finding.place.line as usize;

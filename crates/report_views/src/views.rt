@@ -60,7 +60,7 @@ fn formed(alloc: Global, form: Form, spots: &[Spot<'_>]) -> Result<Vec<u8>, Allo
 }
 
 /// The report that the bytes are.
-pub(crate) fn read(alloc: Global, report: &[u8]) -> Result<Report, ViewFail>
+pub fn read(alloc: Global, report: &[u8]) -> Result<Report, ViewFail>
     ensures ok { IfOk result (λ read. IsReportOf report.now read.alarms.items) }
     ensures refused { (cause : CauseOf) → IsErrOf result (ViewFail.Refused cause) →
         (name text : List ℕ) → IsCause name report.now text cause }
@@ -79,7 +79,7 @@ pub(crate) fn read(alloc: Global, report: &[u8]) -> Result<Report, ViewFail>
 }
 
 /// The origins of the lines of a text.
-pub(crate) fn traced<'a>(
+pub fn traced<'a>(
     alloc: Global,
     name: &'a [u8],
     text: &'a [u8],
@@ -101,7 +101,7 @@ pub(crate) fn traced<'a>(
 }
 
 /// Findings in their files.
-pub(crate) fn placed<'a>(
+pub fn placed<'a>(
     alloc: Global,
     origins: &[Origin<'a>],
     findings: &[Finding],

@@ -29,7 +29,7 @@ fn large(rt: HostRuntime) -> Result<(), Fail> {
     ) else {
         return Err(Fail::from(std::alloc::AllocError));
     };
-    let last = "b.h:100010:1: DIV: the divisor may be zero\nalarms 100000\n";
+    let last = "b.h:100010:1: warning: the divisor may be zero [DIV]\nalarms 100000\n";
     assert!(rt; reply.has_alarm);
     assert!(rt; reply.text.as_slice().ends_with(last.as_bytes()));
     Ok(())

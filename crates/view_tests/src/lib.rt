@@ -3,7 +3,7 @@
 //! calls.
 //!
 //! A row is a form, a name, a report, a text and what they must give: the report with `DIV` at 2:5 over the text of the
-//! lines `# 7 "a.h"` and `x` gives the line `a.h:7:5: DIV: the divisor may be zero` and `alarms 1`.
+//! lines `# 7 "a.h"` and `x` gives the line `a.h:7:5: warning: the divisor may be zero [DIV]` and `alarms 1`.
 #![tactic(auto)]
 
 #[cfg(test)]

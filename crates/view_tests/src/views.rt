@@ -1,6 +1,7 @@
 //! Views of small reports.
 
-use report_views::{Form, ViewFail, cause_line, log, view};
+use report_logs::{Frame, log};
+use report_views::{Form, ViewFail, cause_line, view};
 use std::alloc::Global;
 use std::process::Abort;
 use std::test::Fail;
@@ -12,7 +13,7 @@ const ONE: &str = "{\"alarms\":[{\"class\":\"DIV\",\"col\":5,\"line\":2}],\"coun
 const TWO: &str =
     "{\"alarms\":[{\"class\":\"RACE\",\"col\":1,\"line\":2},{\"class\":\"DIV\",\"col\":9,\"line\":5}],\"count\":2}";
 
-const DIV: &str = ": DIV: the divisor may be zero\nalarms 1\n";
+const DIV: &str = ": warning: the divisor may be zero [DIV]\nalarms 1\n";
 
 // A report over a text, whose first file is `a.c`, and its lines.
 static LINES: [(&str, &str, &str); 24] = [
@@ -55,8 +56,8 @@ static LINES: [(&str, &str, &str); 24] = [
     (
         TWO,
         "# 3 \"b.h\" 1\ny\n# 2 \"a.c\" 2\nx\nx\n",
-        "b.h:3:1: RACE: another task may access this object at the same time, and one of the two stores\n\
-        a.c:3:9: DIV: the divisor may be zero\nalarms 2\n",
+        "b.h:3:1: warning: another task may access this object at the same time, and one of the two stores [RACE]\n\
+        a.c:3:9: warning: the divisor may be zero [DIV]\nalarms 2\n",
     ),
 ];
 
@@ -293,21 +294,28 @@ fn shown(alloc: Global, form: Form, name: &str, report: &str, text: &str) -> Res
     }
 }
 
-// The log of a report, of waits and of dead places, or why there is none.
+// The log of a report, of waits and of dead places, or why there is none, where these lines of the files are at hand.
 fn logged(
     alloc: Global,
     report: &str,
     waits: &str,
     dead: &str,
     text: &str,
+    lines: &str,
 ) -> Result<Vec<u8>, Fail> {
+    let frame = Frame {
+        documents: b"/a b/docs",
+        folder: b"/\\167ork",
+        name: b"a.c",
+        text: text.as_bytes(),
+        lines: lines.as_bytes(),
+    };
     match log(
         alloc,
-        b"a.c",
+        frame,
         report.as_bytes(),
         waits.as_bytes(),
         dead.as_bytes(),
-        text.as_bytes(),
     ) {
         Ok(log) => Ok(log),
         Err(ViewFail::Refused(cause)) => {
@@ -333,31 +341,56 @@ fn lines(rt: HostRuntime) -> Result<(), Fail> {
         let given = shown(alloc, Form::Summary, "a.c", report, text)?;
         let line = format!(in alloc; "refused: {wanted}\n")?;
         assert!(rt; given.as_slice() == line.as_bytes());
-        let given = logged(alloc, report, NO_WAITS, NO_DEAD, text)?;
+        let given = logged(alloc, report, NO_WAITS, NO_DEAD, text, "")?;
         assert!(rt; given.as_slice() == line.as_bytes());
     }
     Ok(())
 }
 
-// The log of a report with two alarms, a wait and two dead places, from its results on.
+// A report with four alarms, its text, and the lines of the files, of which the last one is not at hand.
+const MARKED: &str =
+    "{\"alarms\":[{\"class\":\"RACE\",\"col\":1,\"line\":2},{\"class\":\"SHIFT\",\"col\":18,\"line\":4},\
+    {\"class\":\"DIV\",\"col\":24,\"line\":4},{\"class\":\"DIV\",\"col\":26,\"line\":4}],\"count\":4}";
+
+const TEXT: &str =
+    "# 3 \"b \\\"c.h\" 1\ny = 2;\n# 2 \"/work/src/a.c\" 2\nvoid f(void) { x <<= 1 / y; }\nx\n\u{e4}x\n";
+
+const FILE_LINES: &str = "\ny = 2; // note\n\nvoid\tf(void) { x <<= 1 / y; } // note\nPERCENT(x)\n";
+
+// The log of that report, of a wait and of two dead places, from its results on.
 const RESULTS: &str =
-    "\"results\":[{\"level\":\"warning\",\"locations\":[{\"physicalLocation\":{\"artifactLocation\":\
-    {\"uri\":\"b%20%22c.h\"},\"region\":{\"startColumn\":1,\"startLine\":3}}}],\"message\":{\"text\":\"another task may access \
-    this object at the same time, and one of the two stores\"},\"ruleId\":\"RACE\"},{\"level\":\"warning\",\"locations\":\
-    [{\"physicalLocation\":{\"artifactLocation\":{\"uri\":\"src/a.c\"},\"region\":{\"startColumn\":9,\"startLine\":3}}}],\
-    \"message\":{\"text\":\"the divisor may be zero\"},\"ruleId\":\"DIV\"},{\"level\":\"warning\",\"locations\":\
-    [{\"physicalLocation\":{\"artifactLocation\":{\"uri\":\"src/a.c\"},\"region\":{\"startColumn\":7,\"startLine\":2}}}],\
-    \"message\":{\"text\":\"tasks may come to wait for each other for ever, one of them at this lock\"},\"ruleId\":\"WAIT\"},\
-    {\"level\":\"note\",\"locations\":[{\"physicalLocation\":{\"artifactLocation\":{\"uri\":\"b%20%22c.h\"},\"region\":\
-    {\"startColumn\":2,\"startLine\":3}}}],\"message\":{\"text\":\"no run reaches this\"},\"ruleId\":\"DEAD\"},\
-    {\"level\":\"note\",\"locations\":[{\"physicalLocation\":{\"artifactLocation\":{\"uri\":\"src/a.c\"},\"region\":\
-    {\"startColumn\":1,\"startLine\":3}}}],\"message\":{\"text\":\"no run reaches this\"},\"ruleId\":\"DEAD\"}]";
+    "\"results\":[{\"level\":\"warning\",\"locations\":[{\"logicalLocations\":[],\"physicalLocation\":{\"artifactLoca\
+    tion\":{\"uri\":\"b%20%22c.h\"},\"region\":{\"endColumn\":2,\"startColumn\":1,\"startLine\":3}}}],\"message\":{\
+    \"text\":\"another task may access this object at the same time, and one of the two stores\"},\"partialFingerpri\
+    nts\":{\"cedratcleat/v1\":\"3ef5c450844cbb134b68b360c8575e21\"},\"ruleId\":\"RACE\",\"ruleIndex\":7},{\"level\":\
+    \"warning\",\"locations\":[{\"logicalLocations\":[{\"kind\":\"function\",\"name\":\"f\"}],\"physicalLocation\":{\
+    \"artifactLocation\":{\"uri\":\"/work/src/a.c\"},\"region\":{\"endColumn\":21,\"startColumn\":18,\"startLine\":2\
+    }}}],\"message\":{\"text\":\"the shift may have a count or a left operand for which it is not defined\"},\"parti\
+    alFingerprints\":{\"cedratcleat/v1\":\"8f04045e264ccc6052f6836bca0619dd\"},\"ruleId\":\"SHIFT\",\"ruleIndex\":2}\
+    ,{\"level\":\"warning\",\"locations\":[{\"logicalLocations\":[{\"kind\":\"function\",\"name\":\"f\"}],\"physical\
+    Location\":{\"artifactLocation\":{\"uri\":\"/work/src/a.c\"},\"region\":{\"endColumn\":25,\"startColumn\":24,\"s\
+    tartLine\":2}}}],\"message\":{\"text\":\"the divisor may be zero\"},\"partialFingerprints\":{\"cedratcleat/v1\":\
+    \"af2658217f2bb362eb5dacb7f275d37c\"},\"ruleId\":\"DIV\",\"ruleIndex\":1},{\"level\":\"warning\",\"locations\":[\
+    {\"logicalLocations\":[{\"kind\":\"function\",\"name\":\"f\"}],\"physicalLocation\":{\"artifactLocation\":{\"uri\
+    \":\"/work/src/a.c\"},\"region\":{\"endColumn\":27,\"startColumn\":26,\"startLine\":2}}}],\"message\":{\"text\":\
+    \"the divisor may be zero\"},\"partialFingerprints\":{\"cedratcleat/v1\":\"90637b77078ed5e89744a37b5744bc9e\"},\
+    \"ruleId\":\"DIV\",\"ruleIndex\":1},{\"level\":\"warning\",\"locations\":[{\"logicalLocations\":[{\"kind\":\"fun\
+    ction\",\"name\":\"f\"}],\"physicalLocation\":{\"artifactLocation\":{\"uri\":\"/work/src/a.c\"},\"region\":{\"en\
+    dColumn\":17,\"startColumn\":16,\"startLine\":2}}}],\"message\":{\"text\":\"tasks may come to wait for each othe\
+    r for ever, one of them at this lock\"},\"partialFingerprints\":{\"cedratcleat/v1\":\"1b8d5d9ebf6e036df7e0f31934\
+    638461\"},\"ruleId\":\"WAIT\",\"ruleIndex\":8},{\"level\":\"note\",\"locations\":[{\"logicalLocations\":[],\"phy\
+    sicalLocation\":{\"artifactLocation\":{\"uri\":\"/work/src/a.c\"},\"region\":{\"startLine\":3}}}],\"message\":{\
+    \"text\":\"no run reaches this\"},\"partialFingerprints\":{\"cedratcleat/v1\":\"b58256d7d392845a628aad7e75c26966\
+    \"},\"ruleId\":\"DEAD\",\"ruleIndex\":9},{\"level\":\"note\",\"locations\":[{\"logicalLocations\":[],\"physicalL\
+    ocation\":{\"artifactLocation\":{\"uri\":\"/work/src/a.c\"},\"region\":{\"startColumn\":2,\"startLine\":4}}}],\"\
+    message\":{\"text\":\"no run reaches this\"},\"partialFingerprints\":{\"cedratcleat/v1\":\"7bcd52318438a5d2059c1\
+    508afb45538\"},\"ruleId\":\"DEAD\",\"ruleIndex\":9}]";
 
 #[test]
 fn listings(rt: HostRuntime) -> Result<(), Fail> {
     let alloc = rt.alloc();
     for (waits, dead, wanted) in UNLISTED.iter() {
-        let given = logged(alloc, EMPTY, waits, dead, "x\nx")?;
+        let given = logged(alloc, EMPTY, waits, dead, "x\nx", "")?;
         let line = format!(in alloc; "refused: {wanted}\n")?;
         assert!(rt; given.as_slice() == line.as_bytes());
     }
@@ -367,21 +400,35 @@ fn listings(rt: HostRuntime) -> Result<(), Fail> {
 #[test]
 fn forms(rt: HostRuntime) -> Result<(), Fail> {
     let alloc = rt.alloc();
-    let text = "# 3 \"b \\\"c.h\" 1\ny\n# 2 \"src/a.c\" 2\nx\nx\n";
     let log = logged(
         alloc,
-        TWO,
-        "4:7 WAIT\nwaits 1\n",
-        "2:2 DEAD\n5:1 DEAD\ndead 2\n",
-        text,
+        MARKED,
+        "4:16 WAIT\nwaits 1\n",
+        "5:1 DEAD\n6:3 DEAD\ndead 2\n",
+        TEXT,
+        FILE_LINES,
     )?;
-    let start = "{\"$schema\":\"https://json.schemastore.org/sarif-2.1.0.json\",\"runs\":[{";
+    let start =
+        "{\"$schema\":\"https://json.schemastore.org/sarif-2.1.0.json\",\"runs\":[{\"artifacts\":[{\"location\":\
+        {\"uri\":\"a.c\"}},{\"location\":{\"uri\":\"b%20%22c.h\"}},{\"location\":{\"uri\":\"/work/src/a.c\"}}],\
+        \"columnKind\":\"utf16CodeUnits\",\"invocations\":[{\"executionSuccessful\":true,\"exitCode\":1,\
+        \"toolExecutionNotifications\":[]}],";
     assert!(rt; log.as_slice().starts_with(start.as_bytes()));
     let behind = &log.as_slice()[start.len().min(log.len())..];
     assert!(rt; behind.starts_with(RESULTS.as_bytes()));
-    let none = logged(alloc, EMPTY, NO_WAITS, NO_DEAD, text)?;
-    assert!(rt; none.as_slice()[start.len().min(none.len())..].starts_with(b"\"results\":[],"));
-    let counted = shown(alloc, Form::Summary, "a.c", TWO, text)?;
+    let none = logged(alloc, EMPTY, NO_WAITS, NO_DEAD, "", "")?;
+    let quiet =
+        "{\"$schema\":\"https://json.schemastore.org/sarif-2.1.0.json\",\"runs\":[{\"artifacts\":[{\"location\":\
+        {\"uri\":\"a.c\"}}],\"columnKind\":\"utf16CodeUnits\",\"invocations\":[{\"executionSuccessful\":true,\
+        \"exitCode\":0,\"toolExecutionNotifications\":[]}],\"results\":[],";
+    assert!(rt; none.as_slice().starts_with(quiet.as_bytes()));
+    let counted = shown(
+        alloc,
+        Form::Summary,
+        "a.c",
+        TWO,
+        "# 3 \"b.h\"\ny\n# 2 \"a.c\"\nx\nx\n",
+    )?;
     let summary =
         "OVERFLOW 0\nDIV 1\nSHIFT 0\nINDEX 0\nPOINTER 0\nDEREF 0\nLOCK 0\nRACE 1\nalarms 2\n";
     assert!(rt; counted.as_slice() == summary.as_bytes());

@@ -8,4 +8,12 @@ asked_seen asked = record { form = asked.form; text = asked.text.now; name = ask
 
 abbrev pub asked_log_seen : AskedLogCode → AskedLog
 asked_log_seen asked =
-    record { text = asked.text.now; name = asked.name.now; waits = asked.waits.now; dead = asked.dead.now }
+    record {
+      text = asked.text.now;
+      name = asked.name.now;
+      waits = asked.waits.now;
+      dead = asked.dead.now;
+      lines = asked.lines.now;
+      folder = asked.folder.now;
+      documents = asked.documents.now;
+    }

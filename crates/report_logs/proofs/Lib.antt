@@ -1,0 +1,4 @@
+pub mod Files
+pub mod LogFound
+pub mod LogText
+pub mod Results

@@ -1,0 +1,5 @@
+use Rattle.report_logs.proofs.Results.{told_whole}
+use Rattle.report_logs.proofs.laws.all_told.Goals as goal
+
+pub returns : goal.returns
+returns c = told_whole

@@ -1,0 +1,5 @@
+pub mod Laws
+pub mod Logs
+pub mod Sarif
+pub mod Uris
+pub mod reading
