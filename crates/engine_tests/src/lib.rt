@@ -1,5 +1,5 @@
-//! Tests of the engine that is below the analysis of C: keyed tables, rounds of passes, least tables, over two toys.
-//! Beside what they run, the toys show that the laws which the engine asks for can be met.
+//! Tests of the engine that is below the analysis of C: histories of passes and least tables, over two toys. Beside what
+//! they run, the toys show that the laws which the engine asks for can be met.
 #![tactic(auto)]
 
 #[cfg(test)]
@@ -7,6 +7,6 @@ mod counting_loop;
 #[cfg(test)]
 mod four_numbers;
 #[cfg(test)]
-mod least_tests;
+mod history_tests;
 #[cfg(test)]
-mod table_tests;
+mod least_tests;

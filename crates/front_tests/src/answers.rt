@@ -5,12 +5,23 @@ use c_parser::parse;
 use std::alloc::Global;
 use std::process::Abort;
 use std::test::Fail;
-use tm_terms::{Fail as Refused, refusal_line};
+use tm_terms::{Fail as Refused, Token, refusal_line};
 
-fn line_of(alloc: Global, fail: Refused) -> Result<String, Fail> {
+// The line of a refusal, or `taken` where there is none.
+fn line_of(alloc: Global, fail: Option<Refused>) -> Result<String, Fail> {
     match fail {
-        Refused::Refused(refusal) => Ok(refusal_line(alloc, &refusal)?),
-        Refused::NoMemory => Ok(String::from_str(alloc, "no memory")?),
+        Some(Refused::Refused(refusal)) => Ok(refusal_line(alloc, &refusal)?),
+        Some(Refused::NoMemory) => Ok(String::from_str(alloc, "no memory")?),
+        None => Ok(String::from_str(alloc, "taken")?),
+    }
+}
+
+// (Each station has a function of its own, with one way out: each way out of a function that owns trees or tokens has a
+// proof of how they are let go.)
+fn refused_behind_lexis(alloc: Global, tokens: &[Token]) -> Option<Refused> {
+    match parse(alloc, tokens) {
+        Ok(_file) => None,
+        Err(fail) => Some(fail),
     }
 }
 
@@ -19,13 +30,11 @@ pub fn answer_line(alloc: Global, source: &[u8]) -> Result<String, Fail> {
     if source.len() > 1_048_576 {
         return Ok(String::from_str(alloc, "too long")?);
     }
-    match lex(alloc, source) {
-        Err(fail) => line_of(alloc, fail),
-        Ok(tokens) => match parse(alloc, &tokens) {
-            Err(fail) => line_of(alloc, fail),
-            Ok(_) => Ok(String::from_str(alloc, "taken")?),
-        },
-    }
+    let refused = match lex(alloc, source) {
+        Ok(tokens) => refused_behind_lexis(alloc, &tokens),
+        Err(fail) => Some(fail),
+    };
+    line_of(alloc, refused)
 }
 
 /// The source has this answer.

@@ -1,6 +1,6 @@
 //! Expressions of control code with their trees, and the deepest and longest shapes.
 
-use c_expr_parser::parse_expr;
+use c_expr_parser::{Parsed, parse_expr};
 use c_lexer::lex;
 use std::alloc::{AllocError, Global};
 use std::process::Abort;
@@ -164,19 +164,40 @@ fn note_types(text: &[u8], tokens: &[Token], types: &mut Names) -> Result<(), Fa
     Ok(())
 }
 
-// The tree of the longest expression, how many tokens it takes, and its height; or nothing, 0 and 0.
+// The tree of an expression, how many tokens it takes, and its height. (Each of these owns one thing, with one way out
+// behind it.)
+fn parsed_told(alloc: Global, text: &[u8], parsed: &Parsed) -> Result<(Vec<u8>, usize, u32), Fail> {
+    let mut out = Vec::new(alloc);
+    write_tree(text, &mut out, &parsed.expr)?;
+    Ok((out, parsed.end, parsed.height))
+}
+
+// The same of the longest expression at the front of some tokens; nothing, 0 and 0 where there is none.
+fn longest_told(
+    alloc: Global,
+    text: &[u8],
+    tokens: &[Token],
+    types: &Names,
+) -> Result<(Vec<u8>, usize, u32), Fail> {
+    match parse_expr(alloc, tokens, 0, types)? {
+        None => Ok((Vec::new(alloc), 0, 0)),
+        Some(parsed) => parsed_told(alloc, text, &parsed),
+    }
+}
+
+fn tokens_told(
+    alloc: Global,
+    text: &[u8],
+    tokens: &[Token],
+) -> Result<(Vec<u8>, usize, u32), Fail> {
+    let mut types = Names::new(alloc);
+    note_types(text, tokens, &mut types)?;
+    longest_told(alloc, text, tokens, &types)
+}
+
 fn read(alloc: Global, text: &[u8]) -> Result<(Vec<u8>, usize, u32), Fail> {
     let tokens = tokens_of(alloc, text)?;
-    let mut types = Names::new(alloc);
-    note_types(text, &tokens, &mut types)?;
-    let mut out = Vec::new(alloc);
-    match parse_expr(alloc, &tokens, 0, &types)? {
-        None => Ok((out, 0, 0)),
-        Some(found) => {
-            write_tree(text, &mut out, &found.expr)?;
-            Ok((out, found.end, found.height))
-        }
-    }
+    tokens_told(alloc, text, &tokens)
 }
 
 fn reads(
@@ -259,6 +280,14 @@ fn repeat(tokens: &mut Vec<Token>, shapes: &[Shape], count: u32) -> Result<(), A
     Ok(())
 }
 
+// Where the longest expression ends, and its height.
+fn extent_of(alloc: Global, tokens: &[Token], types: &Names) -> Result<(usize, u32), Fail> {
+    match parse_expr(alloc, tokens, 0, types)? {
+        None => Ok((0, 0)),
+        Some(parsed) => Ok((parsed.end, parsed.height)),
+    }
+}
+
 fn extent(
     alloc: Global,
     front: &[Shape],
@@ -269,11 +298,7 @@ fn extent(
     repeat(&mut tokens, front, count)?;
     repeat(&mut tokens, &[A], 1)?;
     repeat(&mut tokens, back, count)?;
-    let types = Names::new(alloc);
-    match parse_expr(alloc, &tokens, 0, &types)? {
-        None => Ok((0, 0)),
-        Some(found) => Ok((found.end, found.height)),
-    }
+    extent_of(alloc, &tokens, &Names::new(alloc))
 }
 
 #[test]

@@ -69,13 +69,23 @@ fn push_asked(
     }
 }
 
+// (Each of these owns one thing, with one way out behind it.)
+fn asked_told(
+    alloc: Global,
+    found: &Solution,
+    cells: u32,
+    asked: Asked,
+) -> Result<String, NoMemory> {
+    let mut text = String::new(alloc);
+    push_asked(alloc, &mut text, found, cells, asked)?;
+    Ok(text)
+}
+
 // What is asked of the least solution of a program.
 fn least_told(alloc: Global, analysis: &Analysis, asked: Asked) -> Result<String, NoMemory> {
     let cells = analysis.program().laid.abstract_cells.len() as u32;
     let found = solution(alloc, analysis)?;
-    let mut text = String::new(alloc);
-    push_asked(alloc, &mut text, &found, cells, asked)?;
-    Ok(text)
+    asked_told(alloc, &found, cells, asked)
 }
 
 /// What is asked of the least solution of a source, or its refusal.

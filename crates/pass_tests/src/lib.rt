@@ -1,6 +1,6 @@
 //! Tests of the analysis of whole programs over public calls alone, from the text of a source on: the tables and the
-//! store of its least solution, that several workers end in that store, and what a check of the solution answers. It
-//! holds no code of its own, and it proves nothing of the crates that it calls.
+//! store of its least solution, and what a check of the solution answers. It holds no code of its own, and it proves
+//! nothing of the crates that it calls.
 //!
 //! A row is a text, what is asked of its least solution, and the answer: of
 //! `int x;int r;int main(void){x=5;return 0;}__task(1) void t(void){r=10/x;}` the store is `w 0 0 1 i 2 2 0`, the weak
@@ -23,5 +23,3 @@ mod rows;
 mod sources;
 #[cfg(test)]
 mod tables;
-#[cfg(test)]
-mod workers;

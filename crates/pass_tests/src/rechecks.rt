@@ -11,14 +11,13 @@ ghost use Rattle.program_solutions.specs.post_recheck.Pairs.{pair_of, lists_of, 
 use crate::sources::analysed;
 use crate::tables::{BEGUN, BEGUN_TWICE, COUNTS, ENDLESS, MUTUAL, PENDING};
 use interfere_set::Store;
-use post_recheck::{BodyState, Checked, Solution, Table, recheck, recheck_in_order};
-use program_solutions::solution;
+use post_recheck::{Checked, Solution, Table, recheck_in_order};
+use program_solutions::{copied_table, solution};
 use std::alloc::Global;
 use std::sync::Arc;
 use std::test::Fail;
-use std::thread::Threads;
 use thread_pass::Analysis;
-use tm_lattice::{Lattice, NoMemory};
+use tm_lattice::NoMemory;
 
 // What is taken away from a solution.
 #[derive(Clone, Copy)]
@@ -62,27 +61,6 @@ static ROWS: [(&str, Without, &str); 22] = [
     (BEGUN_TWICE, States((2, 0), (1, 3)), "uncovered 1 3"),
     (BEGUN_TWICE, State(2, 0), "uncovered 2 0"),
 ];
-
-// An equal state, or none.
-fn copied_state(alloc: Global, state: &Option<BodyState>) -> Result<Option<BodyState>, NoMemory>
-    ensures { IfOk result (λ copy. copy ≡ state.now) }
-{
-    match state {
-        None => Ok(None),
-        Some(state) => Ok(Some(state.copied(alloc)?)),
-    }
-}
-
-// An equal table.
-fn copied_table(alloc: Global, table: &[Option<BodyState>]) -> Result<Table, NoMemory>
-    ensures { IfOk result (λ copy. copy.items ≡ table.now) }
-{
-    let mut copy = Vec::new(alloc);
-    for state in table {
-        copy.push(copied_state(alloc, state)?)?;
-    }
-    Ok(copy)
-}
 
 // Equal tables.
 fn copied_tables(alloc: Global, tables: &[Table]) -> Result<Vec<Table>, NoMemory>
@@ -137,37 +115,6 @@ fn store_without(
     }
 }
 
-// What one thread answers.
-fn answer_in_order(
-    alloc: Global,
-    analysis: &Analysis,
-    found: &Solution,
-    without: Without,
-) -> Result<Checked, NoMemory>
-    requires { FitsPair (program_of analysis.now) found.now }
-{
-    let (program, facts) = analysis.parts();
-    let tables = tables_without(alloc, found.tables(), without)?;
-    let store = store_without(alloc, found.store(), without)?;
-    recheck_in_order(alloc, program, facts, tables, store)
-}
-
-// What as many threads as there are bodies answer.
-fn answer_by_threads<R: Threads + Sync>(
-    rt: &R,
-    alloc: Global,
-    analysis: &Analysis,
-    found: &Solution,
-    without: Without,
-) -> Result<Checked, NoMemory>
-    requires { FitsPair (program_of analysis.now) found.now }
-{
-    let (program, facts) = analysis.parts();
-    let tables = tables_without(alloc, found.tables(), without)?;
-    let store = store_without(alloc, found.store(), without)?;
-    recheck(rt, alloc, program, facts, tables, store)
-}
-
 fn answer_told(alloc: Global, answer: &Checked) -> Result<String, NoMemory> {
     match answer {
         Checked::Solution(_) => Ok(String::from_str(alloc, "solution")?),
@@ -180,31 +127,46 @@ fn answer_told(alloc: Global, answer: &Checked) -> Result<String, NoMemory> {
     }
 }
 
-// The answer of one thread, and that of several.
-fn answers<R: Threads + Sync>(
-    rt: &R,
+// (Each of these owns one thing, with one way out behind it.)
+fn answer_of(
+    alloc: Global,
+    analysis: &Analysis,
+    found: &Solution,
+    without: Without,
+) -> Result<String, NoMemory>
+    requires { FitsPair (program_of analysis.now) found.now }
+{
+    let (program, facts) = analysis.parts();
+    let tables = tables_without(alloc, found.tables(), without)?;
+    let store = store_without(alloc, found.store(), without)?;
+    let answer = recheck_in_order(alloc, program, facts, tables, store)?;
+    answer_told(alloc, &answer)
+}
+
+// What is answered of the least solution of a program without this.
+fn program_answer(
     alloc: Global,
     analysis: &Analysis,
     without: Without,
-) -> Result<(String, String), NoMemory> {
+) -> Result<String, NoMemory> {
     let found = solution(alloc, analysis)?;
-    let one = answer_in_order(alloc, analysis, &found, without)?;
-    let several = answer_by_threads(rt, alloc, analysis, &found, without)?;
-    Ok((answer_told(alloc, &one)?, answer_told(alloc, &several)?))
+    answer_of(alloc, analysis, &found, without)
+}
+
+// And of that of a source.
+fn source_answer(alloc: Global, source: &[u8], without: Without) -> Result<String, NoMemory> {
+    match analysed(alloc, source) {
+        Ok(analysis) => program_answer(alloc, &analysis, without),
+        Err(_) => Ok(String::from_str(alloc, "refused")?),
+    }
 }
 
 #[test]
 fn checks(rt: HostRuntime) -> Result<(), Fail> {
     let alloc = rt.alloc();
     for (source, without, answer) in ROWS.iter() {
-        match analysed(alloc, source.as_bytes()) {
-            Ok(analysis) => {
-                let (one, several) = answers(&rt, alloc, &analysis, *without)?;
-                assert_eq!(rt; one.as_str(), *answer, "one thread, of {source}");
-                assert_eq!(rt; several.as_str(), *answer, "several, of {source}");
-            }
-            Err(_) => assert!(rt; false, "refused: {source}"),
-        }
+        let given = source_answer(alloc, source.as_bytes(), *without)?;
+        assert_eq!(rt; given.as_str(), *answer, "of {source}");
     }
     Ok(())
 }

@@ -1,12 +1,8 @@
 //! Sources and their answers: two tables over one driver.
 
-use analyser::analyse;
+use crate::commands::expect;
 use std::alloc::Global;
-use std::process::Abort;
-use std::sync::Wait;
 use std::test::Fail;
-use std::thread::Threads;
-use tm_io::{OpenGate, SureSink, SureSource};
 
 /// A source, the number with which the program ends on it, and the text that it writes.
 static SOURCES: [(&[u8], u8, &[u8]); 33] = [
@@ -205,43 +201,37 @@ static LONG_SOURCES: [(&[u8], &[u8], usize, &[u8], u8, &[u8]); 12] = [
     ),
 ];
 
-/// The source has this answer.
-fn expect<R: Abort + Threads + Wait + Sync>(
-    rt: &R,
-    alloc: Global,
-    source: Vec<u8>,
-    number: u8,
-    text: &[u8],
-) -> Result<(), Fail> {
-    let mut words = Vec::new(alloc);
-    words.push(String::from_str(alloc, "analyse")?)?;
-    let mut source = SureSource::new(source);
-    let mut out = SureSink::new(alloc);
-    let status = analyse(rt, alloc, &words, &mut source, &mut out, &OpenGate);
-    assert_eq!(rt; out.taken(), text);
-    assert_eq!(rt; status.number(), number);
-    Ok(())
-}
-
 #[test]
 fn sources(rt: HostRuntime) -> Result<(), Fail> {
     let alloc = rt.alloc();
     for (source, number, text) in &SOURCES {
-        expect(&rt, alloc, source.to_vec(alloc)?, *number, text)?;
+        expect(&rt, alloc, &["analyse"], source, *number, text)?;
     }
     Ok(())
+}
+
+/// The source of a row of the long ones.
+fn repeated(
+    alloc: Global,
+    front: &[u8],
+    middle: &[u8],
+    count: usize,
+    back: &[u8],
+) -> Result<Vec<u8>, Fail> {
+    let mut source = front.to_vec(alloc)?;
+    for _i in 0..count {
+        source.extend_from_slice(middle)?;
+    }
+    source.extend_from_slice(back)?;
+    Ok(source)
 }
 
 #[test]
 fn long_sources(rt: HostRuntime) -> Result<(), Fail> {
     let alloc = rt.alloc();
     for (front, middle, count, back, number, text) in &LONG_SOURCES {
-        let mut source = front.to_vec(alloc)?;
-        for _i in 0..*count {
-            source.extend_from_slice(middle)?;
-        }
-        source.extend_from_slice(back)?;
-        expect(&rt, alloc, source, *number, text)?;
+        let source = repeated(alloc, front, middle, *count, back)?;
+        expect(&rt, alloc, &["analyse"], &source, *number, text)?;
     }
     Ok(())
 }

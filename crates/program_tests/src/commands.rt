@@ -1,6 +1,7 @@
 //! Words, sources and their answers: a table over one driver.
 
-use analyser::{analyse, analyse_alone, asks_workers};
+use crate::alone::{expect_alone, owned};
+use analyser::{analyse, asks_workers};
 use std::alloc::Global;
 use std::process::Abort;
 use std::sync::Wait;
@@ -152,17 +153,25 @@ static ASKING: [(&[&str], bool); 10] = [
     (&["demo", "--workers", "2", "1"], true),
 ];
 
-/// Each word as a text of its own.
-fn owned(alloc: Global, given: &[&str]) -> Result<Vec<String>, Fail> {
-    let mut words = Vec::new(alloc);
-    for word in given {
-        words.push(String::from_str(alloc, word)?)?;
-    }
-    Ok(words)
+/// The words have this answer to the source by workers, where they ask for some.
+pub fn expect_words<R: Abort + Threads + Wait + Sync>(
+    rt: &R,
+    alloc: Global,
+    words: &[String],
+    bytes: &[u8],
+    number: u8,
+    text: &[u8],
+) -> Result<(), Fail> {
+    let mut source = SureSource::new(bytes.to_vec(alloc)?);
+    let mut out = SureSink::new(alloc);
+    let status = analyse(rt, alloc, words, &mut source, &mut out, &OpenGate);
+    assert_eq!(rt; out.taken(), text);
+    assert_eq!(rt; status.number(), number);
+    Ok(())
 }
 
 /// The words have this answer, also on the calling thread alone where they ask for no workers.
-fn expect<R: Abort + Threads + Wait + Sync>(
+pub fn expect<R: Abort + Threads + Wait + Sync>(
     rt: &R,
     alloc: Global,
     given: &[&str],
@@ -171,17 +180,9 @@ fn expect<R: Abort + Threads + Wait + Sync>(
     text: &[u8],
 ) -> Result<(), Fail> {
     let words = owned(alloc, given)?;
-    let mut source = SureSource::new(bytes.to_vec(alloc)?);
-    let mut out = SureSink::new(alloc);
-    let status = analyse(rt, alloc, &words, &mut source, &mut out, &OpenGate);
-    assert_eq!(rt; out.taken(), text);
-    assert_eq!(rt; status.number(), number);
+    expect_words(rt, alloc, &words, bytes, number, text)?;
     if !asks_workers(alloc, &words)? {
-        let mut source = SureSource::new(bytes.to_vec(alloc)?);
-        let mut out = SureSink::new(alloc);
-        let status = analyse_alone(alloc, &words, &mut source, &mut out);
-        assert_eq!(rt; out.taken(), text);
-        assert_eq!(rt; status.number(), number);
+        expect_alone(rt, alloc, given, bytes, number, text)?;
     }
     Ok(())
 }

@@ -1,10 +1,9 @@
 //! A replay of calls that are 395 deep in one another, each in an expression of height 480: to go down through calls
 //! and trees would need more stack than a main thread has.
 
-use analyser::analyse;
+use crate::commands::expect;
 use std::alloc::Global;
 use std::test::Fail;
-use tm_io::{OpenGate, SureSink, SureSource};
 
 /// The text `fK`.
 fn push_name(alloc: Global, text: &mut String, number: u32) -> Result<(), Fail> {
@@ -36,12 +35,5 @@ fn deep_source(alloc: Global) -> Result<String, Fail> {
 fn deep_calls(rt: HostRuntime) -> Result<(), Fail> {
     let alloc = rt.alloc();
     let text = deep_source(alloc)?;
-    let mut words = Vec::new(alloc);
-    words.push(String::from_str(alloc, "replay")?)?;
-    let mut source = SureSource::new(text.as_bytes().to_vec(alloc)?);
-    let mut out = SureSink::new(alloc);
-    let status = analyse(&rt, alloc, &words, &mut source, &mut out, &OpenGate);
-    assert_eq!(rt; out.taken(), b"ran 2\n".as_slice());
-    assert_eq!(rt; status.number(), 0);
-    Ok(())
+    expect(&rt, alloc, &["replay"], text.as_bytes(), 0, b"ran 2\n")
 }

@@ -15,8 +15,6 @@ mod commands;
 #[cfg(test)]
 mod deep_calls;
 #[cfg(test)]
-mod devices;
-#[cfg(test)]
 mod findings;
 #[cfg(test)]
 mod gates;

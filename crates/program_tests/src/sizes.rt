@@ -3,11 +3,12 @@
 //! made.
 
 use crate::alone::{expect_alone, owned};
+use crate::commands::expect_words;
 use crate::gates::lines_with;
 use analyser::analyse;
 use std::alloc::Global;
 use std::test::Fail;
-use tm_io::{MemorySink, MemorySource, OpenGate, SureSink, SureSource};
+use tm_io::{OpenGate, SureSink, SureSource};
 
 /// How many lines with an alarm there are.
 const DIVISIONS: usize = 150;
@@ -232,14 +233,9 @@ fn counting_history(alloc: Global) -> Result<String, Fail> {
 fn a_long_history(rt: HostRuntime) -> Result<(), Fail> {
     let alloc = rt.alloc();
     let words = counting_words(alloc, "1")?;
-    let mut source = MemorySource::new(COUNTING.to_vec(alloc)?, 1, Vec::new(alloc));
-    let mut out = MemorySink::new(alloc, 1, Vec::new(alloc));
-    let status = analyse(&rt, alloc, &words, &mut source, &mut out, &OpenGate);
     let mut text = counting_history(alloc)?;
     text.push_str(COUNTING_REPORT)?;
-    assert_eq!(rt; out.taken(), text.as_bytes());
-    assert_eq!(rt; status.number(), 1);
-    Ok(())
+    expect_words(&rt, alloc, &words, COUNTING, 1, text.as_bytes())
 }
 
 #[test]

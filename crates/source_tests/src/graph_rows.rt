@@ -2,7 +2,7 @@
 
 use crate::graph_pictures::graph_told;
 use crate::graph_tables::{FORMS, SOURCES};
-use crate::sources::running;
+use crate::sources::{RunningProgram, running};
 use flow_graph::Graph;
 use std::alloc::Global;
 use std::process::Abort;
@@ -24,39 +24,50 @@ fn is_so(
     Ok(())
 }
 
-// The bodies of a source have these graphs.
+// All of them have.
 fn are_so(
+    rt: &impl Abort,
+    alloc: Global,
+    program: &RunningProgram,
+    graphs: &[(u32, &str)],
+) -> Result<(), Fail> {
+    assert_eq!(rt; program.graphs.graphs.len(), graphs.len());
+    for (graph, (nodes, edges)) in program.graphs.graphs.iter().zip(graphs.iter()) {
+        is_so(rt, alloc, &program.layout.laid, graph, *nodes, *edges)?;
+    }
+    Ok(())
+}
+
+// The bodies of a source have these graphs.
+fn source_has(
     rt: &impl Abort,
     alloc: Global,
     source: &str,
     graphs: &[(u32, &str)],
 ) -> Result<(), Fail> {
     match running(alloc, source.as_bytes()) {
-        Ok(lowered) => {
-            assert_eq!(rt; lowered.graphs.graphs.len(), graphs.len());
-            for (graph, (nodes, edges)) in lowered.graphs.graphs.iter().zip(graphs.iter()) {
-                is_so(rt, alloc, &lowered.laid, graph, *nodes, *edges)?;
-            }
-        }
+        Ok(program) => are_so(rt, alloc, &program, graphs),
         Err(_) => {
             assert_eq!(rt; source, "is refused");
+            Ok(())
         }
+    }
+}
+
+// Each source of a table has its graphs.
+fn table_is_so(
+    rt: &impl Abort,
+    alloc: Global,
+    rows: &[(&str, &[(u32, &str)])],
+) -> Result<(), Fail> {
+    for (source, graphs) in rows {
+        source_has(rt, alloc, *source, *graphs)?;
     }
     Ok(())
 }
 
 #[test]
 fn sources(rt: HostRuntime) -> Result<(), Fail> {
-    for (source, graphs) in SOURCES.iter() {
-        are_so(&rt, rt.alloc(), *source, *graphs)?;
-    }
-    Ok(())
-}
-
-#[test]
-fn forms(rt: HostRuntime) -> Result<(), Fail> {
-    for (source, graphs) in FORMS.iter() {
-        are_so(&rt, rt.alloc(), *source, *graphs)?;
-    }
-    Ok(())
+    table_is_so(&rt, rt.alloc(), &SOURCES)?;
+    table_is_so(&rt, rt.alloc(), &FORMS)
 }

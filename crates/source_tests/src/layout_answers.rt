@@ -25,7 +25,7 @@ fn laid_line(alloc: Global, laid: &Laid) -> Result<String, Fail> {
 fn answer_line(alloc: Global, source: &[u8]) -> Result<String, Fail> {
     match laid_out(alloc, source) {
         Err(fail) => refused_line(alloc, fail),
-        Ok(laid) => laid_line(alloc, &laid),
+        Ok(layout) => laid_line(alloc, &layout.laid),
     }
 }
 

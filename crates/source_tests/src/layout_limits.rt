@@ -1,7 +1,8 @@
-//! Sources at their limits and one above, and sources whose calls are many or deep.
+//! Sources at their limits and one above, and sources whose calls are many.
 
 use crate::layout_answers::answers;
 use std::alloc::Global;
+use std::process::Abort;
 use std::test::Fail;
 
 // What stands many times, each time with its number.
@@ -15,7 +16,9 @@ enum Link {
 }
 
 // A front, a link and how often it stands, a back, and what the layout has.
-static CHAINS: [(&str, Link, u32, &str, &str); 9] = [
+type Chain = (&'static str, Link, u32, &'static str, &'static str);
+
+static CHAINS: [Chain; 9] = [
     (
         "",
         Link::Task,
@@ -91,54 +94,33 @@ fn text_of(alloc: Global, kind: Link, before: u32) -> Result<String, Fail> {
     Ok(text)
 }
 
-fn chain(alloc: Global, front: &str, kind: Link, count: u32, back: &str) -> Result<Vec<u8>, Fail> {
-    let mut text = front.as_bytes().to_vec(alloc)?;
-    for before in 0..count {
-        let one = text_of(alloc, kind, before)?;
+fn chain(alloc: Global, row: &Chain) -> Result<Vec<u8>, Fail> {
+    let mut text = row.0.as_bytes().to_vec(alloc)?;
+    for before in 0..row.2 {
+        let one = text_of(alloc, row.1, before)?;
         text.extend_from_slice(one.as_bytes())?;
     }
-    text.extend_from_slice(back.as_bytes())?;
+    text.extend_from_slice(row.3.as_bytes())?;
     Ok(text)
 }
 
-// `fK` returns 480 signs and a call of the function before it.
-fn signed(alloc: Global, text: &mut Vec<u8>, before: u32) -> Result<(), Fail> {
-    let here = before.wrapping_add(1);
-    let front = format!(in alloc; "int f{here}(void){{return ")?;
-    text.extend_from_slice(front.as_bytes())?;
-    for _sign in 0..480 {
-        text.extend_from_slice(b"+ ")?;
-    }
-    let back = format!(in alloc; "f{before}();}}")?;
-    text.extend_from_slice(back.as_bytes())?;
-    Ok(())
+fn chain_answers(rt: &impl Abort, alloc: Global, row: &Chain) -> Result<(), Fail> {
+    let source = chain(alloc, row)?;
+    answers(rt, alloc, &source, row.4)
 }
 
 #[test]
-fn limits(rt: HostRuntime) -> Result<(), Fail> {
-    let alloc = rt.alloc();
+fn cells(rt: HostRuntime) -> Result<(), Fail> {
     for (source, line) in CELLS.iter() {
-        answers(&rt, alloc, source.as_bytes(), *line)?;
-    }
-    for (front, kind, count, back, line) in CHAINS.iter() {
-        let source = chain(alloc, *front, *kind, *count, *back)?;
-        answers(&rt, alloc, &source, *line)?;
+        answers(&rt, rt.alloc(), source.as_bytes(), *line)?;
     }
     Ok(())
 }
 
 #[test]
-fn deep_calls(rt: HostRuntime) -> Result<(), Fail> {
-    let alloc = rt.alloc();
-    let mut source = b"int x;int f0(void){return 1;}".to_vec(alloc)?;
-    for before in 0..394 {
-        signed(alloc, &mut source, before)?;
+fn chains(rt: HostRuntime) -> Result<(), Fail> {
+    for row in CHAINS.iter() {
+        chain_answers(&rt, rt.alloc(), row)?;
     }
-    source.extend_from_slice(b"__task(1) void t(void){x=f394();}")?;
-    answers(
-        &rt,
-        alloc,
-        &source,
-        "paths 396 objects 1 cells 1 abstract 1",
-    )
+    Ok(())
 }

@@ -10,8 +10,6 @@
 #![tactic(auto)]
 
 #[cfg(test)]
-mod graph_limits;
-#[cfg(test)]
 mod graph_pictures;
 #[cfg(test)]
 mod graph_rows;

@@ -2,7 +2,7 @@
 
 use concrete_steps::{Content, Status};
 use concrete_values::{Pointer, Value};
-use concrete_worlds::World;
+use concrete_worlds::{Held, World};
 use std::alloc::{AllocError, Global};
 use std::test::Fail;
 
@@ -45,26 +45,37 @@ pub fn cells_told(alloc: Global, world: &World, cells: u32) -> Result<String, Fa
     Ok(text)
 }
 
-// How a task stands, and which of the first mutexes it holds.
+// How a task stands.
+fn push_status(alloc: Global, text: &mut String, status: Status) -> Result<(), Fail> {
+    match status {
+        Status::Waiting => text.push_str("waiting ")?,
+        Status::Ready => text.push_str("ready ")?,
+        Status::Done => text.push_str("done ")?,
+        Status::Blocked(mutex) => {
+            let told = format!(in alloc; "blocked {mutex} ")?;
+            text.push_str(&told)?;
+        }
+    }
+    Ok(())
+}
+
+// Which of the first mutexes it holds.
+fn push_held(alloc: Global, text: &mut String, held: Held) -> Result<(), Fail> {
+    for mutex in 0..16 {
+        if held.has(mutex) {
+            let told = format!(in alloc; "with {mutex} ")?;
+            text.push_str(&told)?;
+        }
+    }
+    Ok(())
+}
+
 fn push_standing(alloc: Global, text: &mut String, world: &World, task: u32) -> Result<(), Fail> {
     match world.standing(task) {
         None => text.push_str("none ")?,
         Some(standing) => {
-            match standing.status {
-                Status::Waiting => text.push_str("waiting ")?,
-                Status::Ready => text.push_str("ready ")?,
-                Status::Done => text.push_str("done ")?,
-                Status::Blocked(mutex) => {
-                    let told = format!(in alloc; "blocked {mutex} ")?;
-                    text.push_str(&told)?;
-                }
-            }
-            for mutex in 0..16 {
-                if standing.held.has(mutex) {
-                    let told = format!(in alloc; "with {mutex} ")?;
-                    text.push_str(&told)?;
-                }
-            }
+            push_status(alloc, text, standing.status)?;
+            push_held(alloc, text, standing.held)?;
         }
     }
     Ok(())

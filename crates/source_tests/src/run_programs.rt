@@ -7,9 +7,11 @@ use crate::run_pictures::cells_told;
 use crate::sources::{RunningProgram, running};
 use concrete_steps::{Choice, Stepped};
 use concrete_worlds::World;
+use flow_graph::Graph;
 use std::alloc::Global;
 use std::process::Abort;
 use std::test::Fail;
+use tm_laid::Laid;
 use tm_lattice::NoMemory;
 
 // A program, and what its cells of static storage hold when `main` has returned.
@@ -254,19 +256,33 @@ fn end_told(alloc: Global, world: &mut World, cells: u32) -> Result<String, Fail
     Ok(String::from_str(alloc, "not at its end")?)
 }
 
-// The end in the plain model, and behind a bar that in a world along graphs.
-fn ends_told(alloc: Global, program: &RunningProgram) -> Result<String, Fail>
-    requires worlds { HasWorlds program.now.laid }
-    requires graphs { HasGraphs program.now.laid program.now.graphs.graphs.items }
+// The end in the plain model.
+fn plain_told(alloc: Global, laid: &Laid, cells: u32) -> Result<String, Fail>
+    requires { HasWorlds laid.now }
 {
-    let cells = program.laid.initial.len().min(65_536) as u32;
-    let mut plain = World::start(alloc, &program.laid)?;
-    let mut text = end_told(alloc, &mut plain, cells)?;
-    let mut along = World::start_along(alloc, &program.laid, &program.graphs.graphs)?;
-    let again = end_told(alloc, &mut along, cells)?;
-    text.push_str("| ")?;
-    text.push_str(&again)?;
-    Ok(text)
+    let mut world = World::start(alloc, laid)?;
+    end_told(alloc, &mut world, cells)
+}
+
+// The end in a world along graphs.
+fn along_told(alloc: Global, laid: &Laid, graphs: &[Graph], cells: u32) -> Result<String, Fail>
+    requires worlds { HasWorlds laid.now }
+    requires graphs { HasGraphs laid.now graphs.now }
+{
+    let mut world = World::start_along(alloc, laid, graphs)?;
+    end_told(alloc, &mut world, cells)
+}
+
+// Both, with a bar between them.
+fn ends_told(alloc: Global, program: &RunningProgram) -> Result<String, Fail>
+    requires worlds { HasWorlds program.now.layout.laid }
+    requires graphs { HasGraphs program.now.layout.laid program.now.graphs.graphs.items }
+{
+    let laid = &program.layout.laid;
+    let cells = laid.initial.len().min(65_536) as u32;
+    let plain = plain_told(alloc, laid, cells)?;
+    let along = along_told(alloc, laid, &program.graphs.graphs, cells)?;
+    Ok(format!(in alloc; "{plain}| {along}")?)
 }
 
 fn program_told(alloc: Global, source: &str) -> Result<String, Fail> {

@@ -6,10 +6,12 @@ use crate::run_pictures::world_told;
 use crate::sources::{RunningProgram, running};
 use concrete_steps::{Choice, Stepped};
 use concrete_worlds::World;
+use flow_graph::Graph;
 use std::alloc::Global;
 use std::process::Abort;
 use std::test::Fail;
 use tm_cint::Class;
+use tm_laid::Laid;
 
 // A source with two cells of static storage, and two tasks or one and the initial section; choices, as w0 for wake 0
 // and r17 for run 1 7; and the picture of the start and of the world after each choice: what was answered, the cells,
@@ -200,18 +202,32 @@ fn run_told(alloc: Global, world: &mut World, choices: &str) -> Result<String, F
     Ok(text)
 }
 
-// The run in the plain model, and behind a bar that in a world along graphs.
-fn runs_told(alloc: Global, program: &RunningProgram, choices: &str) -> Result<String, Fail>
-    requires worlds { HasWorlds program.now.laid }
-    requires graphs { HasGraphs program.now.laid program.now.graphs.graphs.items }
+// The run in the plain model.
+fn plain_told(alloc: Global, laid: &Laid, choices: &str) -> Result<String, Fail>
+    requires { HasWorlds laid.now }
 {
-    let mut plain = World::start(alloc, &program.laid)?;
-    let mut text = run_told(alloc, &mut plain, choices)?;
-    let mut along = World::start_along(alloc, &program.laid, &program.graphs.graphs)?;
-    let again = run_told(alloc, &mut along, choices)?;
-    text.push_str("| ")?;
-    text.push_str(&again)?;
-    Ok(text)
+    let mut world = World::start(alloc, laid)?;
+    run_told(alloc, &mut world, choices)
+}
+
+// The run in a world along graphs.
+fn along_told(alloc: Global, laid: &Laid, graphs: &[Graph], choices: &str) -> Result<String, Fail>
+    requires worlds { HasWorlds laid.now }
+    requires graphs { HasGraphs laid.now graphs.now }
+{
+    let mut world = World::start_along(alloc, laid, graphs)?;
+    run_told(alloc, &mut world, choices)
+}
+
+// Both, with a bar between them.
+fn runs_told(alloc: Global, program: &RunningProgram, choices: &str) -> Result<String, Fail>
+    requires worlds { HasWorlds program.now.layout.laid }
+    requires graphs { HasGraphs program.now.layout.laid program.now.graphs.graphs.items }
+{
+    let laid = &program.layout.laid;
+    let plain = plain_told(alloc, laid, choices)?;
+    let along = along_told(alloc, laid, &program.graphs.graphs, choices)?;
+    Ok(format!(in alloc; "{plain}| {along}")?)
 }
 
 fn source_told(alloc: Global, source: &str, choices: &str) -> Result<String, Fail> {

@@ -1,6 +1,5 @@
-//! Tests of what an analysis keeps: tables that share their entries, states, the store of interferences and thresholds,
-//! over public calls alone. The library itself is empty; what holds of all cases is proved in the crates that are
-//! tested here.
+//! Tests of what an analysis keeps: states, the store of interferences and thresholds, over public calls alone. The
+//! library itself is empty; what holds of all cases is proved in the crates that are tested here.
 //!
 //! So a task of priority 2 sees what one of priority 1 wrote to a cell with no mutex held, where the cell is not fresh,
 //! and nothing where it is.
@@ -14,5 +13,3 @@ mod states;
 mod stores;
 #[cfg(test)]
 mod threshold_lists;
-#[cfg(test)]
-mod trees;

@@ -1,8 +1,6 @@
 //! Values of numbers.
 use pointer_dom::AbsValue;
-use std::alloc::Global;
-use std::test::Fail;
-use strided_dom::{Marks, Strided};
+use strided_dom::Strided;
 use tm_lattice::Lattice;
 
 /// The numbers from the first to the last; none where the last is below the first.
@@ -19,9 +17,4 @@ pub(crate) fn numbers(row: Numbers) -> AbsValue {
 pub(crate) fn is_numbers(value: &AbsValue, row: Numbers) -> bool {
     let wanted = numbers(row);
     value.below(&wanted) && wanted.below(value)
-}
-
-/// The thresholds 0 and 10.
-pub(crate) fn zero_and_ten(alloc: Global) -> Result<Marks, Fail> {
-    Ok(Marks::checked(vec![in alloc; 0, 10]?).ok_or("no marks")?)
 }

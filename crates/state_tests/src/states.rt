@@ -1,5 +1,5 @@
 //! States of a task at a node.
-use crate::numbers::{NONE, Numbers, is_numbers, numbers, zero_and_ten};
+use crate::numbers::{NONE, Numbers, is_numbers, numbers};
 use cell_env::{CellState, State, TempState};
 use pointer_dom::AbsValue;
 use state_tree::Tree;
@@ -94,45 +94,43 @@ fn has_no_more(state: &State<AbsValue>) -> bool {
     !state.is_nothing() && state.temp(5).is_none() && state.cell(9).is_none()
 }
 
-#[test]
-fn states_join_part_by_part(rt: HostRuntime) -> Result<(), Fail> {
-    let alloc = rt.alloc();
-    let one = state(
-        alloc,
-        &[(3, (1, 1), Some(7)), (4, (0, 0), Some(7))],
-        &[(7, (1, 1), 1, true, true), (8, (5, 5), 0, true, false)],
-    )?;
-    let other = state(
-        alloc,
-        &[(3, (2, 2), Some(7)), (4, (0, 0), Some(8))],
-        &[(7, (2, 2), 2, false, true), (8, NONE, 0, true, true)],
-    )?;
-    let both = one.join(alloc, &other)?;
+/// Whether the join of two states has of each part what it should.
+fn are_joined(
+    alloc: Global,
+    one: &State<AbsValue>,
+    other: &State<AbsValue>,
+) -> Result<bool, NoMemory> {
+    let both = one.join(alloc, other)?;
     let temps = has_temps(&both, &[(3, (1, 2), Some(7)), (4, (0, 0), None)]);
     let cells = has_cells(
         &both,
         &[(7, (1, 2), 3, false, true), (8, (5, 5), 0, true, false)],
     );
-    let above = lies_above(&both, &one, &other);
-    assert!(rt; temps & cells & above & has_no_more(&both));
-    Ok(())
+    Ok(temps & cells & lies_above(&both, one, other) & has_no_more(&both))
+}
+
+/// The same with the other state made here.
+fn joins_with_another(alloc: Global, one: &State<AbsValue>) -> Result<bool, NoMemory> {
+    let other = state(
+        alloc,
+        &[(3, (2, 2), Some(7)), (4, (0, 0), Some(8))],
+        &[(7, (2, 2), 2, false, true), (8, NONE, 0, true, true)],
+    )?;
+    are_joined(alloc, one, &other)
+}
+
+/// And the first one too.
+fn join(alloc: Global) -> Result<bool, NoMemory> {
+    let one = state(
+        alloc,
+        &[(3, (1, 1), Some(7)), (4, (0, 0), Some(7))],
+        &[(7, (1, 1), 1, true, true), (8, (5, 5), 0, true, false)],
+    )?;
+    joins_with_another(alloc, &one)
 }
 
 #[test]
-fn given_cells_alone_are_rounded(rt: HostRuntime) -> Result<(), Fail> {
-    let alloc = rt.alloc();
-    let marks = zero_and_ten(alloc)?;
-    let before = state(
-        alloc,
-        &[(0, (3, 3), None)],
-        &[(1, (3, 5), 0, false, false), (2, (3, 5), 0, false, false)],
-    )?;
-    let after = before.rounded_at(alloc, &[2, 2, 6], &marks)?;
-    let temps = has_temps(&after, &[(0, (3, 3), None)]);
-    let cells = has_cells(
-        &after,
-        &[(1, (3, 5), 0, false, false), (2, (0, 10), 0, false, false)],
-    );
-    assert!(rt; temps & cells);
+fn states_join_part_by_part(rt: HostRuntime) -> Result<(), Fail> {
+    assert!(rt; join(rt.alloc())?);
     Ok(())
 }

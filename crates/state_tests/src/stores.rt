@@ -2,47 +2,45 @@
 ghost use Rattle.std.specs.Prelude.{IsTrue};
 ghost use Rattle.interfere_set.specs.Stores.{HavePriorities};
 
-use crate::numbers::{NONE, Numbers, is_numbers, numbers};
+use crate::numbers::{NONE, Numbers, numbers};
 use interfere_set::{Store, seen_at_read, taken_at_lock};
 use pointer_dom::AbsValue;
 use std::alloc::Global;
 use std::test::Fail;
 use tm_lattice::{Lattice, NoMemory};
 
-/// What was written: the task, the mutexes held, and the value.
-const WRITTEN: [(u32, u16, Numbers); 4] = [
-    (1, 0b00, (0, 0)),
-    (1, 0b01, (3, 3)),
-    (1, 0b10, (8, 8)),
-    (2, 0b00, (20, 20)),
+/// What was written to the cell 0: the task, the mutexes held, and the value; or left there under the mutex 0.
+const ENTRIES: [(bool, u32, u16, Numbers); 6] = [
+    (false, 1, 0b00, (0, 0)),
+    (false, 1, 0b01, (3, 3)),
+    (false, 1, 0b10, (8, 8)),
+    (false, 2, 0b00, (20, 20)),
+    (true, 1, 0, (5, 5)),
+    (true, 2, 0, (30, 30)),
 ];
 
-/// What was left in the cell under the mutex 0: the task, and the value.
-const LEFT: [(u32, Numbers); 2] = [(1, (5, 5)), (2, (30, 30))];
-
-fn written(alloc: Global) -> Result<Store, NoMemory> {
-    let mut all = Store::new(alloc);
-    for (task, held, value) in &WRITTEN {
-        let part = Store::written(alloc, *task, *held, 0, numbers(*value))?;
-        all = all.join(alloc, &part)?;
-    }
-    Ok(all)
-}
-
-fn left(alloc: Global) -> Result<Store, NoMemory> {
-    let mut all = Store::new(alloc);
-    for (task, value) in &LEFT {
-        let part = Store::left(alloc, *task, 0, 0, numbers(*value))?;
-        all = all.join(alloc, &part)?;
-    }
-    Ok(all)
+/// A store with an entry more.
+fn with_entry(
+    alloc: Global,
+    store: &Store,
+    entry: &(bool, u32, u16, Numbers),
+) -> Result<Store, NoMemory> {
+    let (is_left, task, set, value) = *entry;
+    let one = if is_left {
+        Store::left(alloc, task, u32::from(set), 0, numbers(value))?
+    } else {
+        Store::written(alloc, task, set, 0, numbers(value))?
+    };
+    store.join(alloc, &one)
 }
 
 /// What was written to the cell 0, and what was left there.
 fn store(alloc: Global) -> Result<Store, NoMemory> {
-    let written = written(alloc)?;
-    let left = left(alloc)?;
-    written.join(alloc, &left)
+    let mut all = Store::new(alloc);
+    for entry in &ENTRIES {
+        all = with_entry(alloc, &all, entry)?;
+    }
+    Ok(all)
 }
 
 /// A reader: its task, the mutexes that it holds and found free, the cell, whether that is fresh; and the hull of what
@@ -103,13 +101,6 @@ fn are_seen(alloc: Global, store: &Store) -> Result<bool, NoMemory> {
     Ok(true)
 }
 
-#[test]
-fn what_is_seen_at_a_read(rt: HostRuntime) -> Result<(), Fail> {
-    let store = store(rt.alloc())?;
-    assert!(rt; are_seen(rt.alloc(), &store)?);
-    Ok(())
-}
-
 /// A task, a mutex that it locks, a cell; and the hull of what it is handed.
 const HANDED: [(u32, u32, u32, Numbers); 5] = [
     (0, 0, 0, (5, 30)),
@@ -129,48 +120,18 @@ fn are_handed(alloc: Global, store: &Store) -> Result<bool, NoMemory> {
     Ok(true)
 }
 
-#[test]
-fn what_is_handed_at_a_lock(rt: HostRuntime) -> Result<(), Fail> {
-    let store = store(rt.alloc())?;
-    assert!(rt; are_handed(rt.alloc(), &store)?);
-    Ok(())
+/// Whether all that is read and handed over is as the rows say.
+fn is_shown(alloc: Global) -> Result<bool, NoMemory> {
+    let store = store(alloc)?;
+    is_shown_of(alloc, &store)
 }
 
-/// Whether a store is nothing where nothing is written or left.
-fn is_nothing_of_none(alloc: Global) -> Result<bool, NoMemory> {
-    let written = Store::written(alloc, 1, 0, 0, numbers(NONE))?;
-    let left = Store::left(alloc, 1, 0, 0, numbers(NONE))?;
-    Ok(written.is_nothing() && left.is_nothing())
-}
-
-/// Whether a store is more than nothing, and equal to its copy.
-fn is_some_and_copied(alloc: Global, one: &Store) -> Result<bool, NoMemory> {
-    let none = Store::new(alloc);
-    let copy = one.copied(alloc)?;
-    let some = !one.is_nothing() && none.below(one) && !one.below(&none);
-    Ok(some && copy.below(one) && one.below(&copy))
-}
-
-/// Whether the task 1 wrote 4 to the cell 0 with no mutex held.
-fn has_four(store: &Store) -> bool {
-    let Some(held) = store.weak().get(1) else {
-        return false;
-    };
-    let Some(cells) = held.get(0) else {
-        return false;
-    };
-    match cells.get(0) {
-        None => false,
-        Some(value) => is_numbers(value, (4, 4)),
-    }
+fn is_shown_of(alloc: Global, store: &Store) -> Result<bool, NoMemory> {
+    Ok(are_seen(alloc, store)? && are_handed(alloc, store)?)
 }
 
 #[test]
-fn nothing_is_contributed_where_nothing_is_written(rt: HostRuntime) -> Result<(), Fail> {
-    let alloc = rt.alloc();
-    let nothing = is_nothing_of_none(alloc)?;
-    let one = Store::written(alloc, 1, 0, 0, numbers((4, 4)))?;
-    let copied = is_some_and_copied(alloc, &one)?;
-    assert!(rt; nothing & copied & has_four(&one));
+fn what_is_seen_at_a_read_and_handed_at_a_lock(rt: HostRuntime) -> Result<(), Fail> {
+    assert!(rt; is_shown(rt.alloc())?);
     Ok(())
 }

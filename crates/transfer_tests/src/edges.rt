@@ -7,15 +7,15 @@ ghost use Rattle.interfere_set.specs.Stores.{HavePriorities};
 ghost use Rattle.edge_actions.specs.transfer_rows.StateForms.{State as TaskState};
 ghost use Rattle.transfer_mem.specs.Applicable.{IsOperable};
 
+use crate::pictures::pictured;
 use cell_env::State;
 use edge_actions::EdgeView;
-use edge_effects::After;
 use flow_graph::{Operation, Test};
 use interfere_set::Store;
 use pointer_dom::AbsValue;
 use std::alloc::Global;
+use std::test::Fail;
 use tm_cint::BinOp;
-use tm_lattice::NoMemory;
 use transfer_mem::apply;
 
 // Whether each task that wrote something is one of so many tasks.
@@ -59,13 +59,13 @@ fn is_operable(operation: Operation) -> bool
     }
 }
 
-/// What an edge does; None where it may not be applied.
+/// What an edge does, as text, where it may be applied.
 pub fn applied(
     alloc: Global,
     view: &EdgeView,
     state: &State<AbsValue>,
     store: &Store,
-) -> Result<Option<After>, NoMemory>
+) -> Result<String, Fail>
     requires { IsLayable (typed_file_tree view.now.laid.now.file) view.now.laid.now.file.order.items }
 {
     let tasks = view.priorities.len();
@@ -74,7 +74,8 @@ pub fn applied(
         || !have_priorities(store, tasks)
         || !is_operable(view.operation)
     {
-        return Ok(None);
+        return Ok(String::from_str(alloc, "not applicable")?);
     }
-    Ok(Some(apply(alloc, view, state, store)?))
+    let after = apply(alloc, view, state, store)?;
+    pictured(alloc, &after)
 }

@@ -5,11 +5,13 @@ ghost use Rattle.tm_laid.specs.Layable.{IsLayable};
 
 use crate::edges::applied;
 use crate::layout::{INT, laid};
-use crate::pictures::pictured;
 use crate::states::{Cell, Entry, Numbers, Temp, state, store};
+use cell_env::State;
 use edge_actions::EdgeView;
 use flow_graph::{Into, Operation, Test};
+use pointer_dom::AbsValue;
 use std::alloc::Global;
+use std::process::Abort;
 use std::test::Fail;
 use tm_cint::{BinOp, IntType};
 use tm_laid::Laid;
@@ -470,13 +472,11 @@ static ROWS: [Row; 31] = [
     ),
 ];
 
-// What the edge of a row does.
-fn row_told(alloc: Global, laid: &Laid, row: &Row) -> Result<String, Fail>
+// What the edge of a row does in a state.
+fn told_in(alloc: Global, laid: &Laid, state: &State<AbsValue>, row: &Row) -> Result<String, Fail>
     requires { IsLayable (typed_file_tree laid.now.file) laid.now.file.order.items }
 {
     let (held, found, answer) = row.1;
-    let state = state(alloc, laid, row.2, row.3, row.4)?;
-    let store = store(alloc, row.5, row.6)?;
     // The temporary 0 is not live where the edges lead.
     let view = EdgeView {
         operation: row.0,
@@ -489,19 +489,31 @@ fn row_told(alloc: Global, laid: &Laid, row: &Row) -> Result<String, Fail>
         priorities: &[2, 1, 2],
         live: &[1, 2, 3],
     };
-    match applied(alloc, &view, &state, &store)? {
-        Some(after) => pictured(alloc, &after),
-        None => Ok(String::from_str(alloc, "not applicable")?),
+    let store = store(alloc, row.5, row.6)?;
+    applied(alloc, &view, state, &store)
+}
+
+// What the edge of a row does.
+fn row_told(alloc: Global, laid: &Laid, row: &Row) -> Result<String, Fail>
+    requires { IsLayable (typed_file_tree laid.now.file) laid.now.file.order.items }
+{
+    let state = state(alloc, laid, row.2, row.3, row.4)?;
+    told_in(alloc, laid, &state, row)
+}
+
+// Each row has its text.
+fn are_told(rt: &impl Abort, alloc: Global, laid: &Laid) -> Result<(), Fail>
+    requires { IsLayable (typed_file_tree laid.now.file) laid.now.file.order.items }
+{
+    for row in ROWS.iter() {
+        let told = row_told(alloc, laid, row)?;
+        assert_eq!(rt; told.as_str(), row.7);
     }
+    Ok(())
 }
 
 #[test]
 fn rows(rt: HostRuntime) -> Result<(), Fail> {
-    let alloc = rt.alloc();
-    let laid = laid(alloc)?;
-    for row in ROWS.iter() {
-        let told = row_told(alloc, &laid, row)?;
-        assert_eq!(rt; told.as_str(), row.7);
-    }
-    Ok(())
+    let laid = laid(rt.alloc())?;
+    are_told(&rt, rt.alloc(), &laid)
 }

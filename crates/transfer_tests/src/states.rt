@@ -89,22 +89,30 @@ pub fn state(
     Ok(State::new(temps, cells))
 }
 
+// What was written, or what was left under a mutex.
+fn entry(alloc: Global, is_left: bool, row: &Entry) -> Result<Store, NoMemory> {
+    let (task, held, cell, number) = *row;
+    let value = numbers((number, number));
+    if is_left {
+        Store::left(alloc, task, u32::from(held), cell, value)
+    } else {
+        Store::written(alloc, task, held, cell, value)
+    }
+}
+
+// A store with an entry more.
+fn with_entry(alloc: Global, store: &Store, is_left: bool, row: &Entry) -> Result<Store, NoMemory> {
+    let one = entry(alloc, is_left, row)?;
+    store.join(alloc, &one)
+}
+
 /// The store of what was written, and of what was left.
 pub fn store(alloc: Global, written: &[Entry], left: &[Entry]) -> Result<Store, NoMemory> {
     let mut all = Store::new(alloc);
-    for (task, held, cell, number) in written {
-        let one = Store::written(alloc, *task, *held, *cell, numbers((*number, *number)))?;
-        all = all.join(alloc, &one)?;
-    }
-    for (task, mutex, cell, number) in left {
-        let one = Store::left(
-            alloc,
-            *task,
-            u32::from(*mutex),
-            *cell,
-            numbers((*number, *number)),
-        )?;
-        all = all.join(alloc, &one)?;
+    for (is_left, rows) in [(false, written), (true, left)] {
+        for row in rows {
+            all = with_entry(alloc, &all, is_left, row)?;
+        }
     }
     Ok(all)
 }

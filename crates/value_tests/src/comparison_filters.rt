@@ -73,14 +73,40 @@ fn pointers(alloc: Global, row: Row) -> Result<PointerSet, NoMemory> {
 }
 
 /// Whether it is `==`, its two sides, and what it leaves of them.
-fn is_assumed_ptr(alloc: Global, row: &(bool, Row, Row, Row, Row)) -> Result<bool, NoMemory> {
-    let both = assume_ptr(
-        alloc,
-        row.0,
-        &pointers(alloc, row.1)?,
-        &pointers(alloc, row.2)?,
-    )?;
-    Ok(both.0.same(&pointers(alloc, row.3)?) & both.1.same(&pointers(alloc, row.4)?))
+type Assumed = (bool, Row, Row, Row, Row);
+
+fn is_set(alloc: Global, set: &PointerSet, row: Row) -> Result<bool, NoMemory> {
+    let wanted = pointers(alloc, row)?;
+    Ok(set.same(&wanted))
+}
+
+fn are_left(
+    alloc: Global,
+    left: &PointerSet,
+    right: &PointerSet,
+    row: &Assumed,
+) -> Result<bool, NoMemory> {
+    Ok(is_set(alloc, left, row.3)? & is_set(alloc, right, row.4)?)
+}
+
+fn are_left_of(
+    alloc: Global,
+    left: &PointerSet,
+    right: &PointerSet,
+    row: &Assumed,
+) -> Result<bool, NoMemory> {
+    let both = assume_ptr(alloc, row.0, left, right)?;
+    are_left(alloc, &both.0, &both.1, row)
+}
+
+fn are_left_beside(alloc: Global, left: &PointerSet, row: &Assumed) -> Result<bool, NoMemory> {
+    let right = pointers(alloc, row.2)?;
+    are_left_of(alloc, left, &right, row)
+}
+
+fn is_assumed_ptr(alloc: Global, row: &Assumed) -> Result<bool, NoMemory> {
+    let left = pointers(alloc, row.1)?;
+    are_left_beside(alloc, &left, row)
 }
 
 const NO_POINTER: Row = (false, false, NONE);
@@ -89,7 +115,7 @@ const NULL: Row = (true, false, NONE);
 
 const INVALID: Row = (false, true, NONE);
 
-const POINTER_COMPARISONS: [(bool, Row, Row, Row, Row); 6] = [
+const POINTER_COMPARISONS: [Assumed; 6] = [
     (
         true,
         (true, true, (0, 8, 2)),

@@ -38,9 +38,15 @@ fn or_null(alloc: Global, row: Numbers) -> Result<PointerSet, NoMemory> {
     into(alloc, row)?.join(alloc, &PointerSet::null(alloc))
 }
 
+/// Whether a set has these pointers.
+fn are(alloc: Global, set: &PointerSet, row: Numbers) -> Result<bool, NoMemory> {
+    let wanted = into(alloc, row)?;
+    Ok(set.same(&wanted))
+}
+
 /// Whether an operation has reached these pointers, and its class is not excluded where `may_fail` says so.
 fn is(alloc: Global, reached: &Reached, row: Numbers, may_fail: bool) -> Result<bool, NoMemory> {
-    Ok(reached.pointers.same(&into(alloc, row)?) & (reached.may_fail == may_fail))
+    Ok(are(alloc, &reached.pointers, row)? & (reached.may_fail == may_fail))
 }
 
 /// Whether it moves forward, by how many cells for each count, the counts, the offsets of the pointers and those that
@@ -61,12 +67,17 @@ const MOVES: [Move; 6] = [
     (true, 1, NONE, (2, 2, 1), NONE, false),
 ];
 
+/// Null does not move.
+fn null_stays(alloc: Global) -> Result<bool, NoMemory> {
+    let moved = or_null(alloc, (1, 1, 1))?.moved(alloc, true, 1, &set((1, 1, 1)))?;
+    is(alloc, &moved, (2, 2, 1), true)
+}
+
 #[test]
 fn arithmetic(rt: HostRuntime) -> Result<(), Fail> {
     let alloc = rt.alloc();
     assert_rows(&rt, &MOVES, |row| is_move(alloc, row) == Ok(true));
-    let moved = or_null(alloc, (1, 1, 1))?.moved(alloc, true, 1, &set((1, 1, 1)))?;
-    assert!(rt; is(alloc, &moved, (2, 2, 1), true)?);
+    assert!(rt; null_stays(alloc)?);
     Ok(())
 }
 
@@ -86,22 +97,34 @@ const SUBSCRIPTS: [Subscript; 4] = [
     (2, 3, (1, 1, 1), (0, 4, 4), (3, 7, 4), false),
 ];
 
+/// Null has no part.
+fn null_has_no_part(alloc: Global) -> Result<bool, NoMemory> {
+    let parts = or_null(alloc, (0, 6, 2))?.offset(alloc, 3)?;
+    are(alloc, &parts, (3, 9, 2))
+}
+
 #[test]
 fn subscripts(rt: HostRuntime) -> Result<(), Fail> {
     let alloc = rt.alloc();
     assert_rows(&rt, &SUBSCRIPTS, |row| is_element(alloc, row) == Ok(true));
-    let parts = or_null(alloc, (0, 6, 2))?.offset(alloc, 3)?;
-    assert!(rt; parts.same(&into(alloc, (3, 9, 2))?));
+    assert!(rt; null_has_no_part(alloc)?);
     Ok(())
 }
 
 /// Whether it is `==`, the offsets of both sides, and the values of the comparison.
-fn is_equality(alloc: Global, row: &(bool, Numbers, Numbers, Numbers)) -> Result<bool, NoMemory> {
-    let truths = equality(row.0, &into(alloc, row.1)?, &into(alloc, row.2)?);
-    Ok(truths == set(row.3))
+type Equality = (bool, Numbers, Numbers, Numbers);
+
+fn is_equality_with(alloc: Global, left: &PointerSet, row: &Equality) -> Result<bool, NoMemory> {
+    let right = into(alloc, row.2)?;
+    Ok(equality(row.0, left, &right) == set(row.3))
 }
 
-const EQUALITIES: [(bool, Numbers, Numbers, Numbers); 6] = [
+fn is_equality(alloc: Global, row: &Equality) -> Result<bool, NoMemory> {
+    let left = into(alloc, row.1)?;
+    is_equality_with(alloc, &left, row)
+}
+
+const EQUALITIES: [Equality; 6] = [
     (true, (2, 2, 1), (2, 2, 1), (1, 1, 1)),
     (true, (2, 8, 2), (4, 4, 1), (0, 1, 1)),
     (true, (2, 8, 2), (3, 9, 2), (0, 0, 1)),
@@ -110,14 +133,22 @@ const EQUALITIES: [(bool, Numbers, Numbers, Numbers); 6] = [
     (false, NONE, (3, 9, 2), NONE),
 ];
 
+/// Those pointers, with the invalid one.
+fn or_invalid(alloc: Global, row: Numbers) -> Result<PointerSet, NoMemory> {
+    into(alloc, row)?.join(alloc, &PointerSet::invalid(alloc))
+}
+
+/// The invalid pointer is not used.
+fn invalid_is_not_used(alloc: Global) -> Result<bool, NoMemory> {
+    let usable = or_invalid(alloc, (1, 2, 1))?.usable(alloc)?;
+    is(alloc, &usable, (1, 2, 1), true)
+}
+
 #[test]
 fn comparisons(rt: HostRuntime) -> Result<(), Fail> {
     let alloc = rt.alloc();
     assert_rows(&rt, &EQUALITIES, |row| is_equality(alloc, row) == Ok(true));
-    let usable = PointerSet::invalid(alloc)
-        .join(alloc, &into(alloc, (1, 2, 1))?)?
-        .usable(alloc)?;
-    assert!(rt; is(alloc, &usable, (1, 2, 1), true)?);
+    assert!(rt; invalid_is_not_used(alloc)?);
     Ok(())
 }
 
@@ -164,17 +195,20 @@ const ACCESSES: [Access; 4] = [
     (0, 9, (0, 8, 2), NONE, true),
 ];
 
+/// Null has no cell.
+fn null_is_not_dereferenced(alloc: Global) -> Result<bool, NoMemory> {
+    let layout = Flat {
+        objects: 1,
+        offsets: 9,
+    };
+    let cells = or_null(alloc, (1, 1, 1))?.dereferenced(alloc, &layout)?;
+    is(alloc, &cells, (1, 1, 1), true)
+}
+
 #[test]
 fn dereferences(rt: HostRuntime) -> Result<(), Fail> {
     let alloc = rt.alloc();
     assert_rows(&rt, &ACCESSES, |row| is_access(alloc, row) == Ok(true));
-    let cells = or_null(alloc, (1, 1, 1))?.dereferenced(
-        alloc,
-        &Flat {
-            objects: 1,
-            offsets: 9,
-        },
-    )?;
-    assert!(rt; is(alloc, &cells, (1, 1, 1), true)?);
+    assert!(rt; null_is_not_dereferenced(alloc)?);
     Ok(())
 }

@@ -1,12 +1,8 @@
-//! Sources and sinks, call by call.
-use crate::tables::assert_rows;
+//! Sources and sinks of the runtime, call by call.
 use std::alloc::{AllocError, Global};
 use std::io::{self, ErrorKind, Read, Write};
 use std::test::Fail;
-use tm_io::{
-    Failed, Gate, MemorySink, MemorySource, OpenGate, Sink, Source, StdSink, StdSource, Stop,
-    SureSink, SureSource,
-};
+use tm_io::{Failed, Gate, OpenGate, Sink, Source, StdSink, StdSource, Stop};
 
 const TEXT: &[u8] = b"abcdefg";
 
@@ -45,55 +41,6 @@ fn writes<K: Sink>(alloc: Global, sink: &mut K) -> Result<Vec<usize>, AllocError
         }
     }
     Ok(log)
-}
-
-/// The piece, the room, the calls that fail, and what six reads give.
-type Input = (usize, usize, &'static [u64], &'static [u8]);
-
-fn gives(alloc: Global, row: &Input) -> Result<bool, AllocError> {
-    if row.0 == 0 {
-        return Ok(false);
-    }
-    let source = MemorySource::new(TEXT.to_vec(alloc)?, row.0, row.2.to_vec(alloc)?);
-    Ok(reads(alloc, source, row.1)?.as_slice() == row.3)
-}
-
-/// The piece, the calls that fail, how much six writes take, and what the sink has then.
-type Output = (usize, &'static [u64], &'static [usize], &'static [u8]);
-
-fn takes(alloc: Global, row: &Output) -> Result<bool, AllocError> {
-    if row.0 == 0 {
-        return Ok(false);
-    }
-    let mut sink = MemorySink::new(alloc, row.0, row.1.to_vec(alloc)?);
-    Ok(writes(alloc, &mut sink)?.as_slice() == row.2 && sink.taken() == row.3)
-}
-
-const INPUTS: [Input; 5] = [
-    (3, 8, &[], b"abc|def|g||||"),
-    (3, 2, &[1, 3], b"!|ab|!|cd|ef|g|"),
-    (1, 4, &[7, 2, 2], b"a|!|b|c|d|e|"),
-    (9, 8, &[0], b"abcdefg||||||"),
-    (3, 0, &[6], b"|||||!|"),
-];
-
-const OUTPUTS: [Output; 3] = [
-    (3, &[2], &[3, FAULT, 3, 1, 0, 0], TEXT),
-    (1, &[], &[1, 1, 1, 1, 1, 1], b"abcdef"),
-    (9, &[1, 2, 3, 4, 5, 6], &[FAULT; 6], b""),
-];
-
-#[test]
-fn devices_in_memory(rt: HostRuntime) -> Result<(), Fail> {
-    let alloc = rt.alloc();
-    assert_rows(&rt, &INPUTS, |row| gives(alloc, row) == Ok(true));
-    assert_rows(&rt, &OUTPUTS, |row| takes(alloc, row) == Ok(true));
-    let sure = reads(alloc, SureSource::new(TEXT.to_vec(alloc)?), 4)?;
-    assert!(rt; sure.as_slice() == b"abcd|efg|||||".as_slice());
-    let mut sink = SureSink::new(alloc);
-    assert!(rt; writes(alloc, &mut sink)?.as_slice() == [7, 0, 0, 0, 0, 0].as_slice());
-    assert!(rt; sink.taken() == TEXT);
-    Ok(())
 }
 
 /// A reader and a writer that fail at every call.

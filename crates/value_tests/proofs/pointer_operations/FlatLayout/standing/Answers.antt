@@ -2,7 +2,7 @@ use Rattle.std.proofs.Common.{◌≡◌, ◌≤◌, pos, nat_abs, to_z, of_z, sy
 use Rattle.std.specs.Int.{w128}
 use Rattle.std.proofs.lemmas.Int.{ints, to_z-of_z}
 use Rattle.strided_dom.specs.Progression.{Has}
-use Rattle.congruence_dom.proofs.low.tm_numbers.Congruences.{cong_up}
+use Rattle.tm_numbers.proofs.Congruences.{cong_up}
 use Rattle.value_tests.proofs.pointer_operations.FlatLayout.standing.Goals as goal
 
 pub returns-clause-hull : goal.returns-clause-hull

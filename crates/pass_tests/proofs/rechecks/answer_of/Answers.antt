@@ -4,7 +4,7 @@ use Rattle.thread_pass.specs.program_systems.ReadPrograms.{program_of}
 use Rattle.thread_pass.specs.program_systems.ProgramFacts.{program_with}
 use Rattle.program_solutions.specs.post_recheck.Pairs.{FitsPair}
 use Rattle.pass_tests.proofs.Without.{both_without}
-use Rattle.pass_tests.proofs.rechecks.answer_in_order.Goals as goal
+use Rattle.pass_tests.proofs.rechecks.answer_of.Goals as goal
 
 pub recheck_in_order-requires-clause-fits : goal.recheck_in_order-requires-clause-fits
 recheck_in_order-requires-clause-fits c =

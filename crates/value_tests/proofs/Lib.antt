@@ -1,0 +1,3 @@
+pub mod CongruenceRows
+pub mod IntegerRows
+pub mod IntervalRows
