@@ -1,40 +1,58 @@
 #!/usr/bin/env bash
-# What a certificate costs: how long `certify` takes beside `analyse` on the sources that the program generates, with how
-# much memory, and how large the text is.
+# What certificates cost: how long `certify` and `check` take beside `analyse`, with how much memory, and how large the
+# text is, on the sources that the program generates and on files.
 #
-#     benches/certificates.sh PROGRAM [N..]
+#     benches/certificates.sh PROGRAM [N|FILE..]
 #
 # PROGRAM is the built analyser (./analyse --program). Each time is the least of five runs, in processor seconds. A row
-# says N, bytes of the source and of its certificate, seconds and MB of both commands, and the two ratios. Only a report
-# and a whole certificate count: where a run has none, the row says so, and the status is 1. GNU time has to be installed.
+# says the source, its bytes and those of its certificate, seconds and MB of the three commands, and how many times
+# those of `analyse` the other two take. Only a report, a whole certificate and `certified` count: where a run has none,
+# the row says so, and the status is 1. GNU time has to be installed.
 set -eu
 [ $# -ge 1 ] || { sed -n 's/^#     /usage: /p' "$0"; exit 2; }
 
 program=$(readlink -f "$1")
 shift
+here=$(cd "$(dirname "$0")" && pwd)
+[ $# -gt 0 ] || set -- 50 100 200 400 "$here"/../examples/{can_dispatch,calibration_table,filter_bank}.c
 work=$(mktemp -d)
 trap 'rm -rf "$work"' EXIT
-cd "$work"
 
-# "seconds MB" of the least of five runs of a command of the program.
-least() { # COMMAND
-    local run
-    for run in 1 2 3 4 5; do
-        env time -o told -f '%U %S %M' "$program" "$1" <input >"$1" 2>err || true
-        tail -n 1 told
-    done | awk '{ s = $1 + $2; if (NR == 1 || s < least) least = s; if ($3 > most) most = $3 }
+# "seconds MB" of a command of the program: the least of five runs, and the memory of one more.
+least() { # COMMAND INPUT
+    local TIMEFORMAT='%3U %3S'
+    {
+        for _ in 1 2 3 4 5; do
+            { time "$program" "$1" <"$2" >"$work/$1" 2>"$work/err" || true; } 2>&1
+        done
+        env time -o "$work/told" -f 'MB %M' "$program" "$1" <"$2" >"$work/$1" 2>"$work/err" || true
+        tail -n 1 "$work/told"
+    } | awk '/^MB/ { most = $2; next } { s = $1 + $2; if (NR == 1 || s < least) least = s }
         END { printf "%.3f %.0f\n", least, most / 1024 }'
 }
 
 status=0
-printf '%5s %8s %10s %9s %7s %9s %7s %7s %7s\n' N bytes text analyse_s MB certify_s MB time memory
-for n in ${*:-50 100 200 400}; do
-    "$program" generate "$n" </dev/null >input
-    analyse=$(least analyse)
-    certify=$(least certify)
-    tail -n 1 analyse | grep -qx 'alarms [0-9]*' || { echo "$n: no report: $(tail -n 1 analyse)" && status=1 && continue; }
-    tail -n 1 certify | grep -qx end || { echo "$n: no certificate: $(tail -n 1 certify)" && status=1 && continue; }
-    echo "$n $(wc -c <input) $(wc -c <certify) $analyse $certify" | awk '{
-        printf "%5s %8s %10s %9s %7s %9s %7s %7.1f %7.1f\n", $1, $2, $3, $4, $5, $6, $7, $6 / ($4 > 0 ? $4 : 0.001), $7 / $5 }'
+printf '%-20s %7s %9s %16s %24s %24s\n' source bytes text 'analyse s MB' 'certify s MB times' 'check s MB times'
+for it; do
+    name=${it##*/}
+    if [[ $it =~ ^[0-9]+$ ]]; then
+        name="generate $it"
+        "$program" generate "$it" </dev/null >"$work/input"
+    else
+        cp -- "$it" "$work/input"
+    fi
+    analyse=$(least analyse "$work/input")
+    certify=$(least certify "$work/input")
+    check=$(least check "$work/certify")
+    bad=
+    tail -n 1 "$work/analyse" | grep -qx 'alarms [0-9]*' || bad="no report: $(tail -n 1 "$work/analyse")"
+    tail -n 1 "$work/certify" | grep -qx end || bad="no certificate: $(tail -n 1 "$work/certify")"
+    { cat "$work/analyse" && echo certified; } | cmp -s - "$work/check" ||
+        bad="not certified: $(tail -n 1 "$work/check")"
+    [ -z "$bad" ] || { echo "$name: $bad" && status=1 && continue; }
+    echo "$(wc -c <"$work/input") $(wc -c <"$work/certify") $analyse $certify $check" | awk -v name="$name" '
+        function times(more, one) { return sprintf("%.1f", more / (one > 0 ? one : 0.001)) }
+        { printf "%-20s %7s %9s %10s %5s %10s %5s %4s x%4s %9s %5s %4s x%4s\n", name, $1, $2, $3, $4,
+            $5, $6, times($5, $3), times($6, $4), $7, $8, times($7, $3), times($8, $4) }'
 done
 exit "$status"

@@ -7,7 +7,7 @@
 # order of the classes in reports; the list of all classes in a summary; the table of classes in docs/LANGUAGE.md; the
 # rules WAIT and DEAD of a log, with a table of their own; the
 # headings of docs/ALARMS.md, each with the name and the sentence of its section; and each line of a document or of a
-# stored report that has the form `PLACE: NAME: SENTENCE`. Nothing is said of the code, which is proved equal to the
+# stored report that has the form `PLACE: warning: SENTENCE [NAME]`. Nothing is said of the code, which is proved equal to the
 # definitions. Status 1 where words differ, with a line for each.
 set -eu
 cd "$(dirname "$(readlink -f "$0")")/.."
@@ -66,8 +66,8 @@ done
 join -t '|' <(sort "$folder/level_text") <(sort "$folder/rule_sentence") | join -t '|' - <(sort "$folder/rule_help") |
     sort -r >"$folder/found"
 differs 'the rules of crates/report_views/specs/Sentences.antt' "$folder/rules" "$folder/found"
-while IFS='|' read -r name _ sentence _; do
-    grep -Fq ": $name: $sentence\"" tools/findings.awk || { echo "tools/findings.awk has not the sentence of $name"; status=1; }
+while IFS='|' read -r name level sentence _; do
+    grep -Fq ": $level: $sentence [$name]\"" tools/findings.awk || { echo "tools/findings.awk has not the sentence of $name"; status=1; }
 done <"$folder/rules"
 
 rows docs/LANGUAGE.md 'Error classes' | awk '{ print $2 }' >"$folder/found"
@@ -77,8 +77,8 @@ differs 'the headings of docs/ALARMS.md' "$folder/sentences" "$folder/found"
 
 # each line of an alarm, in documents and stored reports
 while IFS= read -r line; do
-    text=$(sed -E 's/^.*:[0-9]+:[0-9]+: //' <<<"$line")
-    grep -Fxq "${text/: /|}" "$folder/sentences" || { echo "no sentence of the table: $line"; status=1; }
-done < <(grep -rnoE "[A-Za-z_./]+\.[ch]:[0-9]+:[0-9]+: ($(paste -sd '|' "$folder/names")): [^\`\"\\\\]*" \
+    text=$(sed -E 's/^.*:[0-9]+:[0-9]+: warning: (.*) \[([A-Z]*)\]$/\2|\1/' <<<"$line")
+    grep -Fxq "$text" "$folder/sentences" || { echo "no sentence of the table: $line"; status=1; }
+done < <(grep -rnoE "[A-Za-z_./]+\.[ch]:[0-9]+:[0-9]+: warning: [^\`\"\\\\]* \[($(paste -sd '|' "$folder/names"))\]" \
     README.md docs examples)
 exit "$status"

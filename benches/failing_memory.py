@@ -160,7 +160,7 @@ def sources(top):
     yield "a source that is refused", b"int x;\n__task(1) void t(void) { x = y; }\n"
 
 
-def commands(top):
+def commands(top, program):
     """The words of each command, with a title, and what stands on its standard input."""
     choices = b"\n#replay\nwake 0\nrun 0 0\nrun 0 0\n"
     for name, text in sources(top):
@@ -168,6 +168,8 @@ def commands(top):
                       "analyse --workers 3", "analyse 17 40", "waits", "ranges", "certify"]:
             yield f"{words} < {name}", words.split(), text
         yield f"replay < {name}", ["replay"], text + choices
+        certificate = subprocess.run([program, "certify"], input=text, stdout=subprocess.PIPE, check=False)
+        yield f"check < the certificate of {name}", ["check"], certificate.stdout
     yield "replay < no choices", ["replay"], b"int x;\n"
     yield "generate 9", ["generate", "9"], b""
     yield "demo 2", ["demo", "2"], b""
@@ -208,7 +210,7 @@ def main():
     good = True
     with tempfile.TemporaryDirectory() as folder:
         trials = Trials(folder, asked.jobs)
-        for title, words, source in commands(top):
+        for title, words, source in commands(top, program):
             if not asked.words or words[0] in asked.words:
                 good &= trials.try_all(title, [program, *words], source, asked.most)
         if asked.view and not asked.words:

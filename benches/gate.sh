@@ -1,6 +1,6 @@
 #!/usr/bin/env bash
 # What the gate costs: for each crate the processor seconds of its proof from nothing, of the same with its tests, and
-# of its must-fail edits, as a table for docs/ARCHITECTURE.md, with what is over the budget; and whether the whole is.
+# of its must-fail edits, as a table for docs/GATE.md, with what is over the budget; and whether the whole is.
 #
 #     benches/gate.sh [NAME..]          proves what tools/prove.py has not measured yet, and tells what each part took
 #     benches/gate.sh --kept [NAME..]   proves nothing, and tells what is kept

@@ -4,7 +4,7 @@ and of the must-fail edits of each crate, and the most memory of one process.
 
     benches/gate_parts.py PID >ROWS     watches the `rt ci` of this process number until it ends
 
-So the run from nothing that a gate needs anyway gives the table of docs/ARCHITECTURE.md: `benches/gate.sh --of ROWS`
+So the run from nothing that a gate needs anyway gives the table of docs/GATE.md: `benches/gate.sh --of ROWS`
 prints it. A row is `CRATE PART SECONDS MEGABYTES`, PART one of proof, tests and edits; the last row,
 `rt own SECONDS 0`, is what `rt` took itself, for its sums and copies. What the run took as kept has no row. The
 processes are read once a second, so that a row can lack about a second for each process that it sums."""

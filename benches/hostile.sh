@@ -58,6 +58,28 @@ may_lock() { # TASKS MUTEXES
     done
 }
 
+# Tasks in each of which any of the mutexes may be held, and then so many stores: each store adds an entry for each set of
+# mutexes.
+held_stores() { # TASKS MUTEXES STORES
+    each "$2" '__mutex m#;'
+    each "$3" 'int s#;'
+    for ((t = 0; t < $1; t++)); do
+        echo "__task(1) void t$t(void) {"
+        each "$2" 'if (__input(0, 1)) __lock(m#);'
+        each "$3" 's# = 1;'
+        echo '}'
+    done
+}
+
+# A relay beside so many constants, each of which is a threshold, and globals that nothing touches.
+idle_relay() { # TASKS CONSTANTS GLOBALS
+    each "$3" 'int idle#;'
+    printf 'int table[%d] = {' "$2"
+    awk -v count="$2" 'BEGIN { for (i = 0; i < count; i++) printf "%d,", 3 * i + 1 }'
+    echo '};'
+    relay "$1"
+}
+
 # Counters without a bound, each under a mutex, in many tasks.
 counters() { # TASKS MUTEXES
     each "$2" '__mutex m#;'
@@ -126,6 +148,10 @@ source_of() { # NAME
         relay_32) relay 32 ;;
         may_lock_2_10) may_lock 2 10 ;;
         may_lock_8_10) may_lock 8 10 ;;
+        held_stores_4_7_45) held_stores 4 7 45 ;;
+        held_stores_8_7_45) held_stores 8 7 45 ;;
+        idle_relay_32_500_3000) idle_relay 32 500 3000 ;;
+        loops_150) loops 150 ;;
         counters_32_16) counters 32 16 ;;
         constants_1000) constants 1000 ;;
         constants_10000) constants 10000 ;;
@@ -156,17 +182,17 @@ source_of() { # NAME
     esac
 }
 
-names=${*:-chain_100 chain_300 chain_1000 relay_32 may_lock_2_10 may_lock_8_10 counters_32_16 constants_1000 \
-    constants_10000 table_40000 loops_8 parentheses_90000 blocks_90000 pointers_190000 source_at \
+names=${*:-chain_100 chain_300 chain_1000 relay_32 may_lock_2_10 may_lock_8_10 held_stores_4_7_45 \
+    held_stores_8_7_45 idle_relay_32_500_3000 loops_150 counters_32_16 constants_1000 constants_10000 table_40000 loops_8 parentheses_90000 blocks_90000 pointers_190000 source_at \
     source_past tokens_at tokens_past tasks_at tasks_past mutexes_at mutexes_past paths_at paths_past cells_at \
     cells_past abstract_at abstract_past nodes_at nodes_past work_at work_past}
 
-printf '%-18s %8s %9s %5s  %s\n' source bytes seconds MB answer
+printf '%-22s %8s %9s %5s  %s\n' source bytes seconds MB answer
 for name in $names; do
     source_of "$name" > input
     (ulimit -t "$limit" && exec env time -o told -f '%U %S %M' "$program" analyse) < input > out 2> err || true
     answer=$(tail -n 1 out)
     tail -n 1 told | awk -v name="$name" -v bytes="$(wc -c < input)" -v answer="${answer:-ended}" '{
-        printf "%-18s %8d %9.2f %5.0f  %s\n", name, bytes, $1 + $2, $3 / 1024, answer
+        printf "%-22s %8d %9.2f %5.0f  %s\n", name, bytes, $1 + $2, $3 / 1024, answer
     }'
 done

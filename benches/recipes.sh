@@ -1,5 +1,5 @@
 #!/usr/bin/env bash
-# Whether the recipes of docs/ARCHITECTURE.md name every place: each file that has a class, an operator or a command
+# Whether the recipes of docs/RECIPES.md name every place: each file that has a class, an operator or a command
 # that is there already has to stand in the recipe for a new one, and each file that a recipe names has to be there.
 #
 #     benches/recipes.sh
@@ -19,7 +19,7 @@ status=0
 # The files that the table of a section names, each with its crate: all crates of its row are tried.
 named() { # SECTION
     awk -v section="## $1" '$0 == section { inside = 1; next } /^## / { inside = 0 } inside && /^\| `/' \
-        "$own/docs/ARCHITECTURE.md" | while IFS='|' read -r _ crates rest; do
+        "$own/docs/RECIPES.md" | while IFS='|' read -r _ crates rest; do
         for file in $(grep -o '`[A-Za-z_/+]*/[A-Za-z_/+]*\.[a-z]*`' <<<"$rest" | tr -d '`'); do
             found=
             for crate in $(tr -d '`,' <<<"$crates"); do

@@ -3,8 +3,9 @@
 #
 # The example of two files and a header is compiled and run by gcc and clang, unchanged, and analysed: its alarms stand
 # at the lines of its files, also through a link, from another folder, and under names with blanks, quotes and
-# backslashes. Each example has the report that stands beside it, and the circular waits and ranges, which
-# benches/answers.sh writes. The logs of all examples are checked, and have the places of the lines.
+# backslashes. Each example has the report that stands beside it, and the circular waits, ranges and certificate, which
+# benches/answers.sh writes; the projects of several units have rings and races too, and no certificate. The logs of all
+# examples of one file are checked, and have the places of the lines.
 set -eu
 here=$(cd "$(dirname "$0")" && pwd)
 top=${here%/*}
@@ -33,9 +34,9 @@ for compiler in gcc clang; do
     cp -r "$top/examples/project" "$work/$compiler"
     make -s -C "$work/$compiler" CC="$compiler -Werror" top="$top"
     same "share 25 level 0 pumping 0" "$("$work/$compiler/out/target")" "$compiler runs the project"
-    for source in "$top"/examples/*.c; do
+    for source in "$top"/examples/{,units/,boiler/,gateway/,motor/}*.c; do
         "$compiler" -std=c99 -fsyntax-only -Wall -Wextra -Werror -DCEDRATCLEAT_ANY_TARGET \
-            -include "$top/include/cedratcleat.h" "$source"
+            -iquote "$top/include" -include "$top/include/cedratcleat.h" "$source"
     done
     echo "$compiler takes the examples"
     # The header asks for the data model, and its message names the option that mends it.
@@ -81,6 +82,22 @@ for source in "$top"/examples/*.c; do
             "$(told "$top/analyse" --plain --preprocessed "--$command" "$source" | sed '$d')" \
             "the $command of ${source##*/}"
     done
+    certificate=${source%.c}.certificate
+    [ -e "$certificate" ] || continue
+    "$top/analyse" "${how[@]}" --preprocessed --certify "$source" 2>"$work/err" | cmp - "$certificate"
+    same "$(cat "${source%.c}.report")"$'\ncertified' "$(told "$top/analyse" --plain --check "$certificate" | sed '$d')" \
+        "the certificate of ${source##*/}"
+done
+
+# Each project of units has the answers that stand beside them.
+cd "$top/examples/units"
+same "$(cat units.report)" "$(told "$top/analyse" setup.c drive.c share.c | sed '$d')" "the report of units"
+for project in boiler gateway motor; do
+    cd "$top/examples/$project"
+    same "$(cat "$project.report")" "$(told "$top/analyse" -- *.c | sed '$d')" "the report of $project"
+    for command in waits rings races ranges; do
+        same "$(cat "$project.$command")" "$(told "$top/analyse" "--$command" -- *.c | sed '$d')" "the $command of $project"
+    done
 done
 
 # Circular waits, ranges and dead places are shown in their files: each object stands in the line that is told.
@@ -88,10 +105,11 @@ printf '# 7 "a b.h"\n__mutex m;__mutex n;\n%s\n%s\n' \
     '__task(1) void a(void){__lock(m);__lock(n);__unlock(n);__unlock(m);}' \
     '__task(1) void b(void){__lock(n);__lock(m);__unlock(m);__unlock(n);}' >"$work/waits.c"
 same $'a b.h:8:34 WAIT\na b.h:9:34 WAIT\nwaits 2\nstatus 1' \
-    "$(told "$top/analyse" --preprocessed --waits "$work/waits.c" | sed 's/: WAIT: tasks may .*/ WAIT/')" \
+    "$(told "$top/analyse" --preprocessed --waits "$work/waits.c" | sed 's/: warning: tasks may .* \[WAIT\]$/ WAIT/')" \
     "circular waits"
 printf '# 7 "a b.h"\nint x;int y;\n__task(1) void t(void){x=__input(0,9);if(x>20)y=1;}\n' >"$work/ranges.c"
-wanted=$'a b.h:7:5: x is from 0 to 9\na b.h:7:11: y is from 0 to 0\na b.h:8:48: DEAD: no run reaches this\ndead 1'
+wanted=$'a b.h:7:5: note: x is from 0 to 9\na b.h:7:11: note: y is from 0 to 0\n'
+wanted+=$'a b.h:8:48: note: no run reaches this [DEAD]\ndead 1'
 same "$wanted"$'\nstatus 0' "$(told "$top/analyse" --preprocessed --ranges "$work/ranges.c")" "ranges and a dead place"
 same $'waits 0\nstatus 0' "$(told "$top/analyse" --preprocessed --waits "$work/ranges.c")" "no circular wait"
 # A certificate has the text that the preprocessor made, and ends as its grammar says.
@@ -102,17 +120,49 @@ same $'store\nend\nstatus 0' "$(tail -n 3 "$work/certificate")" "the end of a ce
 same "$(cat "$work/certified.c")" "$(tail -n +3 "$work/certificate" | head -n 3)" "the source in a certificate"
 same "$(told "$top/analyse" --plain --preprocessed --certify "$work/certified.c")" "$(cat "$work/certificate")" \
     "a certificate, plain"
+# A certificate is tested by itself, and the report that it proves is shown in the files of the source in it.
+shortened() { sed 's/: warning: .* \[DIV\]$/ DIV/'; }
+"$top/analyse" "${how[@]}" --preprocessed --certify "$work/certified.c" >"$work/proof" 2>"$work/err"
+same $'a b.h:8:27 DIV\nalarms 1\ncertified\nstatus 1' \
+    "$(told "$top/analyse" --check "$work/proof" | shortened)" "what a certificate proves"
+same $'3:27 DIV\nalarms 1\ncertified\nstatus 1' "$(told "$top/analyse" --plain --check "$work/proof")" "the same, plain"
+sed 1d "$work/certified.c" | "$top/analyse" "${how[@]}" --certify /dev/stdin 2>"$work/err" >"$work/unmarked"
+same $'source of /dev/stdin:2:27 DIV\nalarms 1\ncertified\nstatus 1' \
+    "$(told "$top/analyse" --check /dev/stdin <"$work/unmarked" | shortened)" "a source without line marks"
+same $'source of /dev/stdin:2:27 DIV\nalarms 1\ncertified\nstatus 1' \
+    "$(cat "$work/unmarked" | told "$top/analyse" --check /dev/stdin | shortened)" "the same by a pipe"
+sed 's/^c 0 i 0 0 0$/c 0 i 0 1 1/' "$work/proof" >"$work/larger"
+same $'uncovered 0 4\nstatus 1' "$(told "$top/analyse" --check "$work/larger")" "what is no solution"
+sed 's/^node 4$/node 3/' "$work/proof" >"$work/twice"
+for name in twice certified.c; do
+    same "$work/$name: error: this is no certificate of the source in it [certificate]"$'\nstatus 2' \
+        "$(told "$top/analyse" --check "$work/$name")" "$name is no certificate"
+done
+printf 'tmcert 1\nsource 17\n# 7 "a b.h"\nint x\nend\n' >"$work/refused"
+same $'a b.h:7:5: error: no source of the language goes on so [Syntax]\nstatus 2' \
+    "$(told "$top/analyse" --check "$work/refused")" "the refusal of the source in a certificate"
 cd "$top/examples/project"
 told "$top/analyse" --ranges project.c >"$work/ranges"
 tail -n 1 "$work/ranges" | grep -q '^status 0$'
-sed -n 's/^\([^:]*\):\([0-9]*\):[0-9]*: \([A-Za-z_0-9]*\) is from .*/\1 \2 \3/p' "$work/ranges" >"$work/names"
+sed -n 's/^\([^:]*\):\([0-9]*\):[0-9]*: note: \([A-Za-z_0-9]*\) is from .*/\1 \2 \3/p' "$work/ranges" >"$work/names"
 [ -s "$work/names" ]
 while read -r file line name; do
     same "$name" "$(sed -n "${line}p" "$file" | grep -ow "$name" | head -n 1)" "the place of $name in $file"
 done <"$work/names"
 
+# The places and words of the results of a log, or of lines.
+placed() { # LOG
+    python3 -c 'import json, sys, urllib.parse
+for run in json.load(open(sys.argv[1]))["runs"]:
+    for it in run["results"]:
+        at = it["locations"][0]["physicalLocation"]
+        column = at["region"].get("startColumn", "-")
+        print(urllib.parse.unquote(at["artifactLocation"]["uri"]), at["region"]["startLine"], column, " " + it["ruleId"],
+              sep=":")' "$1"
+}
+
 # The logs and summaries of the examples: each log has the places and words of the lines, then those of the waits, then
-# those of the dead places, and its status is 1 where there is an alarm or a wait.
+# those of the dead places, and its status is 1 where there is an alarm or a wait. A line that a macro changed is whole.
 for source in "$top"/examples/*.c "$top/examples/project/project.c"; do
     told "$top/analyse" --sarif "$source" >"$work/log"
     for form in --summary --waits --ranges; do told "$top/analyse" "$form" "$source" >"$work/form$form"; done
@@ -121,29 +171,50 @@ for source in "$top"/examples/*.c "$top/examples/project/project.c"; do
     sed -i '$d' "$work/log"
     python3 "$here/sarif.py" "$work/log"
     same "$({ told "$top/analyse" "$source" && cat "$work/form--waits" "$work/form--ranges"; } |
-        sed -n 's/^\(.*:[0-9]*:[0-9]*: [A-Z]*\): .*/\1/p')" \
-        "$(python3 -c 'import json, sys, urllib.parse
-for run in json.load(open(sys.argv[1]))["runs"]:
-    for it in run["results"]:
-        at = it["locations"][0]["physicalLocation"]
-        print(urllib.parse.unquote(at["artifactLocation"]["uri"]), at["region"]["startLine"], at["region"]["startColumn"],
-              " " + it["ruleId"], sep=":")' "$work/log")" "the log of ${source##*/}"
+        sed -n 's/^\(.*:[0-9]*:[0-9]*: \)[a-z]*: .* \[\([A-Z]*\)\]$/\1\2/p' |
+        sed 's/\(display\.c:10\):[0-9]*: /\1:-: /')" \
+        "$(placed "$work/log")" "the log of ${source##*/}"
     same "$(told "$top/analyse" "$source" | tail -n 2)" "$(tail -n 2 "$work/form--summary")" \
         "the summary of ${source##*/}"
 done
 
+# Fingerprints stay when lines are put in, when names of other functions change, and when the folder moves; and two equal
+# lines differ.
+prints() { # LOG
+    python3 -c 'import json, sys
+for it in json.load(open(sys.argv[1]))["runs"][0]["results"]:
+    if it["level"] == "warning":
+        print(it["partialFingerprints"]["cedratcleat/v1"], it["ruleId"])' "$1"
+}
+mkdir -p "$work/one/src" "$work/two/src"
+printf '#define N 0\nint n;\nvoid other(void) { int local = 1; n = local; }\n%s\n%s\n%s\n%s\n' \
+    '__task(1) void t(void) {' '    n = 1 / __input(0, 9);' '    n = 1 / __input(0, 9);' '    other(); }' >"$work/one/src/a.c"
+sed 's/local/renamed/g; 2i int more;' "$work/one/src/a.c" >"$work/two/src/a.c"
+for folder in one two; do
+    (cd "$work/$folder" && told "$top/analyse" --sarif src/a.c | sed '$d') >"$work/$folder.log"
+    python3 "$here/sarif.py" "$work/$folder.log"
+done
+same "$(prints "$work/one.log")" "$(prints "$work/two.log")" "fingerprints behind an edit elsewhere, in another folder"
+(cd "$work" && told "$top/analyse" --sarif "$work/one/src/a.c" | sed '$d') >"$work/whole.log"
+(cd "$work" && told "$top/analyse" --sarif one/src/a.c | sed '$d') >"$work/part.log"
+same "$(prints "$work/whole.log")" "$(prints "$work/part.log")" "fingerprints by the whole name of a file"
+sed -i '0,/n = 1/s//n = 2/' "$work/two/src/a.c"
+(cd "$work/two" && told "$top/analyse" --sarif src/a.c | sed '$d') >"$work/two.log"
+if [ "$(prints "$work/one.log")" = "$(prints "$work/two.log")" ]; then exit 1; fi
+
 # Refusals at their places, marks that cannot be followed, and names that are no UTF-8.
 printf '# 7 "a b.h"\nint\n=;\n' >"$work/refused.c"
-same $'a b.h:8:1: refused Syntax\nstatus 2' "$(told "$top/analyse" --preprocessed "$work/refused.c")" "a refusal"
-grep -q '^analyse: Syntax: ' "$work/err" && echo "its meaning is told"
+refusal='a b.h:8:1: error: no source of the language goes on so [Syntax]'
+same "$refusal"$'\nstatus 2' "$(told "$top/analyse" --preprocessed "$work/refused.c")" "a refusal"
+grep -q '^analyse: Syntax: docs/LANGUAGE.md' "$work/err" && echo "where more of it stands is told"
 for command in waits ranges; do
-    same $'a b.h:8:1: refused Syntax\nstatus 2' \
+    same "$refusal"$'\nstatus 2' \
         "$(told "$top/analyse" --preprocessed "--$command" "$work/refused.c")" "a refusal of $command"
 done
 printf '# 99999999999 "a.h"\nint n;\n' >"$work/broken.c"
 same "status 10" "$(told "$top/analyse" --preprocessed "$work/broken.c")" "a broken mark"
 printf 'int n;\n__task(1) void t(void) { n = 1 / n; }\n' >"$work/"$'n\xff.c'
-same "$work/"$'n\xff.c:2:32: DIV: the divisor may be zero\nalarms 1\nstatus 1' \
+same "$work/"$'n\xff.c:2:32: warning: the divisor may be zero [DIV]\nalarms 1\nstatus 1' \
     "$(told "$top/analyse" "$work/"$'n\xff.c')" "a name that is no UTF-8"
 
 # A preprocessor that fails, and one that is not there.
@@ -152,31 +223,35 @@ same "status 9" "$(told "$top/analyse" "$work/error.c")" "a preprocessor that fa
 grep -q 'error.c:1:' "$work/err" && echo "its message is told"
 same "status 9" "$(CC=$work/none told "$top/analyse" "$work/error.c")" "a preprocessor that is not there"
 
-# Several files: each has its answer, and the greatest status counts.
+# Several files, each by itself: each has its answer, and the greatest status counts.
 printf 'int n;\n' >"$work/none.c"
-same $'a b.h:8:1: refused Syntax\nalarms 0\nstatus 2' \
-    "$(told "$top/analyse" --preprocessed "$work/refused.c" "$work/none.c")" "two files, of which one is refused"
+same "$refusal"$'\nalarms 0\nstatus 2' \
+    "$(told "$top/analyse" --each --preprocessed "$work/refused.c" "$work/none.c")" "two files, of which one is refused"
 same $'alarms 0\nalarms 0\nstatus 0' \
-    "$(told "$top/analyse" "$work/none.c" "$work/none.c" --workers 2 17)" "a file twice"
-same $'alarms 0\nstatus 9' "$(told "$top/analyse" "$work/error.c" "$work/none.c")" "a file behind one that fails"
+    "$(told "$top/analyse" --each "$work/none.c" "$work/none.c" --workers 2 17)" "a file twice"
+same $'alarms 0\nstatus 9' "$(told "$top/analyse" --each "$work/error.c" "$work/none.c")" "a file behind one that fails"
 
 # A byte 13 with no byte 10 behind it is told of, and others are not. What a pipe gives beyond the limit is not lost.
 printf '# 7 "a.h"\nint n;\r\nint k;\rint l;\n' >"$work/return.c"
 same $'alarms 0\nstatus 0' "$(told "$top/analyse" --preprocessed "$work/return.c")" "a byte 13"
 grep -q '^analyse: a.h:8:1: a byte 13 stands in this line' "$work/err"
 printf '# 7 "a.h"\nint n;\r\nint k; // a\rint l;\n' >"$work/return.c"
-same $'a.h:8:8: refused Lexical\nstatus 2' "$(told "$top/analyse" --preprocessed "$work/return.c")" \
+same $'a.h:8:8: error: here begins no token, comment or blank of the language [Lexical]\nstatus 2' \
+    "$(told "$top/analyse" --preprocessed "$work/return.c")" \
     "a byte 13 in a comment"
 printf 'int n;\r\n__task(1) void t(void) { n = 1; }\r\n' >"$work/returns.c"
 same $'alarms 0\nstatus 0' "$(told "$top/analyse" "$work/returns.c")" "bytes 13 and 10"
 if grep 'a byte 13' "$work/err"; then exit 1; fi
 { printf '#define N n\nint N;\n' && head -c 1048576 /dev/zero | tr '\0' '\n'; } >"$work/long.c"
 same $'alarms 0\nstatus 0' "$(told "$top/analyse" "$work/long.c")" "a long file that is short behind the preprocessor"
-same $'refused Limit source 1048576\nstatus 2' "$(told "$top/analyse" /dev/stdin < <(cat "$work/long.c"))" "a long pipe"
+same $'/dev/stdin: error: the source is larger than what is analysed [Limit source 1048576]\nstatus 2' \
+    "$(told "$top/analyse" /dev/stdin < <(cat "$work/long.c"))" "a long pipe"
 
 # Structures that are packed are refused, and other directives are told of once.
 printf '# 7 "a.h"\n#pragma once\nint n;\n #pragma pack(1)\n' >"$work/pack.c"
-same $'a.h:9:1: refused Pragma\nstatus 2' "$(told "$top/analyse" --preprocessed "$work/pack.c")" "packed structures"
+wanted='a.h:9:1: error: #pragma pack moves the members of structures, '
+wanted+=$'and the report takes each at its natural place [Pragma]\nstatus 2'
+same "$wanted" "$(told "$top/analyse" --preprocessed "$work/pack.c")" "packed structures"
 same $'4:1 refused Pragma\nstatus 2' "$(told "$top/analyse" --plain --preprocessed "$work/pack.c")" "packed, plain"
 printf '# 7 "a.h"\n#pragma once\n#pragma interrupt t\n#pragma GCC diagnostic push\n#pragma interrupt u\nint n;\n' \
     >"$work/pragmas.c"
@@ -212,9 +287,12 @@ grep -q 'stands before 17' "$work/err"
 same "status 3" "$(told "$top/analyse" --sarif "$work/refused.c" --json)" "two forms"
 same "status 3" "$(told "$top/analyse" --waits --ranges "$work/refused.c")" "two answers"
 same "status 3" "$(told "$top/analyse" --sarif --ranges "$work/refused.c")" "a log of ranges"
-same "status 3" "$(told "$top/analyse" --sarif --certify "$work/refused.c")" "a log of a certificate"
+same "status 3" "$(told "$top/analyse" --sarif --certify "$work/refused.c")" "a log of certify"
 same "status 3" "$(told "$top/analyse" --certify --ranges "$work/refused.c")" "a certificate and ranges"
-same "status 3" "$(told "$top/analyse" --certify "$work/refused.c" "$work/refused.c")" "a certificate of two files"
+same "status 3" "$(told "$top/analyse" --sarif --check "$work/refused.c")" "a log of a certificate"
+same "status 3" "$(told "$top/analyse" --certify --check "$work/refused.c")" "two answers on certificates"
+same "status 3" "$(told "$top/analyse" --each --certify "$work/refused.c" "$work/refused.c")" "certificates of two files"
+same "status 3" "$(told "$top/analyse" -D A --check "$work/refused.c")" "a certificate that is preprocessed"
 for word in --json --history --workers=2 17; do
     same "status 3" "$(told "$top/analyse" --waits "$work/refused.c" "$word")" "waits with $word"
 done

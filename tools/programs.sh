@@ -8,6 +8,11 @@
 # the first store alone, by the sum of its sources, and has a stamp of its own there: no look-up for a proved program
 # goes there, and nothing copies it.
 
+# The programs, by the names of their crates: the analyser, the one that shows a report in its files, the one that joins
+# the units of a project, the one that tells of a refusal what stands there, and the one that tells rings and races by
+# object. `program`, `viewer`, `joiner`, `hinter` and `noter` are their paths, once they are found.
+programs=(analyse_main report_view join_units refusal_hint alarm_notes)
+
 # What `--prove` takes, as README.md has it, measured on a busy machine: processor minutes in all, and minutes for the
 # longest chain of crates, each of which stands on the one before.
 proof_processor_minutes=190
@@ -47,22 +52,27 @@ sum_of_sources() {
         LC_ALL=C sort -z | xargs -0 sha256sum | sha256sum | cut -d ' ' -f 1) 2>/dev/null
 }
 
-# What the first three lines of a stamp have to be: the sum of the sources, and those of both programs.
-stamp_of() { # SUM PROGRAM VIEWER
+# What the first lines of a stamp have to be: the sum of the sources, and those of the programs.
+stamp_of() { # SUM PROGRAM..
+    local it
     printf '%s\n' "$1"
-    sha256sum <"$2" | cut -d ' ' -f 1
-    sha256sum <"$3" | cut -d ' ' -f 1
+    for it in "${@:2}"; do sha256sum <"$it" | cut -d ' ' -f 1; done
 }
 
-# Writes the stamp of two programs; its fourth line names the kit.
-write_stamp() { # STAMP SUM PROGRAM VIEWER
-    { stamp_of "$2" "$3" "$4" && rt version; } >"$1.$$" 2>/dev/null && mv -f -- "$1.$$" "$1" 2>/dev/null
+# A line of a stamp behind these: the first names the kit.
+stamp_line() { # STAMP NUMBER
+    sed -n "$((${#programs[@]} + 1 + $2))p" -- "$1"
+}
+
+# Writes the stamp of the programs, behind which a line names the kit.
+write_stamp() { # STAMP SUM PROGRAM..
+    { stamp_of "${@:2}" && rt version; } >"$1.$$" 2>/dev/null && mv -f -- "$1.$$" "$1" 2>/dev/null
 }
 
 # The kit by which programs were built, as their stamp tells, or else the kit that there is.
 kit_of() { # STAMP
     local kit
-    kit=$(sed -n 4p -- "$1" 2>/dev/null)
+    kit=$(stamp_line "$1" 1 2>/dev/null)
     [ -n "$kit" ] || kit=$(rt version 2>/dev/null)
     printf '%s\n' "${kit:-not known}"
 }
@@ -71,21 +81,29 @@ kit_of() { # STAMP
 commit() {
     local name=
     if is_installed; then
-        name=$(sed -n 5p -- "$top/installed")
+        name=$(stamp_line "$top/installed" 2)
     elif [ -e "$top/.git" ] && name=$(git -C "$top" rev-parse HEAD 2>/dev/null); then
         [ -z "$(git -C "$top" status --porcelain 2>/dev/null)" ] || name+=', with changes'
     fi
     printf '%s\n' "${name:-not known}"
 }
 
-# Takes two programs where the stamp is theirs and that of these sources.
-take() { # KIND STAMP SUM PROGRAM VIEWER
-    [ -x "$4" ] && [ -x "$5" ] || return 1
-    [ "$(head -n 3 -- "$2" 2>/dev/null)" = "$(stamp_of "$3" "$4" "$5" 2>/dev/null)" ] || return 1
+# Takes the programs where the stamp is theirs and that of these sources.
+take() { # KIND STAMP SUM PROGRAM..
+    local it
+    for it in "${@:4}"; do [ -x "$it" ] || return 1; done
+    [ "$(head -n $((${#programs[@]} + 1)) -- "$2" 2>/dev/null)" = "$(stamp_of "${@:3}" 2>/dev/null)" ] || return 1
+    use "$1" "$2" "${@:4}"
+}
+
+use() { # KIND STAMP PROGRAM..
     kind=$1
     stamp=$2
-    program=$4
-    viewer=$5
+    program=$3
+    viewer=$4
+    joiner=$5
+    hinter=$6
+    noter=$7
 }
 
 # Sets `sum`, the sum of the sources: where the programs were installed without them, the one of which their stamp
@@ -118,21 +136,20 @@ may_be_proved() {
 # Takes the programs that tools/prove.py, or the kit's `rt ci`, keeps for these sources, and copies them beside their
 # crates where it can, so that the stores need not be asked again.
 take_kept() {
-    local beside=$top/crates/analyse_main/out aside=$top/crates/report_view/out
+    local number folder
     local -a found
     command -v rt python3 >/dev/null || return 1
-    mapfile -t found < <(cd -- "$top" && python3 tools/prove.py --kept analyse_main report_view 2>/dev/null)
-    if [ ${#found[@]} != 2 ]; then
+    mapfile -t found < <(cd -- "$top" && python3 tools/prove.py --kept "${programs[@]}" 2>/dev/null)
+    if [ ${#found[@]} != ${#programs[@]} ]; then
         touch -c -- "$unproved/stamp" 2>/dev/null
         return 1
     fi
-    kind=proved
-    stamp=
-    program=${found[0]}
-    viewer=${found[1]}
-    if { mkdir -p -- "$beside" "$aside" && copy "$program" "$beside" && copy "$viewer" "$aside"; } 2>/dev/null; then
-        write_stamp "$beside/analyse_main.sum" "$sum" "$program" "$viewer" && take_beside
-    fi
+    use proved '' "${found[@]}"
+    for number in "${!found[@]}"; do
+        folder=$top/crates/${programs[number]}/out
+        { mkdir -p -- "$folder" && copy "${found[number]}" "$folder"; } 2>/dev/null || return 0
+    done
+    write_stamp "$top/crates/analyse_main/out/analyse_main.sum" "$sum" "${found[@]}" && take_beside
     return 0
 }
 
@@ -143,14 +160,16 @@ copy() { # PROGRAM FOLDER
 }
 
 take_beside() {
-    local beside=$top/crates/analyse_main/out
-    take proved "$beside/analyse_main.sum" "$sum" "$beside/analyse_main" "$top/crates/report_view/out/report_view"
+    local name
+    local -a beside=()
+    for name in "${programs[@]}"; do beside+=("$top/crates/$name/out/$name"); done
+    take proved "$top/crates/analyse_main/out/analyse_main.sum" "$sum" "${beside[@]}"
 }
 
-# Sets `program` and `viewer` to the proved programs of these sources, and `kind` to `proved`, where there are any.
+# Sets `program`, `viewer` and the others to the proved programs of these sources, and `kind` to `proved`, where there are any.
 find_proved() {
     if is_installed; then
-        take proved "$top/installed" "$sum" "$top/analyse_main" "$top/report_view" ||
+        take proved "$top/installed" "$sum" "${programs[@]/#/$top/}" ||
             fail 8 "what is installed in $top is not whole"
     else
         take_beside || { may_be_proved && take_kept; }
@@ -158,7 +177,7 @@ find_proved() {
 }
 
 find_unproved() {
-    take unproved "$unproved/stamp" "$sum" "$unproved/analyse_main" "$unproved/report_view"
+    take unproved "$unproved/stamp" "$sum" "${programs[@]/#/$unproved/}"
 }
 
 # Proves and builds the programs by tools/prove.py, which tells its progress, and takes them.
@@ -166,7 +185,7 @@ prove() {
     needs rt python3
     { mkdir -p -- "$(store)" && [ -w "$(store)" ] && [ -w "$top/crates/analyse_main" ]; } 2>/dev/null ||
         fail 8 "a proof writes into $(store) and into the crates below $top, and one of them cannot be written"
-    (cd -- "$top" && exec python3 tools/prove.py analyse_main report_view </dev/null) >&2 || {
+    (cd -- "$top" && exec python3 tools/prove.py "${programs[@]}" </dev/null) >&2 || {
         # (the status where it was interrupted, which it has told)
         [ $? != 130 ] || exit 130
         fail 8 "the programs are not proved: a line above names the log of each crate that failed"
@@ -184,8 +203,8 @@ build_unproved() {
         rm -rf -- "${unproved%/*}"/making-* "$unproved"
         room=$(mktemp -d "${unproved%/*}/making-XXXXXX") || fail 8 "${unproved%/*} cannot be written"
         say "no proved program is there: building an unproved one, once for these sources, in some three minutes"
-        "$top/tools/unproved.sh" "$room" 9>&- || fail 8 "the program cannot be built: the lines above say why"
-        { write_stamp "$room/stamp" "$sum" "$room/analyse_main" "$room/report_view" &&
+        "$top/tools/unproved.sh" "$room" "${programs[@]}" 9>&- || fail 8 "the program cannot be built: the lines above say why"
+        { write_stamp "$room/stamp" "$sum" "${programs[@]/#/$room/}" &&
             mv -T -- "$room" "$unproved"; } || fail 8 "$unproved cannot be written"
         # What no run has built in a month goes.
         find "${unproved%/*}" -mindepth 1 -maxdepth 1 -type d -mtime +30 -exec rm -rf {} + 2>/dev/null

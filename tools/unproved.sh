@@ -1,10 +1,13 @@
 #!/usr/bin/env bash
-# Builds the programs without their proofs, optimised: tools/unproved.sh FOLDER. `analyse` calls it.
+# Builds programs without their proofs, optimised: tools/unproved.sh FOLDER [NAME..]. `analyse` calls it for those that
+# it runs; where no NAME is given the analyser and the view of its report are built.
 #
 # The checks that `rt try` compiles into a program, as of indices and sums, stay in it.
 set -eu
 
 folder=$(readlink -f -- "$1")
+shift
+[ $# -gt 0 ] || set -- analyse_main report_view
 here=$(dirname -- "$(readlink -f -- "${BASH_SOURCE[0]}")")
 # shellcheck source=tools/plain_kit.sh
 . "$here/plain_kit.sh"
@@ -23,10 +26,12 @@ build() { # NAME
 }
 
 status=0
-build analyse_main &
-first=$!
-build report_view &
-second=$!
-wait "$first" || status=1
-wait "$second" || status=1
+builds=()
+for name; do
+    build "$name" &
+    builds+=($!)
+done
+for it in "${builds[@]}"; do
+    wait "$it" || status=1
+done
 exit "$status"
