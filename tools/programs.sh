@@ -15,7 +15,7 @@ programs=(analyse_main report_view join_units refusal_hint alarm_notes)
 
 # What `--prove` takes, as README.md has it, measured on a busy machine: processor minutes in all, and minutes for the
 # longest chain of crates, each of which stands on the one before.
-proof_processor_minutes=190
+proof_processor_minutes=166
 proof_chain_minutes=45
 
 say() { # MESSAGE
