@@ -305,7 +305,7 @@ fn logged(
 ) -> Result<Vec<u8>, Fail> {
     let frame = Frame {
         documents: b"/a b/docs",
-        folder: b"/\\167ork",
+        folder: b"/\\143ode",
         name: b"a.c",
         text: text.as_bytes(),
         lines: lines.as_bytes(),
@@ -353,7 +353,7 @@ const MARKED: &str =
     {\"class\":\"DIV\",\"col\":24,\"line\":4},{\"class\":\"DIV\",\"col\":26,\"line\":4}],\"count\":4}";
 
 const TEXT: &str =
-    "# 3 \"b \\\"c.h\" 1\ny = 2;\n# 2 \"/work/src/a.c\" 2\nvoid f(void) { x <<= 1 / y; }\nx\n\u{e4}x\n";
+    "# 3 \"b \\\"c.h\" 1\ny = 2;\n# 2 \"/code/src/a.c\" 2\nvoid f(void) { x <<= 1 / y; }\nx\n\u{e4}x\n";
 
 const FILE_LINES: &str = "\ny = 2; // note\n\nvoid\tf(void) { x <<= 1 / y; } // note\nPERCENT(x)\n";
 
@@ -364,25 +364,25 @@ const RESULTS: &str =
     \"text\":\"another task may access this object at the same time, and one of the two stores\"},\"partialFingerpri\
     nts\":{\"cedratcleat/v1\":\"3ef5c450844cbb134b68b360c8575e21\"},\"ruleId\":\"RACE\",\"ruleIndex\":7},{\"level\":\
     \"warning\",\"locations\":[{\"logicalLocations\":[{\"kind\":\"function\",\"name\":\"f\"}],\"physicalLocation\":{\
-    \"artifactLocation\":{\"uri\":\"/work/src/a.c\"},\"region\":{\"endColumn\":21,\"startColumn\":18,\"startLine\":2\
+    \"artifactLocation\":{\"uri\":\"/code/src/a.c\"},\"region\":{\"endColumn\":21,\"startColumn\":18,\"startLine\":2\
     }}}],\"message\":{\"text\":\"the shift may have a count or a left operand for which it is not defined\"},\"parti\
     alFingerprints\":{\"cedratcleat/v1\":\"8f04045e264ccc6052f6836bca0619dd\"},\"ruleId\":\"SHIFT\",\"ruleIndex\":2}\
     ,{\"level\":\"warning\",\"locations\":[{\"logicalLocations\":[{\"kind\":\"function\",\"name\":\"f\"}],\"physical\
-    Location\":{\"artifactLocation\":{\"uri\":\"/work/src/a.c\"},\"region\":{\"endColumn\":25,\"startColumn\":24,\"s\
+    Location\":{\"artifactLocation\":{\"uri\":\"/code/src/a.c\"},\"region\":{\"endColumn\":25,\"startColumn\":24,\"s\
     tartLine\":2}}}],\"message\":{\"text\":\"the divisor may be zero\"},\"partialFingerprints\":{\"cedratcleat/v1\":\
     \"af2658217f2bb362eb5dacb7f275d37c\"},\"ruleId\":\"DIV\",\"ruleIndex\":1},{\"level\":\"warning\",\"locations\":[\
     {\"logicalLocations\":[{\"kind\":\"function\",\"name\":\"f\"}],\"physicalLocation\":{\"artifactLocation\":{\"uri\
-    \":\"/work/src/a.c\"},\"region\":{\"endColumn\":27,\"startColumn\":26,\"startLine\":2}}}],\"message\":{\"text\":\
+    \":\"/code/src/a.c\"},\"region\":{\"endColumn\":27,\"startColumn\":26,\"startLine\":2}}}],\"message\":{\"text\":\
     \"the divisor may be zero\"},\"partialFingerprints\":{\"cedratcleat/v1\":\"90637b77078ed5e89744a37b5744bc9e\"},\
     \"ruleId\":\"DIV\",\"ruleIndex\":1},{\"level\":\"warning\",\"locations\":[{\"logicalLocations\":[{\"kind\":\"fun\
-    ction\",\"name\":\"f\"}],\"physicalLocation\":{\"artifactLocation\":{\"uri\":\"/work/src/a.c\"},\"region\":{\"en\
+    ction\",\"name\":\"f\"}],\"physicalLocation\":{\"artifactLocation\":{\"uri\":\"/code/src/a.c\"},\"region\":{\"en\
     dColumn\":17,\"startColumn\":16,\"startLine\":2}}}],\"message\":{\"text\":\"tasks may come to wait for each othe\
     r for ever, one of them at this lock\"},\"partialFingerprints\":{\"cedratcleat/v1\":\"1b8d5d9ebf6e036df7e0f31934\
     638461\"},\"ruleId\":\"WAIT\",\"ruleIndex\":8},{\"level\":\"note\",\"locations\":[{\"logicalLocations\":[],\"phy\
-    sicalLocation\":{\"artifactLocation\":{\"uri\":\"/work/src/a.c\"},\"region\":{\"startLine\":3}}}],\"message\":{\
+    sicalLocation\":{\"artifactLocation\":{\"uri\":\"/code/src/a.c\"},\"region\":{\"startLine\":3}}}],\"message\":{\
     \"text\":\"no run reaches this\"},\"partialFingerprints\":{\"cedratcleat/v1\":\"b58256d7d392845a628aad7e75c26966\
     \"},\"ruleId\":\"DEAD\",\"ruleIndex\":9},{\"level\":\"note\",\"locations\":[{\"logicalLocations\":[],\"physicalL\
-    ocation\":{\"artifactLocation\":{\"uri\":\"/work/src/a.c\"},\"region\":{\"startColumn\":2,\"startLine\":4}}}],\"\
+    ocation\":{\"artifactLocation\":{\"uri\":\"/code/src/a.c\"},\"region\":{\"startColumn\":2,\"startLine\":4}}}],\"\
     message\":{\"text\":\"no run reaches this\"},\"partialFingerprints\":{\"cedratcleat/v1\":\"7bcd52318438a5d2059c1\
     508afb45538\"},\"ruleId\":\"DEAD\",\"ruleIndex\":9}]";
 
@@ -410,7 +410,7 @@ fn forms(rt: HostRuntime) -> Result<(), Fail> {
     )?;
     let start =
         "{\"$schema\":\"https://json.schemastore.org/sarif-2.1.0.json\",\"runs\":[{\"artifacts\":[{\"location\":\
-        {\"uri\":\"a.c\"}},{\"location\":{\"uri\":\"b%20%22c.h\"}},{\"location\":{\"uri\":\"/work/src/a.c\"}}],\
+        {\"uri\":\"a.c\"}},{\"location\":{\"uri\":\"b%20%22c.h\"}},{\"location\":{\"uri\":\"/code/src/a.c\"}}],\
         \"columnKind\":\"utf16CodeUnits\",\"invocations\":[{\"executionSuccessful\":true,\"exitCode\":1,\
         \"toolExecutionNotifications\":[]}],";
     assert!(rt; log.as_slice().starts_with(start.as_bytes()));
