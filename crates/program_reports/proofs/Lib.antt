@@ -2,7 +2,7 @@ mod Operations
 mod Lists
 pub mod One
 mod Exact
-mod Steps
-mod Tables
-mod Numbered
+pub mod Steps
+pub mod Tables
+pub mod Numbered
 pub mod low

@@ -88,7 +88,7 @@ module _ (program : Program) (facts : AllFacts) (analysable : IsAnalysable progr
           (record { count = fits.nodes t lt; fits = λ n within. fits.states t n lt within }))
 
       module _ (n : ℕ) (n-is : n ≡ length b.copies) where
-        of_same : (F : Body → List (Option State) → ℕ → Type 0) → F b table n
+        pub of_same : (F : Body → List (Option State) → ℕ → Type 0) → F b table n
             → F (body_at p t) (table_at pair.tables t) (let x = body_at p t in length x.copies)
         of_same F h =
             subst (λ x. F x (table_at pair.tables t) (length x.copies)) b-is

@@ -122,13 +122,13 @@ Some_is : (s t : State) → Some s ≡ Some t → s ≡ t
 Some_is s t e = cc
 
 module _ (reach : ℕ → Option State) (G : ℕ → State → Type 0) where
-  abbrev Below : ℕ → Type 0
+  abbrev pub Below : ℕ → Type 0
   Below n = (k : ℕ) × (k < n) × (s : State) × (reach k ≡ Some s) × G k s
 
   below_up : (k : ℕ) → Below k → Below (k + 1)
   below_up k h = (h.0, omega (arith, h.1), h.2, h.3, h.4)
 
-  below_more : (k : ℕ) (s : State) → reach k ≡ Some s → Below (k + 1) ↔ (Below k ⊎ G k s)
+  pub below_more : (k : ℕ) (s : State) → reach k ≡ Some s → Below (k + 1) ↔ (Below k ⊎ G k s)
   below_more k s e = (split, λ h. either (below_up k) (λ g. (k, omega arith, s, e, g)) h)
     where
       here : (h : Below (k + 1)) → h.0 ≡ k → G k s
@@ -143,7 +143,7 @@ module _ (reach : ℕ → Option State) (G : ℕ → State → Type 0) where
         | inr other ↦ inl (h.0, (let lt = h.1 in omega (arith, lt, other)), h.2, h.3, h.4)
       ]
 
-  below_same : (k : ℕ) → reach k ≡ None → Below (k + 1) ↔ Below k
+  pub below_same : (k : ℕ) → reach k ≡ None → Below (k + 1) ↔ Below k
   below_same k e = (drop_last, below_up k)
     where
       drop_last : Below (k + 1) → Below k

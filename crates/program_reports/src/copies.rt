@@ -25,17 +25,17 @@ use tm_lattice::NoMemory;
 use tm_terms::{Alarm, Place};
 use transfer_int::Classes;
 
-// What is read of a body: its equations over a store, its edges, nodes and copies, its number, its priority, and
-// whether it is a task.
+/// What is read of a body: its equations over a store, its edges, nodes and copies, its number, its priority, and
+/// whether it is a task.
 #[derive(Clone, Copy)]
-pub(crate) struct BodyParts<'a> {
-    pub(crate) body: &'a BodyOverStore<'a>,
-    pub(crate) edges: &'a [Edge],
-    pub(crate) nodes: &'a [ConfiguredNode],
-    pub(crate) copies: &'a [EdgeCopy],
-    pub(crate) number: u32,
-    pub(crate) priority: u8,
-    pub(crate) is_task: bool,
+pub struct BodyParts<'a> {
+    pub body: &'a BodyOverStore<'a>,
+    pub edges: &'a [Edge],
+    pub nodes: &'a [ConfiguredNode],
+    pub copies: &'a [EdgeCopy],
+    pub number: u32,
+    pub priority: u8,
+    pub is_task: bool,
 }
 
 // What is found: alarms, and accesses of tasks.

@@ -11,6 +11,7 @@ mod judging;
 mod laws;
 mod places;
 
+pub use copies::BodyParts;
 pub use judging::judge;
 pub use laws::reports_are_one;
 pub use places::place_of;
