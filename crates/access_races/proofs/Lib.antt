@@ -2,5 +2,5 @@ pub mod Joins
 mod Cells
 mod Fronts
 mod Exact
-mod Sorting
+pub mod Sorting
 pub mod Decided
