@@ -18,7 +18,7 @@ use Rattle.program_reports.specs.interfere_set.Stores.{Interferences, are_apart}
 use Rattle.program_reports.specs.cell_env.Cells.{IsWithin}
 use Rattle.program_reports.specs.table_covers.Solutions.{NodeTable}
 use Rattle.program_reports.specs.state_fits.laws.FileSets.{in_sixteen}
-use Rattle.program_reports.specs.task_equations.Bodies.{node_at, copy_at}
+use Rattle.program_reports.specs.task_equations.Bodies.{edge_of, node_at, copy_at}
 use Rattle.program_reports.specs.task_equations.Equations.{action_along, around_along}
 use Rattle.program_reports.specs.program_equations.Programs.{ProgramBodies, body_at, IsProgram}
 use Rattle.program_reports.specs.Reports.{place_of, IsWriting, operation_in, left_in, IsReachedIn, IsAccess}
@@ -78,6 +78,7 @@ module _ (p : ProgramBodies) (is : IsProgram p) (n : ℕ) (number : TaskOf n →
         around_along b (copy_at b copy) ≡ around_copy p n number rank tables e)
     pub action : (let b = body_at p (number e.actor) in
         action_along b (copy_at b copy) ≡ action_copy p n number rank tables e)
+    pub edge : (let b = body_at p (number e.actor) in edge_of b (copy_at b copy)) ≡ e.edge
     pub operation : operation_in p (number e.actor) copy ≡ e.edge.op
     pub node : left_in p (number e.actor) copy ≡ left p n number rank tables e
     pub held : IsWithin e.held 65535
@@ -110,6 +111,7 @@ module _ (p : ProgramBodies) (is : IsProgram p) (n : ℕ) (number : TaskOf n →
         };
         around = around_is p is t (within i) q here.0 e.edge e.answer k num;
         action = action_is p is t (within i) q here.0 e.edge e.answer k num;
+        edge = num.edge;
         operation = ap (λ d. d.op) num.edge;
         node = ap (node_at b) num.from ∙ num.node;
         held = subst (λ (r : ConfiguredNode). IsWithin r.held 65535) num.node
@@ -151,10 +153,15 @@ module _ (p : ProgramBodies) (is : IsProgram p)
   task_within : (i : TaskOf p.tasks) → number_of p.tasks i < length p.bodies
   task_within i = let a = number_below p.tasks i in let b = is.tasks in omega (arith, a, b)
 
-  abbrev At : Copy (parts_of p) → State → Type 0
+  abbrev pub At : Copy (parts_of p) → State → Type 0
   At e s = IsAt p is p.tasks (number_of p.tasks) rank task_within graphs tables e s
 
-  access_of : (e : Copy (parts_of p)) (x : ℕ) (s : State) (k : At e s)
+  -- the node that the copy leaves has this state
+  abbrev pub HasState : Copy (parts_of p) → State → Type 0
+  HasState e s = found_at (tables (number_of p.tasks e.actor))
+      (number_at p (number_of p.tasks e.actor) (left p p.tasks (number_of p.tasks) rank tables e)) ≡ Some s
+
+  pub access_of : (e : Copy (parts_of p)) (x : ℕ) (s : State) (k : At e s)
       → is_among (targets_of (action_copy p p.tasks (number_of p.tasks) rank tables e) s) x ≡ true
       → IsAccess p tables (number_of p.tasks e.actor) k.copy x
   access_of e x s k among = record {
@@ -171,38 +178,52 @@ module _ (p : ProgramBodies) (is : IsProgram p)
       → IsWriting (operation_in p (number_of p.tasks e.actor) k.copy)
   writes_of e s k a v h = subst IsWriting (sym k.operation) (writes_by e.edge.op e.answer a v h)
 
-  -- a race that is listed is an alarm at the place of either edge
-  pub race_alarm : (e f : Copy (parts_of p)) → IsRaceListed (shape_of (parts_of p)) T e f → (place : Place)
-      → place_at e.edge.op ≡ Some place → IsAlarm p tables (record { place = place; class = Race })
-  race_alarm e f r place placed =
+  abbrev pub at_copy : (e : Copy (parts_of p)) (s : State) (at : HasState e s) → At e s
+  at_copy e s at = is_at p is p.tasks (number_of p.tasks) rank task_within graphs tables e s at
+
+  -- the edges of a race that is listed have copies that race on the cell
+  pub race_of : (e f : Copy (parts_of p)) (r : IsRaceListed (shape_of (parts_of p)) T e f)
+      → AreRacing p tables (number_of p.tasks e.actor) (at_copy e r.common.1.state r.common.1.is).copy
+      (number_of p.tasks f.actor) (at_copy f r.common.2.state r.common.2.is).copy
+  race_of e f r =
       let x = r.common.0 in
       let one = r.common.1 in
       let two = r.common.2 in
-      let ke = is_at p is p.tasks (number_of p.tasks) rank task_within graphs tables e one.state one.is in
-      let kf = is_at p is p.tasks (number_of p.tasks) rank task_within graphs tables f two.state two.is in
-      racing (record {
-        body = number_of p.tasks e.actor;
-        copy = ke.copy;
-        other_body = number_of p.tasks f.actor;
-        other_copy = kf.copy;
-        racing = record {
-          tasks = λ same. r.differ (number_same p.tasks e.actor f.actor same);
-          cell = x;
-          one = access_of e x one.state ke one.holds;
-          other = access_of f x two.state kf two.holds;
-          writes = ⊎_elim (λ h. inl (writes_of e one.state ke h.0 h.1 h.2))
-              (λ h. inr (writes_of f two.state kf h.0 h.1 h.2)) r.some_store;
-          apart = apart_at e.held f.held (λ a. a.held) ke.node kf.node (sets_apart e.held f.held ke.held r.apart);
-          forth = λ less. apart_at e.held f.found (λ a. a.found) ke.node kf.node
-              (sets_apart e.held f.found ke.held (r.one_lower less));
-          back = λ less. apart_at f.held e.found (λ a. a.found) kf.node ke.node
-              (sets_apart f.held e.found kf.held (r.two_lower less));
-        };
-        placed = ap place_of ke.operation ∙ place_same e.edge.op ∙ placed;
-      })
+      let ke = at_copy e one.state one.is in
+      let kf = at_copy f two.state two.is in
+      record {
+        tasks = λ same. r.differ (number_same p.tasks e.actor f.actor same);
+        cell = x;
+        one = access_of e x one.state ke one.holds;
+        other = access_of f x two.state kf two.holds;
+        writes = ⊎_elim (λ h. inl (writes_of e one.state ke h.0 h.1 h.2))
+            (λ h. inr (writes_of f two.state kf h.0 h.1 h.2)) r.some_store;
+        apart = apart_at e.held f.held (λ a. a.held) ke.node kf.node (sets_apart e.held f.held ke.held r.apart);
+        forth = λ less. apart_at e.held f.found (λ a. a.found) ke.node kf.node
+            (sets_apart e.held f.found ke.held (r.one_lower less));
+        back = λ less. apart_at f.held e.found (λ a. a.found) kf.node ke.node
+            (sets_apart f.held e.found kf.held (r.two_lower less));
+      }
     where
       apart_at : (l h : ℕ) (part : ConfiguredNode → ℕ) {q q' r r' : ConfiguredNode} → q ≡ q' → r ≡ r'
           → are_apart q'.held (part r') ≡ true → are_apart q.held (part r) ≡ true
       apart_at l h part {q} {q'} {r} {r'} e f k =
           ap (λ (z : ConfiguredNode). are_apart z.held (part r)) e
           ∙ ap (λ (z : ConfiguredNode). are_apart q'.held (part z)) f ∙ k
+
+  -- such a race is an alarm at the place of either edge
+  pub race_alarm : (e f : Copy (parts_of p)) → IsRaceListed (shape_of (parts_of p)) T e f → (place : Place)
+      → place_at e.edge.op ≡ Some place → IsAlarm p tables (record { place = place; class = Race })
+  race_alarm e f r place placed =
+      let one = r.common.1 in
+      let two = r.common.2 in
+      let ke = at_copy e one.state one.is in
+      let kf = at_copy f two.state two.is in
+      racing (record {
+        body = number_of p.tasks e.actor;
+        copy = ke.copy;
+        other_body = number_of p.tasks f.actor;
+        other_copy = kf.copy;
+        racing = race_of e f r;
+        placed = ap place_of ke.operation ∙ place_same e.edge.op ∙ placed;
+      })

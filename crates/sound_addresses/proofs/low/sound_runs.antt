@@ -1,4 +1,5 @@
 -- The crates below, passed on to those above.
+pub use Rattle.sound_runs.proofs.Halted
 pub use Rattle.sound_runs.proofs.Imaged
 pub use Rattle.sound_runs.proofs.Known
 pub use Rattle.sound_runs.proofs.Layouts
