@@ -17,10 +17,12 @@ macro_rules! given {
 }
 
 mod answers;
+mod expressions;
 mod forms;
 mod interpreter;
 mod labels;
 mod objects;
 mod operations;
+mod statements;
 
 pub use interpreter::next;
