@@ -3,6 +3,8 @@ mod Meaning
 mod Scopes
 mod Calculations
 mod Forms
+mod CompoundForms
+mod StepForms
 mod TableLaw
 mod Pendings
 mod Dead

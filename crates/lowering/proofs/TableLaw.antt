@@ -51,6 +51,8 @@ use Rattle.lowering.proofs.Scopes.{HasResult}
 use Rattle.lowering.proofs.Calculations.{applied, applied_conversion, given_law, usable_law}
 use Rattle.lowering.proofs.Calculations.{comparison_law, comparison_is}
 use Rattle.lowering.proofs.Forms as Forms
+use Rattle.lowering.proofs.CompoundForms as CompoundForms
+use Rattle.lowering.proofs.StepForms as StepForms
 
 module _ (laid : LaidTree) (path : ℕ) (call : Calls) where
   -- ## Each form
@@ -394,7 +396,7 @@ module _ (laid : LaidTree) (path : ℕ) (call : Calls) where
       result_then (compound_result o cell of x y) p
       (λ v. act_then laid (store_at a (Scalars.Int cell) v p) (λ u. k v)))))))
       (λ how. refl)
-      (λ k. Forms.compound_then laid path call o cell of volatile (into laid path l) (lvalue_place l) p
+      (λ k. CompoundForms.compound_then laid path call o cell of volatile (into laid path l) (lvalue_place l) p
       (address_code laid path l)
       (codes laid path e).bare (implied e) k
       ∙ (la.law _ ∙ after_address l (λ a. after_act (load_at a (Scalars.Int cell) volatile (lvalue_place l)) (λ x.
@@ -404,9 +406,9 @@ module _ (laid : LaidTree) (path : ℕ) (call : Calls) where
       ∙ after_value e (λ y. ap (λ z. doing_then laid (given_by p (binary o of z y)) (λ v.
       act_then laid (store_at a (Scalars.Int cell) (applied (conversion of cell) v) p)
       (λ u. k (applied (conversion of cell) v)))) (applied_conversion cell of x)
-      ∙ Forms.stored_law laid path call of cell (binary o of (converted cell of x) y) p
+      ∙ CompoundForms.stored_law laid path call of cell (binary o of (converted cell of x) y) p
       (λ v. act_then laid (store_at a (Scalars.Int cell) v p) (λ u. k v)))))))
-      (Forms.compound_scope laid path call o cell of volatile (into laid path l) (lvalue_place l) p
+      (CompoundForms.compound_scope laid path call o cell of volatile (into laid path l) (lvalue_place l) p
       (address_code laid path l)
       (codes laid path e).bare (implied e) la.scope la.result le.bare_scope (le.bare_result he))
       (λ h. tt)
@@ -453,7 +455,7 @@ module _ (laid : LaidTree) (path : ℕ) (call : Calls) where
       result_then (compound_result (step_operator s) cell of x (Number (pos 1))) p
       (λ v. act_then laid (store_at a (Scalars.Int cell) v p) (λ u. k (step_value s x v))))))
       (λ how. refl)
-      (λ k. Forms.unit_step_then laid path call s cell of volatile (into laid path l) (lvalue_place l) p
+      (λ k. StepForms.unit_step_then laid path call s cell of volatile (into laid path l) (lvalue_place l) p
       (address_code laid path l) k
       ∙ (la.law _ ∙ after_address l (λ a. after_act (load_at a (Scalars.Int cell) volatile (lvalue_place l)) (λ x.
       ap (λ z. doing_then laid (given_by p
@@ -462,10 +464,11 @@ module _ (laid : LaidTree) (path : ℕ) (call : Calls) where
       (λ u. k (step_value s x (applied (conversion of cell) v))))) (applied_conversion cell of x)
       ∙ (ap (λ z. doing_then laid (given_by p (binary (step_operator s) of (converted cell of x) z)) (λ v.
       act_then laid (store_at a (Scalars.Int cell) (applied (conversion of cell) v) p)
-      (λ u. k (step_value s x (applied (conversion of cell) v))))) (Forms.one_stays laid path call of)
-      ∙ Forms.stored_law laid path call of cell (binary (step_operator s) of (converted cell of x) (Number (pos 1))) p
+      (λ u. k (step_value s x (applied (conversion of cell) v))))) (StepForms.one_stays laid path call of)
+      ∙ CompoundForms.stored_law laid path call of cell
+      (binary (step_operator s) of (converted cell of x) (Number (pos 1))) p
       (λ v. act_then laid (store_at a (Scalars.Int cell) v p) (λ u. k (step_value s x v))))))))
-      (Forms.unit_step_scope laid path call s cell of volatile (into laid path l) (lvalue_place l) p
+      (StepForms.unit_step_scope laid path call s cell of volatile (into laid path l) (lvalue_place l) p
       (address_code laid path l) la.scope la.result)
       (λ h. tt)
 
@@ -480,12 +483,12 @@ module _ (laid : LaidTree) (path : ℕ) (call : Calls) where
       result_then (moved laid s.minus cells x (Number (pos 1))) p
       (λ v. act_then laid (store_at a (Scalars.Pointer class) v p) (λ u. k (step_value s x v))))))
       (λ how. refl)
-      (λ k. Forms.pointer_step_then laid path call s cells class (into laid path l) (lvalue_place l) p
+      (λ k. StepForms.pointer_step_then laid path call s cells class (into laid path l) (lvalue_place l) p
       (address_code laid path l) k
       ∙ (la.law _ ∙ after_address l (λ a. after_act (load_at a (Scalars.Pointer class) false (lvalue_place l)) (λ x.
       given_law laid (moved laid s.minus cells x (Number (pos 1))) p
       (λ v. act_then laid (store_at a (Scalars.Pointer class) v p) (λ u. k (step_value s x v)))))))
-      (Forms.pointer_step_scope laid path call s cells class (into laid path l) (lvalue_place l) p
+      (StepForms.pointer_step_scope laid path call s cells class (into laid path l) (lvalue_place l) p
       (address_code laid path l) la.scope la.result)
       (λ h. tt)
 

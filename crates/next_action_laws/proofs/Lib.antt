@@ -14,6 +14,7 @@ pub mod StaticAddresses
 pub mod FilledStates
 pub mod FilledDeclarations
 pub mod RegularStatements
+mod RegularFunctions
 pub mod RegularFiles
 pub mod Answered
 pub mod StartingCells
