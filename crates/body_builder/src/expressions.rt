@@ -146,7 +146,7 @@ pub(crate) fn build_value(
     }
 }
 
-// An operator and a choice, or else what changes an object.
+// An operator, or else a choice or what changes an object.
 #[cycle(value)]
 fn build_operator(
     here: &Here<'_>,
@@ -242,6 +242,23 @@ fn build_operator(
                 here.ends(to, wanted, true, *place, Some(temp))
             }
         }
+        _ => build_choice(here, to, rvalue, wanted),
+    }
+}
+
+// What goes one of two ways, or else what changes an object.
+#[cycle(value)]
+fn build_choice(
+    here: &Here<'_>,
+    to: &mut Fragment,
+    rvalue: &Rvalue,
+    wanted: Wanted,
+) -> Result<Found, NoMemory>
+    ensures { IfOk result (λ x. Finds (value_at (tree_in here.now.laid.now) here.now.depth here.now.path
+        (rvalue_tree rvalue.now) wanted (so_far (tree_in here.now.laid.now) to.old))
+        (so_far (tree_in here.now.laid.now) to.new) x) }
+{
+    match rvalue {
         Rvalue::Not { value, .. } => {
             let found = build_value(here, to, value, Wanted::Branch)?;
             let node = here.node(to);

@@ -284,6 +284,9 @@ pub fn typed_expr_at(
 
 /// An expression, in a scope that is prepared for its type names: its typed form, or the first construct that meets a
 /// row of the rules, parts before the whole and parts from left to right.
+///
+/// For an expression by itself, whose calls are numbered from 0: a call of the public surface, which the typing of whole
+/// files, with `typed_expr_at`, does not need.
 pub fn typed_expr(alloc: Global, expr: &Expr, scope: &Scope) -> Result<Operand, Fail>
     ensures { Gives operand_tree result (typing type_of_name scope.now 0 (tree_of expr.now)) }
 {
