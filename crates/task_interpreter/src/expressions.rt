@@ -7,7 +7,7 @@ ghost use Rattle.task_interpreter.specs.reading.Direct.{truth_ran, loaded, value
 ghost use Rattle.task_interpreter.specs.reading.Lists.{is_operation, is_choice, is_change};
 ghost use Rattle.task_interpreter.specs.reading.Seats.{seat_of};
 
-use crate::answers::{Gave, Held, calculated, changed, left, stepped, stored};
+use crate::answers::{Gave, Held, calculated, changed, stepped, stored};
 use crate::forms::{form_of, tried};
 use crate::interpreter::Here;
 use crate::objects::object_of;

@@ -11,7 +11,7 @@ ghost use Rattle.task_interpreter.specs.reading.Direct.{statement_ran};
 ghost use Rattle.task_interpreter.specs.reading.Lists.{is_controlled, declared_ran, listed_ran, part_ran, parts_ran};
 ghost use Rattle.task_interpreter.specs.reading.Seats.{seat_of};
 
-use crate::answers::{Flow, Gave, last, left, stepped};
+use crate::answers::{Flow, Gave, last, left};
 use crate::interpreter::Here;
 use crate::labels::{borrowed, start};
 use crate::objects::{cells_of, object_of, remaining, scalar_at, zero_of};
