@@ -1,13 +1,13 @@
 #!/usr/bin/env bash
-# Whether the recipes of docs/RECIPES.md name every place: each file that has a class, an operator or a command
+# Whether the recipes of docs/RECIPES.md name every place: each file that has a class, an operator, a command or a view
 # that is there already has to stand in the recipe for a new one, and each file that a recipe names has to be there.
 #
 #     benches/recipes.sh
-#     benches/recipes.sh TOP class|operator|command NAME
+#     benches/recipes.sh TOP class|operator|command|view NAME
 #
 # In the second form TOP is a repository in which a recipe was followed for NAME, a pattern of grep, and each file that
 # has what is there already and not NAME is listed. What is there already is the class RACE beside OVERFLOW and the
-# field of SHIFT; the operator `%`; the command `replay`. Status 1 where a file is missing or listed.
+# field of SHIFT; the operator `%`; the command `replay`; the view `summary`. Status 1 where a file is missing or listed.
 set -eu
 own=$(dirname "$(dirname "$(readlink -f "$0")")")
 [ $# -eq 0 ] || [ $# -eq 3 ] || { sed -n 's/^#     /usage: /p' "$0" >&2; exit 2; }
@@ -52,6 +52,9 @@ has() { # class|operator|command
         ;;
     operator) grep -rlawE --exclude-dir=out 'Rem|Remainder|Percent' crates ;;
     command) grep -rlawE --exclude-dir=out 'Replay' crates/cmd_words crates/analyser crates/words_tests ;;
+    view)
+        grep -rlawE --exclude-dir=out 'Summary|summary_text|summary' crates/report_views crates/report_view crates/view_tests
+        ;;
     *) echo "there is no recipe for $1" >&2; exit 2 ;;
     esac
 }
@@ -69,4 +72,6 @@ has operator >"$folder/found"
 compare 'A new C operator'
 has command >"$folder/found"
 compare 'A new command'
+has view >"$folder/found"
+compare 'A new view'
 exit "$status"
