@@ -21,7 +21,7 @@ use Rattle.program_reports.specs.state_fits.laws.FileSets.{in_sixteen}
 use Rattle.program_reports.specs.task_equations.Bodies.{edge_of, node_at, copy_at}
 use Rattle.program_reports.specs.task_equations.Equations.{action_along, around_along}
 use Rattle.program_reports.specs.program_equations.Programs.{ProgramBodies, body_at, IsProgram}
-use Rattle.program_reports.specs.Reports.{place_of, IsWriting, operation_in, left_in, IsReachedIn, IsAccess}
+use Rattle.program_reports.specs.Reports.{place_of, IsWriting, operation_in, left_in, IsReachedIn, IsAccess, AreRacing}
 use Rattle.program_reports.specs.Reports.{IsAlarm, faulty, racing}
 use Rattle.program_shape.specs.tm_soundness.Numbered.{TaskOf}
 use Rattle.program_shape.specs.tm_soundness.Shape.{store}
@@ -150,7 +150,7 @@ module _ (p : ProgramBodies) (is : IsProgram p)
   abbrev T : Tables (shape_of (parts_of p))
   T = tables_of p tables stored
 
-  task_within : (i : TaskOf p.tasks) → number_of p.tasks i < length p.bodies
+  pub task_within : (i : TaskOf p.tasks) → number_of p.tasks i < length p.bodies
   task_within i = let a = number_below p.tasks i in let b = is.tasks in omega (arith, a, b)
 
   abbrev pub At : Copy (parts_of p) → State → Type 0
