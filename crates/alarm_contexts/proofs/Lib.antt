@@ -1,0 +1,15 @@
+-- Lists that rise (Rising), the order of contexts (Sorting), edges (Edges) and bounds of values (Bounds) with one more,
+-- how contexts are merged (Joined, Merged); those of classes (Noted), copies and bodies (Adding); what they tell of
+-- tables (Leaving, Fitting), all of it (Exact), and that it is one, and the report's (One).
+mod Rising
+mod Bounds
+mod Sorting
+mod Edges
+mod Joined
+mod Merged
+mod Noted
+mod Adding
+mod Leaving
+mod Fitting
+mod Exact
+pub mod One

@@ -1,0 +1,8 @@
+-- The order of alarms and edges (Order), least upper bounds of values (Bounds), the contexts of alarms (Contexts), and
+-- what the code finds on its way (reading).
+-- The crate below, passed on to those above.
+pub use Rattle.program_reports.specs as program_reports
+pub mod Order
+pub mod Bounds
+pub mod Contexts
+pub mod reading

@@ -1,0 +1,154 @@
+//! Contexts of one alarm as one.
+ghost use Rattle.std.specs.Prelude.{◌<◌, ◌≤◌, length, Contains, IfOk, OnOk, IsTrue, ◌↔◌, ◌≡◌};
+ghost use Rattle.post_recheck.specs.program_equations.Programs.{body_at};
+ghost use Rattle.post_recheck.specs.program_equations.Solutions.{tables_of};
+ghost use Rattle.post_recheck.specs.program_systems.Analysable.{IsAnalysable};
+ghost use Rattle.post_recheck.specs.program_systems.ProgramFacts.{AreProgramFacts, program_with};
+ghost use Rattle.post_recheck.specs.Pairs.{FitsPair, lists_of, pair_of};
+ghost use Rattle.alarm_contexts.specs.declared.exits.Context.{Context as AContext};
+ghost use Rattle.alarm_contexts.specs.Contexts.{alarm_of};
+ghost use Rattle.alarm_contexts.specs.reading.Found.{IsContextUpTo};
+ghost use Rattle.alarm_contexts.specs.reading.Operands.{operands_of};
+ghost use Rattle.alarm_contexts.specs.reading.Merging.{edge_of, IsSorting, IsLast, IsEdgeAdded, IsAlone, IsJoined};
+ghost use Rattle.alarm_contexts.specs.reading.Merging.{IsAdded, AreMerged};
+
+use crate::alarm_context::{AlarmContexts, ContextEdge};
+use crate::exits::{Context, Exit};
+use crate::operands::{joined_operands, operands_of};
+use interfere_set::Store;
+use mutex_configs::Program;
+use pointer_dom::AbsValue;
+use post_recheck::{ProgramFacts, Table};
+use std::alloc::Global;
+use tm_lattice::NoMemory;
+use tm_terms::Alarm;
+
+// The edge of a copy.
+fn edge_of(exit: Exit) -> ContextEdge
+    ensures { result ≡ edge_of exit }
+{
+    ContextEdge {
+        body: exit.body,
+        edge: exit.edge,
+    }
+}
+
+// Whether the edge is the last one.
+fn is_last(edges: &[ContextEdge], edge: ContextEdge) -> bool
+    ensures { IsTrue result ↔ IsLast edges.now edge }
+{
+    edges.last().copied() == Some(edge)
+}
+
+// Puts an edge behind the others, if it is not the last one.
+fn add_edge(edges: &mut Vec<ContextEdge>, edge: ContextEdge) -> Result<(), NoMemory>
+    ensures { OnOk result (IsEdgeAdded edges.old.items edge edges.new.items) }
+{
+    if is_last(edges, edge) {
+        return Ok(());
+    }
+    edges.push(edge)?;
+    Ok(())
+}
+
+// A context by itself.
+fn alone(
+    alloc: Global,
+    context: Context,
+    operands: Vec<AbsValue>,
+) -> Result<AlarmContexts, NoMemory>
+    ensures { IfOk result (λ a. IsAlone context operands.items a) }
+{
+    let mut edges = Vec::new(alloc);
+    edges.push(edge_of(context.exit))?;
+    Ok(AlarmContexts {
+        place: context.alarm.place,
+        class: context.alarm.class,
+        edges,
+        operands,
+        always: context.exit.ends,
+    })
+}
+
+// One more context of the same alarm.
+fn joined(
+    alloc: Global,
+    last: AlarmContexts,
+    context: Context,
+    operands: &[AbsValue],
+) -> Result<AlarmContexts, NoMemory>
+    ensures { IfOk result (λ a. IsJoined last context operands.now a) }
+{
+    let mut edges = last.edges;
+    add_edge(&mut edges, edge_of(context.exit))?;
+    Ok(AlarmContexts {
+        place: last.place,
+        class: last.class,
+        edges,
+        operands: joined_operands(alloc, &last.operands, operands)?,
+        always: last.always && context.exit.ends,
+    })
+}
+
+// Whether the alarm is this one.
+fn is_of(contexts: &AlarmContexts, alarm: Alarm) -> bool
+    ensures { IsTrue result ↔ (alarm_of contexts.now ≡ alarm) }
+{
+    contexts.place == alarm.place && contexts.class == alarm.class
+}
+
+// Joins it with the last one, where they are of one alarm; else puts it behind.
+fn add(
+    alloc: Global,
+    merged: &mut Vec<AlarmContexts>,
+    context: Context,
+    operands: Vec<AbsValue>,
+) -> Result<(), NoMemory>
+    ensures { OnOk result (IsAdded merged.old.items context operands.items merged.new.items) }
+{
+    let Some(last) = merged.pop() else {
+        merged.push(alone(alloc, context, operands)?)?;
+        return Ok(());
+    };
+    if is_of(&last, context.alarm) {
+        merged.push(joined(alloc, last, context, &operands)?)?;
+        return Ok(());
+    }
+    merged.push(last)?;
+    merged.push(alone(alloc, context, operands)?)?;
+    Ok(())
+}
+
+// The same ones in order.
+fn sorted(mut given: Vec<Context>) -> Result<Vec<Context>, NoMemory>
+    ensures { IfOk result (λ list. IsSorting given.items list.items) }
+{
+    given.sort()?;
+    Ok(given)
+}
+
+/// In order, and those of one alarm as one.
+pub(crate) fn merged(
+    alloc: Global,
+    program: &Program,
+    facts: &ProgramFacts,
+    tables: &[Table],
+    store: &Store,
+    contexts: Vec<Context>,
+) -> Result<Vec<AlarmContexts>, NoMemory>
+    requires analysable { IsAnalysable program.now }
+    requires facts { AreProgramFacts program.now facts.now }
+    requires fits { FitsPair (program_with program.now facts.now) (pair_of tables.now store.now) }
+    requires found { (x : AContext) → Contains contexts.items x → IsContextUpTo (program_with program.now facts.now)
+        store.now (tables_of (lists_of tables.now)) (length (program_with program.now facts.now).bodies) x }
+    ensures { IfOk result (λ list. AreMerged (operands_of (program_with program.now facts.now)
+        (tables_of (lists_of tables.now))) contexts.items list.items) }
+{
+    let ranked = sorted(contexts)?;
+    let mut merged = Vec::new(alloc);
+    for context in ranked.iter() {
+        let operands = operands_of(alloc, program, facts, tables, store, *context)?;
+        add(alloc, &mut merged, *context, operands)?;
+    }
+    Ok(merged)
+}
