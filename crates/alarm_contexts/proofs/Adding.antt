@@ -1,6 +1,6 @@
 -- Contexts with one more class, one more copy and one more body.
-use Rattle.std.proofs.Common.{◌≡◌, ◌↔◌, ◌⊎◌, ℕ, ◌+◌, ◌<◌, refl, ap, sym, subst, ◌∙◌, inl, inr, Bool, true, false, not}
-use Rattle.std.proofs.Common.{length, Option, Some, None, IsTrue, arith}
+use Rattle.std.proofs.Common.{◌≡◌, ◌↔◌, ◌⊎◌, ℕ, ◌+◌, ap, sym, subst, ◌∙◌, inl, inr, Bool, true, false, not}
+use Rattle.std.proofs.Common.{Option, Some, None, IsTrue, arith}
 use Rattle.std.specs.Prelude.{is_some}
 use Rattle.std.proofs.lemmas.Bool.{cases_eq}
 use Rattle.tm_terms.specs.declared.places.Place.{Place}

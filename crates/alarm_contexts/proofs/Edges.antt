@@ -1,5 +1,5 @@
 -- One more edge stands behind those before it.
-use Rattle.std.proofs.Common.{◌≡◌, ◌↔◌, ◌⊎◌, refl, ap, sym, subst, ◌∙◌, inl, inr, ◌-◌, List, [], ◌∷◌, ◌++◌}
+use Rattle.std.proofs.Common.{◌≡◌, ◌↔◌, ◌⊎◌, refl, ap, sym, subst, ◌∙◌, inl, ◌-◌, List, [], ◌∷◌, ◌++◌}
 use Rattle.std.proofs.Common.{length, Some, arith}
 use Rattle.std.specs.Prelude.{Contains, slice_get}
 use Rattle.std.proofs.lemmas.List.{length-append}
@@ -11,7 +11,7 @@ use Rattle.alarm_contexts.specs.Order.{AreRising, IsEdgeBefore}
 use Rattle.alarm_contexts.specs.reading.Merging.{IsLast, IsEdgeAdded}
 use Rattle.alarm_contexts.specs.reading.Merging.IsEdgeAdded.{stands, follows}
 use Rattle.alarm_contexts.proofs.Rising.{none, rising_push, rising_last}
-use Rattle.alarm_contexts.proofs.Sorting.{edge_trans, edge_never}
+use Rattle.alarm_contexts.proofs.Sorting.{edge_trans}
 
 at_end : {X : Type 0} (front : List X) (x : X) → slice_get (front ++ x ∷ []) (length front) ≡ Some x
 at_end [] x = refl

@@ -1,10 +1,8 @@
 -- The contexts that are merged are those of the tables.
 use Rattle.std.proofs.Common.{◌≡◌, ◌↔◌, ℕ, ◌<◌, refl, ap, sym, subst, ◌∙◌, true, not, List, [], ◌∷◌, length, map, get_or}
-use Rattle.std.proofs.Common.{Option, None}
+use Rattle.std.proofs.Common.{Option}
 use Rattle.std.specs.Prelude.{is_some, Contains}
-use Rattle.tm_cint.specs.declared.Class.{Class}
 use Rattle.tm_terms.specs.declared.alarms.Alarm.{Alarm}
-use Rattle.tm_terms.specs.declared.places.Place.{Place}
 use Rattle.tm_terms.specs.Alarms.{AlarmBefore, IsStrictlySorted}
 use Rattle.interfere_set.specs.pointer_dom.Values.{Values, no_value}
 use Rattle.interfere_set.specs.Stores.{Interferences}
@@ -18,11 +16,11 @@ use Rattle.alarm_contexts.specs.declared.alarm_context.ContextEdge.{ContextEdge}
 use Rattle.alarm_contexts.specs.declared.alarm_context.AlarmContexts.{AlarmContexts}
 use Rattle.alarm_contexts.specs.declared.exits.Context.{Context}
 use Rattle.alarm_contexts.specs.Order.{AreRising}
-use Rattle.alarm_contexts.specs.Contexts.{IsContext, HasContext, IsEdge, HasOperand, IsOperand, IsAlways, IsContextOf}
-use Rattle.alarm_contexts.specs.Contexts.{alarm_of, HasAlarm, AreContexts}
+use Rattle.alarm_contexts.specs.Contexts.{IsContext, IsEdge, HasOperand, IsOperand, IsAlways, IsContextOf}
+use Rattle.alarm_contexts.specs.Contexts.{alarm_of, AreContexts}
 use Rattle.alarm_contexts.specs.reading.Found.{IsContextUpTo}
 use Rattle.alarm_contexts.specs.reading.Operands.{operands_of}
-use Rattle.alarm_contexts.specs.reading.Merging.{edge_of, IsGiven, IsEdgeOf, HasValue, IsValueOf, IsMerged, AreMerged}
+use Rattle.alarm_contexts.specs.reading.Merging.{IsGiven, IsEdgeOf, HasValue, IsValueOf, IsMerged, AreMerged}
 use Rattle.alarm_contexts.proofs.Rising.{first}
 use Rattle.alarm_contexts.proofs.Bounds.{least_same}
 use Rattle.alarm_contexts.proofs.Leaving.{same_after, ends_none, IsAs, as_context, from_copy, found_copy, as_copy}

@@ -1,6 +1,6 @@
 -- Contexts that were found are of bodies and copies that there are, and their operands are sets of values.
-use Rattle.std.proofs.Common.{◌≡◌, ◌↔◌, ℕ, zero, suc, ◌<◌, sym, subst, ◌∙◌, List, [], ◌∷◌, length, get_or, take, Some}
-use Rattle.std.proofs.Common.{IfSome, Option, None}
+use Rattle.std.proofs.Common.{◌≡◌, ℕ, zero, suc, ◌<◌, sym, subst, List, [], ◌∷◌, length, get_or, take}
+use Rattle.std.proofs.Common.{IfSome, Option}
 use Rattle.std.specs.Prelude.{Contains}
 use Rattle.std.proofs.lemmas.List.{get_or_default}
 use Rattle.access_races.proofs.Joins.{either}
@@ -11,7 +11,7 @@ use Rattle.post_recheck.specs.table_covers.Solutions.{NodeTable}
 use Rattle.post_recheck.specs.program_equations.Programs.{ProgramBodies, body_at, IsProgram}
 use Rattle.post_recheck.specs.program_equations.Solutions.{table_at, tables_of}
 use Rattle.post_recheck.specs.program_equations.Systems.{FitsBody}
-use Rattle.post_recheck.specs.Pairs.{Pair, FitsPair}
+use Rattle.post_recheck.specs.Pairs.{FitsPair}
 use Rattle.program_reports.specs.Reports.{copy_in}
 use Rattle.alarm_contexts.specs.declared.exits.Context.{Context}
 use Rattle.alarm_contexts.specs.reading.Found.{IsContextUpTo}

@@ -1,6 +1,6 @@
 -- What the contexts of bodies tell of tables.
-use Rattle.std.proofs.Common.{◌≡◌, ◌↔◌, ◌⊎◌, ℕ, ◌<◌, refl, ap, sym, subst, ◌∙◌, Bool, true, not, cond, List, [], length, map}
-use Rattle.std.proofs.Common.{get_or, Option, Some, None, IfSome, inl, inr, arith}
+use Rattle.std.proofs.Common.{◌≡◌, ℕ, ◌<◌, refl, ap, sym, subst, ◌∙◌, true, not, cond, List, [], length, map}
+use Rattle.std.proofs.Common.{get_or, Option, Some, None, inl, inr, arith}
 use Rattle.std.specs.Prelude.{is_some}
 use Rattle.std.specs.FinMap.{get}
 use Rattle.std.specs.Option.{option_map}
@@ -22,8 +22,7 @@ use Rattle.post_recheck.specs.table_covers.Solutions.{NodeTable}
 use Rattle.post_recheck.specs.task_equations.Bodies.{Body, copy_at}
 use Rattle.post_recheck.specs.task_equations.Equations.{action_along, around_along}
 use Rattle.post_recheck.specs.program_equations.Programs.{ProgramBodies, body_at, IsProgram}
-use Rattle.post_recheck.specs.program_equations.Systems.{FitsBody}
-use Rattle.program_reports.specs.Reports.{copy_in, operation_in, place_of, IsReachedIn}
+use Rattle.program_reports.specs.Reports.{copy_in, operation_in}
 use Rattle.program_reports.specs.reading.Found.{operation_at}
 use Rattle.alarm_contexts.specs.declared.exits.Exit.{Exit}
 use Rattle.alarm_contexts.specs.declared.exits.Context.{Context}

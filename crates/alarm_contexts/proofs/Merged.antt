@@ -1,19 +1,19 @@
 -- One more context is merged with those before it.
-use Rattle.std.proofs.Common.{◌≡◌, ◌↔◌, ◌⊎◌, ℕ, zero, suc, ◌<◌, refl, ap, sym, subst, ◌∙◌, inl, inr, false, List, [], ◌∷◌, ◌++◌}
+use Rattle.std.proofs.Common.{◌≡◌, ◌↔◌, ◌⊎◌, ℕ, zero, suc, ◌<◌, ap, sym, subst, ◌∙◌, inl, inr, false, List, [], ◌∷◌, ◌++◌}
 use Rattle.std.proofs.Common.{length, get_or, take, arith}
 use Rattle.std.specs.Prelude.{Contains}
 use Rattle.std.proofs.lemmas.List.{get_or_default}
 use Rattle.std.proofs.lemmas.List.Elements.{Contains-append_left, Contains-push, Contains-push_cases}
-use Rattle.tm_cint.specs.declared.Class.TheVariants.{Race}
+use Rattle.tm_cint.specs.declared.Class.TheVariants.{Overflow}
 use Rattle.tm_terms.specs.declared.alarms.Alarm.{Alarm}
 use Rattle.tm_terms.specs.Alarms.{AlarmBefore}
 use Rattle.interfere_set.specs.pointer_dom.Values.{Values, IsValues, no_value}
 use Rattle.access_races.proofs.Joins.{either}
 use Rattle.alarm_contexts.specs.declared.alarm_context.AlarmContexts.{AlarmContexts}
 use Rattle.alarm_contexts.specs.declared.exits.Context.{Context}
-use Rattle.alarm_contexts.specs.Order.{AreRising, IsEdgeBefore}
+use Rattle.alarm_contexts.specs.Order.{AreRising}
 use Rattle.alarm_contexts.specs.Contexts.{alarm_of}
-use Rattle.alarm_contexts.specs.reading.Merging.{edge_of, Precedes, IsAlone, IsJoined, IsAdded, IsMerged, IsGiven}
+use Rattle.alarm_contexts.specs.reading.Merging.{Precedes, IsAlone, IsJoined, IsAdded, IsMerged, IsGiven}
 use Rattle.alarm_contexts.specs.reading.Merging.{AreMerged}
 use Rattle.alarm_contexts.specs.reading.Merging.IsAdded.{begins, joins, behind}
 use Rattle.alarm_contexts.proofs.Rising.{none, first, cases, rising_push, rising_front, rising_last}
@@ -153,7 +153,7 @@ module _ (values : Context → List Values) (old now : List Context) (this : Con
 -- what stands in place of a context that there is not
 abbrev pub no_context : Context
 no_context = record {
-  alarm = record { place = record { line = 0; col = 0 }; class = Race };
+  alarm = record { place = record { line = 0; col = 0 }; class = Overflow };
   exit = record { body = 0; edge = 0; copy = 0; ends = false };
 }
 

@@ -1,5 +1,5 @@
 -- Tables have one list of alarms with their contexts, and these are the alarms of the report.
-use Rattle.std.proofs.Common.{◌≡◌, ◌↔◌, ◌⊎◌, ℕ, ◌<◌, ◌≤◌, refl, ap, sym, subst, ◌∙◌, inl, inr, Bool, true, false}
+use Rattle.std.proofs.Common.{◌≡◌, ◌↔◌, ℕ, ◌<◌, ◌≤◌, refl, sym, subst, ◌∙◌, inl, inr, Bool, true, false}
 use Rattle.std.proofs.Common.{List, [], ◌∷◌, length, map, get_or, pos, arith}
 use Rattle.std.specs.Prelude.{Contains}
 use Rattle.std.proofs.lemmas.Bool.{cases_lt}
@@ -11,7 +11,7 @@ use Rattle.tm_terms.specs.declared.alarms.Alarm.{Alarm}
 use Rattle.tm_terms.specs.declared.places.Place.{Place}
 use Rattle.tm_terms.specs.Alarms.{AlarmBefore, IsStrictlySorted}
 use Rattle.interfere_set.specs.strided_dom.Progression.{single}
-use Rattle.interfere_set.specs.pointer_dom.Values.{Values, no_value}
+use Rattle.interfere_set.specs.pointer_dom.Values.{no_value}
 use Rattle.post_recheck.specs.transfer_rows.StateForms.{State, value_of}
 use Rattle.post_recheck.specs.transfer_rows.Actions.{Around, Action, Calculation, negated, operated, element, moved}
 use Rattle.post_recheck.specs.transfer_rows.Actions.{dereferenced, usable, gives, refines, locks, unlocks}

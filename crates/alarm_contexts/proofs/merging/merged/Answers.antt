@@ -1,5 +1,4 @@
 use Rattle.std.proofs.Common.{◌+◌, ◌≤◌, sym, subst, take, get_or, length, arith}
-use Rattle.std.specs.Prelude.{Contains}
 use Rattle.std.proofs.lemmas.List.{take_all}
 use Rattle.post_recheck.specs.program_equations.Solutions.{tables_of}
 use Rattle.post_recheck.specs.program_systems.ProgramFacts.{program_with}
@@ -13,8 +12,8 @@ use Rattle.alarm_contexts.proofs.Merged.{merged_more, after_front, merged_all, n
 use Rattle.alarm_contexts.proofs.Fitting.{in_bodies, in_copies, are_values, among}
 use Rattle.alarm_contexts.proofs.merging.merged.Goals as goal
 
-pub operands_of-operands-requires-clause-number : goal.operands_of-operands-requires-clause-number
-operands_of-operands-requires-clause-number c =
+pub operands_of-requires-clause-number : goal.operands_of-requires-clause-number
+operands_of-requires-clause-number c =
     let program = c.args.program.now in
     let facts = c.args.facts.now in
     let is = is_program program facts c.requires.analysable c.requires.facts in
@@ -25,8 +24,8 @@ operands_of-operands-requires-clause-number c =
     (among c.args.contexts.items c.in_ok-ranked.ranked.items c.in_ok-ranked.ensures xs c.deref-context-items.ensures.value
     i no_context c.loop-context-test.true))
 
-pub operands_of-operands-requires-clause-copy : goal.operands_of-operands-requires-clause-copy
-operands_of-operands-requires-clause-copy c =
+pub operands_of-requires-clause-copy : goal.operands_of-requires-clause-copy
+operands_of-requires-clause-copy c =
     let program = c.args.program.now in
     let facts = c.args.facts.now in
     let is = is_program program facts c.requires.analysable c.requires.facts in

@@ -10,7 +10,7 @@ loop-role-preserved c =
     let other = c.args.other.now in
     let role = c.loop-role.role in
     let left = c.get.ensures.lookup.4 (omega arith) no_value in
-    let right = c.get-2.ensures.lookup.4 (omega arith) no_value in
+    let right = c.get-in-loop-role.ensures.lookup.4 (omega arith) no_value in
     operands_more one other role c.loop-role.both.items c.push.new.self.items c.in_ok-joined_operand.field-0
     c.loop-role.invariant c.in_ok-push.ensures.items
     (c.in_ok-joined_operand.ensures ∙ (λ i. joined_values (left i) (right i)))

@@ -1,4 +1,4 @@
-use Rattle.std.proofs.Common.{ap, sym, ◌∙◌, refl, Some}
+use Rattle.std.proofs.Common.{ap, sym, ◌∙◌, Some}
 use Rattle.std.proofs.lemmas.Result.{IfOk-weaker}
 use Rattle.post_recheck.specs.table_covers.Solutions.{at}
 use Rattle.post_recheck.specs.body_systems.Systems.{body_of}
@@ -22,4 +22,4 @@ returns-in-None c =
     let b = body_of c.args.parts.body.now in
     let there = reached b c.args.parts c.requires.parts c.args.table.now c.requires.table c.args.copy c.requires.copy
     c.index-table-parts.result c.index-table-parts.is in
-    operands_none b (at c.args.table.now) c.args.copy (there ∙ c.in-None.is) _ c.new.ensures
+    operands_none b (at c.args.table.now) c.args.copy (there ∙ c.in-None.is) c.new.result.items c.new.ensures.items

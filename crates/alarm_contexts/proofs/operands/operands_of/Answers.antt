@@ -1,8 +1,6 @@
-use Rattle.std.proofs.Common.{◌≡◌, ◌<◌, length, get_or, refl, ap, sym, subst, ◌∙◌, arith}
+use Rattle.std.proofs.Common.{◌<◌, length, get_or, refl, ap, sym, subst, ◌∙◌, arith}
 use Rattle.std.proofs.lemmas.Result.{IfOk-weaker}
 use Rattle.post_recheck.specs.table_covers.Solutions.{at}
-use Rattle.post_recheck.specs.program_equations.Programs.{body_at}
-use Rattle.post_recheck.specs.program_systems.ProgramFacts.{program_with}
 use Rattle.post_recheck.specs.body_systems.Systems.{body_of}
 use Rattle.post_recheck.proofs.low.program_systems.Bodies.{body_count}
 use Rattle.post_recheck.specs.Pairs.{pair_of}
