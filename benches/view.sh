@@ -112,6 +112,33 @@ wanted=$'a b.h:7:5: note: x is from 0 to 9\na b.h:7:11: note: y is from 0 to 0\n
 wanted+=$'a b.h:8:48: note: no run reaches this [DEAD]\ndead 1'
 same "$wanted"$'\nstatus 0' "$(told "$top/analyse" --preprocessed --ranges "$work/ranges.c")" "ranges and a dead place"
 same $'waits 0\nstatus 0' "$(told "$top/analyse" --preprocessed --waits "$work/ranges.c")" "no circular wait"
+# Below each alarm stands why: the values of its operands, where pointers may lead, and who comes there.
+noted() { # SOURCE
+    printf '# 7 "a.h"\n%b' "$1" >"$work/why.c"
+    told "$top/analyse" --preprocessed --why "$work/why.c" | sed 's/: warning: .* \[\([A-Z]*\)\]$/ \1/; s/: note: /: /'
+}
+wanted=$'a.h:8:36 RACE\na.h:7:5: level is declared here; 3 of its 3 accesses race\n'
+wanted+=$'a.h:8:36: drain stores, holds nothing\na.h:9:33: show loads, holds nothing\na.h:9:58: show loads, holds nothing\n'
+wanted+=$'a.h:9:33 RACE\na.h:7:5: level is declared here; its accesses stand above\na.h:9:56 DIV\n'
+wanted+=$'a.h:9:56: the divisor is 0 to 4 here, and the dividend is 100\na.h:9:56: in show (priority 1)\n'
+wanted+=$'a.h:9:58 RACE\na.h:7:5: level is declared here; its accesses stand above\nalarms 4\nstatus 1'
+same "$wanted" "$(noted 'int level, shown;\n__task(2) void drain(void) { level = __input(0, 4); }\n__task(1) void show(void) { if (level > 0) shown = 100 / level; }\n')" \
+    "why of two tasks"
+wanted=$'a.h:8:46 LOCK\na.h:8:46: m is held already where it is locked here\na.h:8:46: in t (priority 3)\n'
+wanted+=$'a.h:8:46: a run that comes here so always ends here: what stands behind is not analysed for such runs\nalarms 1\nstatus 1'
+same "$wanted" "$(noted '__mutex m;\n__task(3) void t(void) { __lock(m); for (;;) __lock(m); }\n')" "why of a lock"
+wanted=$'a.h:8:27 INDEX\na.h:8:27: the subscript is 0 to 8 here, and the array has 8 elements\n'
+wanted+=$'a.h:7:5: the array stands in w, which is declared here\na.h:8:27: in t (priority 1)\nalarms 1\nstatus 1'
+same "$wanted" "$(noted 'int w[8];\n__task(1) void t(void) { w[__input(0, 8)] = 1; }\n')" "why of an index"
+wanted=$'a.h:9:26 DEREF\na.h:9:26: the pointer may be null\n'
+wanted+=$'a.h:7:5: the pointer may lead to g, which is declared here\na.h:9:26: in t (priority 1)\nalarms 1\nstatus 1'
+same "$wanted" "$(noted 'int g;\nint *f(int k) { if (k == 1) return &g; return 0; }\n__task(1) void t(void) { *f(__input(0, 3)) = 5; }\n')" \
+    "why of a pointer"
+wanted=$'a.h:8:31 DIV\na.h:8:31: the divisor is 0 here, and the dividend is 1\na.h:8:31: in main (before the tasks run)\n'
+wanted+=$'a.h:8:31: a run that comes here so always ends here: what stands behind is not analysed for such runs\nalarms 1\nstatus 1'
+same "$wanted" "$(noted 'int x, y;\nint main(void) { x = 2; x = 1 / y; return 0; }\n__task(1) void t(void) { y = 1; }\n')" \
+    "why of an error that always occurs"
+same $'alarms 0\nstatus 0' "$(noted 'int x;\n')" "why of no alarm"
 # A certificate has the text that the preprocessor made, and ends as its grammar says.
 printf '# 7 "a b.h"\nint x;\n__task(1) void t(void){x=1/x;}\n' >"$work/certified.c"
 told "$top/analyse" --preprocessed --certify "$work/certified.c" >"$work/certificate"

@@ -9,6 +9,8 @@ use Rattle.program_solutions.specs.LeastReports.{IsLeastPair}
 use Rattle.program_solutions.specs.program_equations.Solutions.{tables_of}
 use Rattle.access_groups.specs.declared.object_access.AccessGroup.{AccessGroup}
 use Rattle.access_groups.proofs.One.{grouped_alarms}
+use Rattle.alarm_contexts.specs.declared.alarm_context.AlarmContexts.{AlarmContexts}
+use Rattle.alarm_contexts.proofs.One.{report_alarms}
 use Rattle.request_circles.specs.declared.rings.Ring.{Ring}
 use Rattle.request_circles.specs.Rings.{ring_places}
 use Rattle.source_programs.specs.LaidSources.{longest_source, IsLaidSource}
@@ -22,14 +24,17 @@ use Rattle.program_streams.specs.declared.statuses.Status.TheVariants.{WriteFaul
 use Rattle.program_streams.specs.Statuses.{IsWhole}
 use Rattle.source_findings.specs.Findings.{Solves}
 use Rattle.certificate_check.proofs.Sourced.{comes_from}
-use Rattle.source_notes.specs.Names.{task_names, mutex_names, object_names}
+use Rattle.source_notes.specs.Names.{task_names, task_priorities, mutex_names, object_names}
 use Rattle.source_notes.specs.RingTexts.{rings_text}
 use Rattle.source_notes.specs.RaceTexts.{groups_text}
+use Rattle.source_notes.specs.AlarmTexts.{alarms_text}
+use Rattle.source_notes.specs.AlarmOperations.{operation_of}
 use Rattle.source_notes.specs.declared.names.Names.{Names}
 use Rattle.source_notes.specs.declared.answers.Note.{Note}
-use Rattle.source_notes.specs.declared.answers.Note.TheVariants.{Rings, Races}
-use Rattle.source_notes.specs.Notes.{rings_status, races_status, TellsRings, TellsRaces, Tells, HasNotes}
-use Rattle.source_notes.specs.reading.Told.{TellsRingsOf, TellsRacesOf, TellsOf}
+use Rattle.source_notes.specs.declared.answers.Note.TheVariants.{Rings, Races, Alarms as Others}
+use Rattle.source_notes.specs.Notes.{rings_status, races_status, alarms_status, TellsRings, TellsRaces, TellsAlarms}
+use Rattle.source_notes.specs.Notes.{Tells, HasNotes}
+use Rattle.source_notes.specs.reading.Told.{TellsRingsOf, TellsRacesOf, TellsAlarmsOf, TellsOf}
 
 module _ (bytes : List ℕ) (p : ProgramBodies) (a : IsAccepted [] bytes p) (few : length a.laid.objects ≤ 2 ^ 32)
     (pair : Pair) (least : IsLeastPair p pair) where
@@ -40,8 +45,8 @@ module _ (bytes : List ℕ) (p : ProgramBodies) (a : IsAccepted [] bytes p) (few
   is = accepted_is_program [] bytes p a
 
   module _ (laid : LaidTree) (of : IsLaidSource bytes laid) (names : Names) (are_tasks : names.tasks.items
-      ≡ task_names laid) (are_mutexes : names.mutexes.items ≡ mutex_names laid) (are_objects : names.objects.items
-      ≡ object_names laid) where
+      ≡ task_names laid) (are_priorities : names.priorities.items ≡ task_priorities laid) (are_mutexes
+      : names.mutexes.items ≡ mutex_names laid) (are_objects : names.objects.items ≡ object_names laid) where
     rings_told : (status : Status) (text : List ℕ)
         → TellsRingsOf p bytes names.tasks.items names.mutexes.items pair status text → TellsRings bytes status text
     unfolding solves
@@ -79,6 +84,30 @@ module _ (bytes : List ℕ) (p : ProgramBodies) (a : IsAccepted [] bytes p) (few
           ∙ ap (λ ms. groups_text bytes (object_names laid) (task_names laid) ms t.groups) are_mutexes;
     }
 
+    alarms_told : (status : Status) (text : List ℕ) → TellsAlarmsOf p bytes names pair status text
+        → TellsAlarms bytes status text
+    unfolding solves
+    alarms_told status text t = record {
+      alarms = t.alarms;
+      finds = record {
+        solves = solves;
+        are = t.are;
+        alarmed = λ report r place class other.
+            report_alarms p (tables_of pair.tables) report t.alarms r t.are place class other;
+      };
+      comes = t.comes;
+      laid = laid;
+      of = of;
+      is = t.is ∙ ap (λ os. alarms_text bytes os names.tasks.items names.priorities.items names.mutexes.items
+          (operation_of p) t.alarms) are_objects
+          ∙ ap (λ ts. alarms_text bytes (object_names laid) ts names.priorities.items names.mutexes.items
+          (operation_of p) t.alarms) are_tasks
+          ∙ ap (λ ps. alarms_text bytes (object_names laid) (task_names laid) ps names.mutexes.items
+          (operation_of p) t.alarms) are_priorities
+          ∙ ap (λ ms. alarms_text bytes (object_names laid) (task_names laid) (task_priorities laid) ms
+          (operation_of p) t.alarms) are_mutexes;
+    }
+
     -- the status is one of the two
     rings_by : (rings : List Ring) (status : Status) (text : List ℕ) → status ≡ rings_status rings
         → TellsRings bytes status text → HasNotes Rings bytes status text
@@ -94,10 +123,18 @@ module _ (bytes : List ℕ) (p : ProgramBodies) (a : IsAccepted [] bytes p) (few
     races_by (group ∷ groups) status text e t =
         subst (λ s. TellsRaces bytes s text → HasNotes Races bytes s text) (sym e) (λ u. u) t
 
+    alarms_by : (alarms : List AlarmContexts) (status : Status) (text : List ℕ) → status ≡ alarms_status alarms
+        → TellsAlarms bytes status text → HasNotes Others bytes status text
+    alarms_by [] status text e t =
+        subst (λ s. TellsAlarms bytes s text → HasNotes Others bytes s text) (sym e) (λ u. u) t
+    alarms_by (alarm ∷ alarms) status text e t =
+        subst (λ s. TellsAlarms bytes s text → HasNotes Others bytes s text) (sym e) (λ u. u) t
+
     pub told : (n : Note) (status : Status) (text : List ℕ) → TellsOf n p bytes names pair status text
         → HasNotes n bytes status text
     told Rings status text t = rings_by t.rings status text t.comes (rings_told status text t)
     told Races status text t = races_by t.groups status text t.comes (races_told status text t)
+    told Others status text t = alarms_by t.alarms status text t.comes (alarms_told status text t)
 
 -- ## Whole texts
 
@@ -133,6 +170,7 @@ not_solved bytes long s =
 solved_by : (n : Note) (bytes : List ℕ) (status : Status) (text : List ℕ) → Tells n bytes status text → Solves bytes
 solved_by Rings bytes status text t = (let f = t.finds in f.solves)
 solved_by Races bytes status text t = (let f = t.finds in f.solves)
+solved_by Others bytes status text t = (let f = t.finds in f.solves)
 
 pub longer_notes : (n : Note) (bytes more : List ℕ) → longest_source < length bytes → (status : Status) (text : List ℕ)
     → HasNotes n bytes status text → HasNotes n (bytes ++ more) status text

@@ -1,5 +1,7 @@
--- What is answered to a source: the rings in which its tasks may come to wait for each other, or its races by object.
+-- What is answered to a source: the rings in which its tasks may come to wait for each other, its races by object, or its
+-- other alarms and what they stand on.
 use Rattle.std.specs.Prelude.{◌≡◌, ◌↔◌, ℕ, List, [], ◌∷◌, Contains}
+use Rattle.tm_cint.specs.declared.Class.{Class}
 use Rattle.tm_cint.specs.declared.Class.TheVariants.{Race}
 use Rattle.tm_terms.specs.declared.alarms.Alarm.{Alarm}
 use Rattle.tm_terms.specs.declared.places.Place.{Place}
@@ -12,6 +14,8 @@ use Rattle.lock_waits.specs.Waits.{AreRings}
 use Rattle.program_reports.specs.Reports.{IsReport}
 use Rattle.access_groups.specs.declared.object_access.AccessGroup.{AccessGroup}
 use Rattle.access_groups.specs.Groups.{AreGroups, HasRacingAt}
+use Rattle.alarm_contexts.specs.declared.alarm_context.AlarmContexts.{AlarmContexts}
+use Rattle.alarm_contexts.specs.Contexts.{AreContexts, HasAlarm}
 use Rattle.tm_laid.specs.Layouts.{LaidTree}
 use Rattle.source_programs.specs.LaidSources.{IsLaidSource}
 use Rattle.source_programs.specs.Sources.{IsRefused}
@@ -19,11 +23,13 @@ use Rattle.program_streams.specs.declared.statuses.Status.{Status}
 use Rattle.program_streams.specs.declared.statuses.Status.TheVariants.{NoAlarm, Alarms, Refused, Usage, ReadFault}
 use Rattle.program_streams.specs.declared.statuses.Status.TheVariants.{WriteFault, NoMemory}
 use Rattle.source_findings.specs.Findings.{Solves, ListsRings}
-use Rattle.source_notes.specs.Names.{task_names, mutex_names, object_names}
+use Rattle.source_notes.specs.Names.{task_names, task_priorities, mutex_names, object_names}
 use Rattle.source_notes.specs.RingTexts.{rings_text}
 use Rattle.source_notes.specs.RaceTexts.{groups_text}
+use Rattle.source_notes.specs.AlarmTexts.{alarms_text}
+use Rattle.source_notes.specs.AlarmOperations.{operation_of}
 use Rattle.source_notes.specs.declared.answers.Note.{Note}
-use Rattle.source_notes.specs.declared.answers.Note.TheVariants.{Rings, Races}
+use Rattle.source_notes.specs.declared.answers.Note.TheVariants.{Rings, Races, Alarms as Others}
 
 -- ## Rings
 
@@ -70,11 +76,36 @@ pub record TellsRaces (bytes : List ℕ) (status : Status) (text : List ℕ) : T
   pub of : IsLaidSource bytes laid
   pub is : text ≡ groups_text bytes (object_names laid) (task_names laid) (mutex_names laid) groups
 
--- ## Both
+-- ## Alarms of other classes
+
+-- The alarms in the tables of the least solution, each with its edges and operands, that are not races: the report of
+-- these tables, which lists each error that occurs in a run, has of the other classes exactly these.
+pub record FindsAlarms (bytes : List ℕ) (alarms : List AlarmContexts) : Type 0 where
+  pub solves : Solves bytes
+  pub are : (let s = solves in let pair = s.pair in AreContexts s.program (tables_of pair.tables) alarms)
+  pub alarmed : (let s = solves in let pair = s.pair in (report : List Alarm)
+      → IsReport s.program (tables_of pair.tables) report → (place : Place) (class : Class) → (class ≡ Race → ⊥)
+      → Contains report (record { place = place; class = class }) ↔ HasAlarm alarms place class)
+
+abbrev pub alarms_status : List AlarmContexts → Status
+alarms_status [] = NoAlarm
+alarms_status (alarm ∷ alarms) = Alarms
+
+pub record TellsAlarms (bytes : List ℕ) (status : Status) (text : List ℕ) : Type 0 where
+  pub alarms : List AlarmContexts
+  pub finds : FindsAlarms bytes alarms
+  pub comes : status ≡ alarms_status alarms
+  pub laid : LaidTree
+  pub of : IsLaidSource bytes laid
+  pub is : (let s = finds.solves in text ≡ alarms_text bytes (object_names laid) (task_names laid) (task_priorities laid)
+      (mutex_names laid) (operation_of s.program) alarms)
+
+-- ## All
 
 abbrev pub Tells : Note → List ℕ → Status → List ℕ → Type 0
 Tells Rings = TellsRings
 Tells Races = TellsRaces
+Tells Others = TellsAlarms
 
 -- The status and the text that these bytes are answered with.
 abbrev pub HasNotes : Note → List ℕ → Status → List ℕ → Type 0

@@ -2,13 +2,15 @@
 ghost use Rattle.std.specs.Prelude.{◌≡◌, IfOk};
 ghost use Rattle.program_solutions.specs.program_systems.ReadPrograms.{program_of};
 ghost use Rattle.program_solutions.specs.LeastReports.{IsLeastPair};
-ghost use Rattle.source_notes.specs.Notes.{HasNotes, rings_status, races_status};
-ghost use Rattle.source_notes.specs.reading.Told.{TellsOf, TellsRingsOf, TellsRacesOf};
+ghost use Rattle.source_notes.specs.Notes.{HasNotes, rings_status, races_status, alarms_status};
+ghost use Rattle.source_notes.specs.reading.Told.{TellsOf, TellsRingsOf, TellsRacesOf, TellsAlarmsOf};
 
+use crate::alarm_operations::alarms_text;
 use crate::names::{Names, names_of};
 use crate::race_lines::groups_text;
 use crate::ring_lines::rings_text;
 use access_groups::{AccessGroup, groups};
+use alarm_contexts::{AlarmContexts, alarm_contexts};
 use lock_waits::rings;
 use program_solutions::{Analysis, Solution, solution};
 use program_streams::Status;
@@ -25,6 +27,8 @@ pub enum Note {
     Rings,
     /// Races by object.
     Races,
+    /// Alarms of values and locks, and what they stand on.
+    Alarms,
 }
 
 /// A status and the whole text that goes with it. Names stand in it byte for byte, as in the source.
@@ -50,6 +54,17 @@ fn races_status(groups: &[AccessGroup]) -> Status
     ensures { result ≡ races_status groups.now }
 {
     if groups.is_empty() {
+        Status::NoAlarm
+    } else {
+        Status::Alarms
+    }
+}
+
+/// Whether there is an alarm.
+fn alarms_status(alarms: &[AlarmContexts]) -> Status
+    ensures { result ≡ alarms_status alarms.now }
+{
+    if alarms.is_empty() {
         Status::NoAlarm
     } else {
         Status::Alarms
@@ -98,6 +113,27 @@ fn races_reply(
     })
 }
 
+/// What a least solution tells of alarms.
+fn alarms_reply(
+    alloc: Heap,
+    bytes: &[u8],
+    names: &Names,
+    analysis: &Analysis,
+    found: &Solution,
+) -> Result<NoteReply, NoMemory>
+    requires { IsLeastPair (program_of analysis.now) found.now }
+    ensures { IfOk result (λ reply. TellsAlarmsOf (program_of analysis.now) bytes.now names.now
+        found.now reply.status reply.text.items) }
+{
+    let (program, facts) = analysis.parts();
+    let alarms = alarm_contexts(alloc, program, facts, found.tables(), found.store())?;
+    let text = alarms_text(alloc, bytes, names, program, facts, &alarms)?;
+    Ok(NoteReply {
+        status: alarms_status(&alarms),
+        text,
+    })
+}
+
 /// What a least solution tells.
 fn reply_of(
     alloc: Heap,
@@ -114,6 +150,7 @@ fn reply_of(
     match note {
         Note::Rings => rings_reply(alloc, bytes, names, analysis, found),
         Note::Races => races_reply(alloc, bytes, names, analysis, found),
+        Note::Alarms => alarms_reply(alloc, bytes, names, analysis, found),
     }
 }
 

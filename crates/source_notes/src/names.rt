@@ -1,7 +1,8 @@
 //! The names of tasks, mutexes and objects.
 ghost use Rattle.std.specs.Prelude.{◌≡◌, slice_get, IfOk};
 ghost use Rattle.tm_laid.specs.Layouts.{laid_tree};
-ghost use Rattle.source_notes.specs.Names.{function_name, task_names, mutex_names, object_names};
+ghost use Rattle.source_notes.specs.Names.{function_name, task_names, task_priorities, mutex_names};
+ghost use Rattle.source_notes.specs.Names.{object_names};
 
 use std::alloc::Global;
 use tm_laid::Laid;
@@ -15,10 +16,11 @@ pub(crate) struct ObjectName {
     pub(crate) place: Place,
 }
 
-/// The names of the tasks of a program, of its mutexes and of its objects, each by its number.
+/// The names of the tasks of a program, with their priorities, of its mutexes and of its objects, each by its number.
 #[derive(Drop)]
 pub(crate) struct Names {
     pub(crate) tasks: Vec<Name>,
+    pub(crate) priorities: Vec<u8>,
     pub(crate) mutexes: Vec<Name>,
     pub(crate) objects: Vec<ObjectName>,
 }
@@ -45,6 +47,17 @@ fn task_names(alloc: Global, laid: &Laid) -> Result<Vec<Name>, NoMemory>
         names.push(function_name(laid, task.function))?;
     }
     Ok(names)
+}
+
+/// The priorities of the tasks.
+fn task_priorities(alloc: Global, laid: &Laid) -> Result<Vec<u8>, NoMemory>
+    ensures { IfOk result (λ priorities. priorities.items ≡ task_priorities (laid_tree laid.now)) }
+{
+    let mut priorities = Vec::new(alloc);
+    for task in &laid.file.tasks {
+        priorities.push(task.priority)?;
+    }
+    Ok(priorities)
 }
 
 /// The names of the mutexes.
@@ -76,13 +89,16 @@ fn object_names(alloc: Global, laid: &Laid) -> Result<Vec<ObjectName>, NoMemory>
 pub(crate) fn names_of(alloc: Global, laid: &Laid) -> Result<Names, NoMemory>
     ensures objects { IfOk result (λ names. names.objects.items ≡ object_names (laid_tree laid.now)) }
     ensures tasks { IfOk result (λ names. names.tasks.items ≡ task_names (laid_tree laid.now)) }
+    ensures priorities { IfOk result (λ names. names.priorities.items ≡ task_priorities (laid_tree laid.now)) }
     ensures mutexes { IfOk result (λ names. names.mutexes.items ≡ mutex_names (laid_tree laid.now)) }
 {
     let tasks = task_names(alloc, laid)?;
+    let priorities = task_priorities(alloc, laid)?;
     let mutexes = mutex_names(alloc, laid)?;
     let objects = object_names(alloc, laid)?;
     Ok(Names {
         tasks,
+        priorities,
         mutexes,
         objects,
     })

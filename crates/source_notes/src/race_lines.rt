@@ -78,7 +78,7 @@ fn push_access(
 }
 
 /// The object with this number.
-fn object_at(names: &Names, object: u32) -> ObjectName
+pub(crate) fn object_at(names: &Names, object: u32) -> ObjectName
     ensures { result ≡ object_at names.now.objects.items object }
 {
     match names.objects.get(object as usize) {

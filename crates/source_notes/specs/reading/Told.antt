@@ -8,14 +8,18 @@ use Rattle.request_circles.specs.declared.rings.Ring.{Ring}
 use Rattle.lock_waits.specs.Waits.{AreRings}
 use Rattle.access_groups.specs.declared.object_access.AccessGroup.{AccessGroup}
 use Rattle.access_groups.specs.Groups.{AreGroups}
+use Rattle.alarm_contexts.specs.declared.alarm_context.AlarmContexts.{AlarmContexts}
+use Rattle.alarm_contexts.specs.Contexts.{AreContexts}
 use Rattle.program_streams.specs.declared.statuses.Status.{Status}
-use Rattle.source_notes.specs.Notes.{rings_status, races_status}
+use Rattle.source_notes.specs.Notes.{rings_status, races_status, alarms_status}
 use Rattle.source_notes.specs.RingTexts.{rings_text}
 use Rattle.source_notes.specs.RaceTexts.{groups_text}
+use Rattle.source_notes.specs.AlarmTexts.{alarms_text}
+use Rattle.source_notes.specs.AlarmOperations.{operation_of}
 use Rattle.source_notes.specs.declared.names.Names.{Names}
 use Rattle.source_notes.specs.declared.names.ObjectName.{ObjectName}
 use Rattle.source_notes.specs.declared.answers.Note.{Note}
-use Rattle.source_notes.specs.declared.answers.Note.TheVariants.{Rings, Races}
+use Rattle.source_notes.specs.declared.answers.Note.TheVariants.{Rings, Races, Alarms}
 
 pub record TellsRingsOf (p : ProgramBodies) (bytes : List ℕ) (tasks mutexes : List Name) (pair : Pair)
     (status : Status) (text : List ℕ) : Type 0 where
@@ -31,6 +35,15 @@ pub record TellsRacesOf (p : ProgramBodies) (bytes : List ℕ) (objects : List O
   pub comes : status ≡ races_status groups
   pub is : text ≡ groups_text bytes objects tasks mutexes groups
 
+pub record TellsAlarmsOf (p : ProgramBodies) (bytes : List ℕ) (names : Names) (pair : Pair) (status : Status)
+    (text : List ℕ) : Type 0 where
+  pub alarms : List AlarmContexts
+  pub are : AreContexts p (tables_of pair.tables) alarms
+  pub comes : status ≡ alarms_status alarms
+  pub is : text ≡ alarms_text bytes names.objects.items names.tasks.items names.priorities.items names.mutexes.items
+      (operation_of p) alarms
+
 abbrev pub TellsOf : Note → ProgramBodies → List ℕ → Names → Pair → Status → List ℕ → Type 0
 TellsOf Rings p bytes names = TellsRingsOf p bytes names.tasks.items names.mutexes.items
 TellsOf Races p bytes names = TellsRacesOf p bytes names.objects.items names.tasks.items names.mutexes.items
+TellsOf Alarms p bytes names = TellsAlarmsOf p bytes names

@@ -14,4 +14,4 @@ returns-in_ok-found-in-Ok c =
     let named = c.in_ok-names-in-Ok.ensures in
     if_ok_by c.reply_of.result c.reply_of.ensures
     (λ reply t. told bytes _ a few _ c.in_ok-found-in-Ok.ensures (laid_tree c.in-Ok.program.laid) c.in-Ok.ensures.source
-    c.in_ok-names-in-Ok.names named.tasks named.mutexes named.objects c.args.note reply.status reply.text.items t)
+    c.in_ok-names-in-Ok.names named.tasks named.priorities named.mutexes named.objects c.args.note reply.status reply.text.items t)

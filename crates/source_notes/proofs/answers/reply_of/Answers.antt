@@ -13,3 +13,8 @@ pub returns-in-Races : goal.returns-in-Races
 returns-in-Races c =
     subst (λ n. IfOk c.races_reply.result (λ reply. TellsOf n (program_of c.args.analysis.now) c.args.bytes.now
     c.args.names.now c.args.found.now reply.status reply.text.items)) (sym c.in-Races.is) c.races_reply.ensures
+
+pub returns-in-Alarms : goal.returns-in-Alarms
+returns-in-Alarms c =
+    subst (λ n. IfOk c.alarms_reply.result (λ reply. TellsOf n (program_of c.args.analysis.now) c.args.bytes.now
+    c.args.names.now c.args.found.now reply.status reply.text.items)) (sym c.in-Alarms.is) c.alarms_reply.ensures

@@ -1,0 +1,214 @@
+# Writes the lines of a report in its files, and below each why its alarm stands there. It reads six parts: the places of
+# the notes, `LINE:COL`, in a line each; these places in their files, line by line; the notes on races and those on the
+# other alarms, as `alarm_notes` writes them; the report as it counts the lines of the text, and as its files do.
+
+BEGIN {
+    # Bounds of types (C99 5.2.4.2.1), and those that the types long and unsigned long have instead.
+    split("-2147483648 INT_MIN 2147483647 INT_MAX 4294967295 UINT_MAX -9223372036854775808 LLONG_MIN " \
+        "9223372036854775807 LLONG_MAX 18446744073709551615 ULLONG_MAX", bounds, " ")
+    for (at = 1; at in bounds; at += 2) bound["" bounds[at]] = bounds[at + 1]
+    longs["INT_MIN"] = "LONG_MIN"
+    longs["INT_MAX"] = "LONG_MAX"
+    longs["UINT_MAX"] = "ULONG_MAX"
+    MOST = 8
+}
+
+# The words from one field to another, with commas, or what stands for none.
+function listed(first, last, none,    text, at) {
+    for (at = first; at <= last; at++) text = text (at > first ? ", " : "") $at
+    return text == "" ? none : text
+}
+
+# A number, by the name of the bound that it is.
+function named(number, type) {
+    if (!(("" number) in bound)) return number
+    number = bound["" number]
+    return type ~ /^(unsigned )?long$/ && number in longs ? longs[number] : number
+}
+
+# A set of numbers.
+function range(low, high, step, type) {
+    return named(low, type) (high == low ? "" : " to " named(high, type) (step > 1 ? " in steps of " step : ""))
+}
+
+function note(place, text) {
+    print shown[place] ": note: " text
+}
+
+# The values of an operand, or what stands for those that are no numbers.
+function values(key, role) {
+    return (key, role) in numbers ? numbers[key, role] : "any value"
+}
+
+# ----- Alarms of values and locks -----
+
+# Reads the first line of an alarm: LINE:COL CLASS OPERATOR .. edges N [always] tasks NAME PRIORITY ..
+function read_head(    at, text) {
+    key = $1 " " $2
+    operator[key] = $3
+    at = 4
+    if ($2 == "LOCK") {
+        mutex[key] = $4
+        rule[key] = $5
+        at = 6
+    }
+    for (; $at != "edges"; at++) {
+        if ($at == "in") type[key] = listed_type(at + 1)
+        if ($at == "of") elements[key] = $(at + 1)
+        if ($at == "cells") cells[key] = $(at + 1)
+    }
+    at += 2
+    if ($at == "always") {
+        always[key] = 1
+        at++
+    }
+    for (at++; at < NF; at += 2) {
+        text = text (text == "" ? "in " : ", ") $at \
+            ($(at + 1) == "initial" ? " (before the tasks run)" : " (priority " $(at + 1) ")")
+    }
+    tasks[key] = text
+}
+
+# The words of a type.
+function listed_type(at,    text) {
+    for (; $at != "edges"; at++) text = text (text == "" ? "" : " ") $at
+    return text
+}
+
+# Reads the line of an operand: LINE:COL ROLE [LEAST GREATEST STRIDE] [null] [invalid]
+function read_operand(    at) {
+    role = $2
+    if ($3 ~ /^-?[0-9]+$/) numbers[key, role] = range($3, $4, $5, type[key])
+    for (at = 3; at <= NF; at++) if ($at == "null" || $at == "invalid") is[key, role, $at] = 1
+}
+
+# Reads the line of an object of its pointers: LINE:COL NAME of SIZE at LEAST GREATEST STRIDE
+function read_object() {
+    objects[key, role, ++count[key, role]] = $0
+}
+
+# Tells of an object to which a pointer may lead, in elements where it consists of whole ones and they are known.
+function tell_object(key, text,    words, size, unit, low, high, step, sentence) {
+    split(text, words, " ")
+    size = words[4]
+    low = words[6]
+    high = words[7]
+    step = words[8]
+    unit = 1
+    if (cells[key] > 1 && size % cells[key] + low % cells[key] + high % cells[key] + step % cells[key] == 0)
+        unit = cells[key]
+    sentence = "the pointer may lead to " words[2] ", which is declared here"
+    if (size > 1 || high > 0) {
+        sentence = sentence " and has " counted(size / unit, unit > 1 || cells[key] == 1 ? "element" : "cell") ": " \
+            (high == 0 ? "at" : range(low / unit, high / unit, step / unit) " behind") " its beginning"
+        if (high == size) sentence = sentence ", and so behind its last"
+    }
+    note(words[1], sentence)
+}
+
+function counted(number, unit) {
+    return number " " unit (number == 1 ? "" : "s")
+}
+
+# Tells of a pointer: what it may be, and where it may lead.
+function tell_pointer(key, role,    at) {
+    if (is[key, role, "null"] && operator[key] != "pointer") note(place, "the pointer may be null")
+    if (is[key, role, "invalid"]) note(place, "the pointer may not have been set")
+    for (at = 1; at <= count[key, role] && at <= MOST; at++) tell_object(key, objects[key, role, at])
+    if (at <= count[key, role])
+        note(place, "the pointer may lead to " counted(count[key, role] - MOST, "further object"))
+}
+
+# Tells of the array of a subscript.
+function tell_array(key,    at, words) {
+    for (at = 1; at <= count[key, "array"] && at <= MOST; at++) {
+        split(objects[key, "array", at], words, " ")
+        note(words[1], "the array stands in " words[2] ", which is declared here")
+    }
+}
+
+function tell_alarm(key, class,    computes) {
+    computes = operator[key] " computes in " type[key]
+    if (class == "DIV")
+        note(place, "the divisor is " values(key, "right") " here, and the dividend is " values(key, "left"))
+    if (class == "OVERFLOW" && (key, "operand") in numbers)
+        note(place, computes ", and its operand is " values(key, "operand") " here")
+    if (class == "OVERFLOW" && (key, "left") in numbers)
+        note(place, computes ", and its operands are " values(key, "left") " and " values(key, "right") " here")
+    if (class == "SHIFT")
+        note(place, computes ", and shifts " values(key, "left") " by " values(key, "right") " here")
+    if (class == "INDEX") {
+        note(place, "the subscript is " values(key, "subscript") " here, and the array has " \
+            counted(elements[key], "element"))
+        tell_array(key)
+    }
+    if (class == "POINTER" && operator[key] == "pointer") note(place, "a pointer is compared here")
+    if (class == "POINTER" && operator[key] != "pointer")
+        note(place, values(key, "offset") (operator[key] == "-" ? " is taken from" : " is added to") \
+            " the pointer here, in elements of " counted(cells[key], "cell"))
+    if (class == "POINTER" || class == "DEREF") tell_pointer(key, "pointer")
+    if (class == "LOCK" && rule[key] == "relock") note(place, mutex[key] " is held already where it is locked here")
+    if (class == "LOCK" && rule[key] == "unheld") note(place, mutex[key] " is not held where it is unlocked here")
+    note(place, tasks[key])
+    if (key in always)
+        note(place, "a run that comes here so always ends here: what stands behind is not analysed for such runs")
+}
+
+# ----- Races -----
+
+# Reads an access: LINE:COL TASK stores|loads holds MUTEX .. free MUTEX .. [races]
+function read_access(    free, last) {
+    free = 5
+    while ($free != "free") free++
+    last = NF - ($NF == "races" && NF > free)
+    accesses[group]++
+    if (last == NF) return
+    races[group, ++racing[group]] = $1 " " $2 " " $3 ", holds " listed(5, free - 1, "nothing") \
+        (last > free ? " and has found free " listed(free + 1, last) : "")
+    if (!(($1, group) in races_at)) {
+        races_at[$1, group] = 1
+        groups_at[$1] = groups_at[$1] " " group
+    }
+}
+
+# Tells of the objects that are raced for here: their accesses once, at the first warning.
+function tell_race(    at, numbers_of, group, it, text, words) {
+    split(groups_at[place], numbers_of, " ")
+    for (at = 1; at in numbers_of; at++) {
+        group = numbers_of[at]
+        if (told[group]++) {
+            note(of[group], name[group] " is declared here; its accesses stand above")
+            continue
+        }
+        note(of[group], name[group] " is declared here; " racing[group] " of its " accesses[group] " accesses race" \
+            (racing[group] > MOST ? ", of which these are the first" : ""))
+        for (it = 1; it <= racing[group] && it <= MOST; it++) {
+            text = races[group, it]
+            split(text, words, " ")
+            sub(/^[^ ]* /, "", text)
+            note(words[1], text)
+        }
+    }
+}
+
+# ----- The parts -----
+
+part == 1 { places[FNR] = $0; next }
+part == 2 { shown[places[FNR]] = $0; next }
+part == 3 && NF == 4 && $3 == "RACES" {
+    of[++group] = $1
+    name[group] = $2
+    next
+}
+part == 3 && $4 == "holds" { read_access(); next }
+part == 4 && $3 == "of" && $5 == "at" { read_object(); next }
+part == 4 && $2 ~ /^[A-Z]+$/ { read_head(); next }
+part == 4 && NF >= 2 && $1 in shown { read_operand(); next }
+part == 5 { alarms[FNR] = $1; classes[FNR] = $2; next }
+part == 6 {
+    print
+    place = alarms[FNR]
+    class = classes[FNR]
+    if (class == "RACE") tell_race()
+    else if ((place " " class) in operator) tell_alarm(place " " class, class)
+}
