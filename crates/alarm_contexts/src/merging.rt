@@ -1,6 +1,5 @@
 //! Contexts of one alarm as one.
-ghost use Rattle.std.specs.Prelude.{◌<◌, ◌≤◌, length, Contains, IfOk, OnOk, IsTrue, ◌↔◌, ◌≡◌};
-ghost use Rattle.post_recheck.specs.program_equations.Programs.{body_at};
+ghost use Rattle.std.specs.Prelude.{◌≡◌, ◌↔◌, length, Contains, IfOk, OnOk, IsTrue};
 ghost use Rattle.post_recheck.specs.program_equations.Solutions.{tables_of};
 ghost use Rattle.post_recheck.specs.program_systems.Analysable.{IsAnalysable};
 ghost use Rattle.post_recheck.specs.program_systems.ProgramFacts.{AreProgramFacts, program_with};
