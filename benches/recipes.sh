@@ -53,7 +53,7 @@ has() { # class|operator|command
     operator) grep -rlawE --exclude-dir=out 'Rem|Remainder|Percent' crates ;;
     command) grep -rlawE --exclude-dir=out 'Replay' crates/cmd_words crates/analyser crates/words_tests ;;
     view)
-        grep -rlawE --exclude-dir=out 'Summary|summary_text|summary' crates/report_views crates/report_view crates/view_tests
+        grep -rlawE --exclude-dir=out 'Summary|summary_text|summary' crates/report_views crates/report_view crates/words_tests
         ;;
     *) echo "there is no recipe for $1" >&2; exit 2 ;;
     esac

@@ -10,7 +10,7 @@ with the edit, and the tests of these crates have to be proved and to fail. --re
 
 It works on a copy of the repository, one for each edit, and leaves this one as it is. What is proved is kept by
 `tools/prove.py`, yet all crates from the edited one up to the tests are proved anew for each edit: minutes for
-`worker_tests`, up to an hour for `program_tests` where the edit stands in a low crate."""
+`engine_tests`, up to an hour for `program_tests` where the edit stands in a low crate."""
 import os
 import re
 import shutil

@@ -41,15 +41,14 @@ STATIONS = {
     " program_solutions",
     "Workers": "store_core thread_workers shared_programs shared_analyses worker_solutions history_lines",
     "Reports": "place_lists access_races request_circles program_reports value_ranges lock_waits access_groups"
-    " report_json solution_lines source_findings source_notes",
+    " alarm_contexts report_json solution_lines source_findings source_notes",
     "Soundness": "tm_soundness program_shape sound_foundations sound_runs sound_tables sound_addresses sound_core",
     "Certificates": "certificate_words certificate_parts certificate_texts certificate_reading certificate_check"
     " check_main",
     "Replays": "replay_lines replay_runs source_replays",
     "Commands": "big_source analyser analyse_main alarm_notes",
     "Views of reports": "place_details report_reading report_views report_logs report_view refusal_hints refusal_hint",
-    "Tests": "held_passes engine_tests worker_tests state_tests value_tests view_tests words_tests front_tests"
-    " typing_tests source_tests config_tests transfer_tests pass_tests program_tests",
+    "Tests": "held_passes engine_tests words_tests source_tests transfer_tests program_tests",
 }
 
 

@@ -1,5 +1,5 @@
 /* Sources that the grammar takes and a C compiler too: each line stands in the table PLAIN of
-   crates/front_tests/src/sources.rt, and vectors/sources.sh says whether that is so and asks gcc. */
+   crates/source_tests/src/grammar_sources.rt, and vectors/sources.sh says whether that is so and asks gcc. */
 int x; short y; long z; char c; signed char d; unsigned e;
 static const volatile unsigned long flags = 0x1FuL, mask = 017u, none = 0;
 extern signed short counters[4];

@@ -3,6 +3,7 @@
 use crate::graph_pictures::graph_told;
 use crate::graph_tables::{FORMS, SOURCES};
 use crate::sources::{RunningProgram, running};
+use crate::texts::assert_text;
 use flow_graph::Graph;
 use std::alloc::Global;
 use std::process::Abort;
@@ -18,9 +19,9 @@ fn is_so(
     nodes: u32,
     edges: &str,
 ) -> Result<(), Fail> {
-    assert_eq!(rt; graph.nodes, nodes);
+    assert!(rt; graph.nodes == nodes);
     let told = graph_told(alloc, laid, graph)?;
-    assert_eq!(rt; told.as_str(), edges);
+    assert_text(rt, &told, edges);
     Ok(())
 }
 
@@ -31,7 +32,7 @@ fn are_so(
     program: &RunningProgram,
     graphs: &[(u32, &str)],
 ) -> Result<(), Fail> {
-    assert_eq!(rt; program.graphs.graphs.len(), graphs.len());
+    assert!(rt; program.graphs.graphs.len() == graphs.len());
     for (graph, (nodes, edges)) in program.graphs.graphs.iter().zip(graphs.iter()) {
         is_so(rt, alloc, &program.layout.laid, graph, *nodes, *edges)?;
     }
@@ -48,7 +49,7 @@ fn source_has(
     match running(alloc, source.as_bytes()) {
         Ok(program) => are_so(rt, alloc, &program, graphs),
         Err(_) => {
-            assert_eq!(rt; source, "is refused");
+            assert_text(rt, source, "is refused");
             Ok(())
         }
     }

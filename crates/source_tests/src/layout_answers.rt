@@ -1,6 +1,7 @@
 //! What layout answers to a source, as one line.
 
 use crate::sources::laid_out;
+use crate::texts::assert_text;
 use std::alloc::Global;
 use std::process::Abort;
 use std::test::Fail;
@@ -32,6 +33,6 @@ fn answer_line(alloc: Global, source: &[u8]) -> Result<String, Fail> {
 /// The source has this answer.
 pub fn answers(rt: &impl Abort, alloc: Global, source: &[u8], line: &str) -> Result<(), Fail> {
     let given = answer_line(alloc, source)?;
-    assert_eq!(rt; given.as_str(), line);
+    assert_text(rt, &given, line);
     Ok(())
 }

@@ -5,6 +5,7 @@ ghost use Rattle.concrete_worlds.specs.Running.{IsWorld};
 
 use crate::run_pictures::cells_told;
 use crate::sources::{RunningProgram, running};
+use crate::texts::assert_text;
 use concrete_steps::{Choice, Stepped};
 use concrete_worlds::World;
 use flow_graph::Graph;
@@ -295,7 +296,7 @@ fn program_told(alloc: Global, source: &str) -> Result<String, Fail> {
 fn ends_so(rt: &impl Abort, alloc: Global, source: &str, values: &str) -> Result<(), Fail> {
     let given = program_told(alloc, source)?;
     let twice = format!(in alloc; "{values}| {values}")?;
-    assert_eq!(rt; given.as_str(), twice.as_str());
+    assert_text(rt, &given, &twice);
     Ok(())
 }
 

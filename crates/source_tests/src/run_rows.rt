@@ -4,6 +4,7 @@ ghost use Rattle.concrete_worlds.specs.Running.{IsWorld};
 
 use crate::run_pictures::world_told;
 use crate::sources::{RunningProgram, running};
+use crate::texts::assert_text;
 use concrete_steps::{Choice, Stepped};
 use concrete_worlds::World;
 use flow_graph::Graph;
@@ -246,7 +247,7 @@ fn runs_so(
 ) -> Result<(), Fail> {
     let given = source_told(alloc, source, choices)?;
     let twice = format!(in alloc; "{told}| {told}")?;
-    assert_eq!(rt; given.as_str(), twice.as_str());
+    assert_text(rt, &given, &twice);
     Ok(())
 }
 

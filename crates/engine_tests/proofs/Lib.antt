@@ -1,0 +1,4 @@
+pub mod CongruenceRows
+pub mod IntegerRows
+pub mod IntervalRows
+pub mod Writers

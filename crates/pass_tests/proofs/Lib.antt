@@ -1,2 +1,0 @@
-pub mod SameStores
-pub mod Without

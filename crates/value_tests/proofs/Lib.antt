@@ -1,3 +1,0 @@
-pub mod CongruenceRows
-pub mod IntegerRows
-pub mod IntervalRows
