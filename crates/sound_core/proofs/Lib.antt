@@ -2,7 +2,9 @@
 -- (Cells) keep for the tables; what cells hold at the start (Starting), and
 -- that abstract cells stand for cells (Hits); which operations there are (Regular). What is known of each world that a
 -- run reaches (Known): circles of tasks that wait (Circles) and rings (Rings), what cells hold (Contents), within
--- which bounds (Within), and where somebody acts (Reached).
+-- which bounds (Within), and where somebody acts (Reached); the edge for what a task does next (NextEdges), what is
+-- accessed then (ListedAccesses), and where groups tell it (GroupedAccesses); where it stops (ListedStops), and what
+-- contexts tell of that (ToldStops).
 pub mod FileBodies
 pub mod Alarmed
 pub mod Graphs
@@ -17,3 +19,8 @@ pub mod Contents
 pub mod Within
 pub mod Reached
 pub mod Listed
+pub mod NextEdges
+pub mod ListedAccesses
+pub mod GroupedAccesses
+pub mod ListedStops
+pub mod ToldStops

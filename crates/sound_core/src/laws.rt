@@ -22,10 +22,16 @@ ghost use Rattle.lock_waits.specs.Waits.{AreWaits};
 ghost use Rattle.value_ranges.specs.declared.object_bounds.ObjectBounds.{ObjectBounds};
 ghost use Rattle.value_ranges.specs.Ranges.{IsIntegerCell, IsListed, AreRanges};
 ghost use Rattle.value_ranges.specs.Places.{IsReachedPlace, AreDead};
+ghost use Rattle.access_groups.specs.declared.object_access.AccessGroup.{AccessGroup};
+ghost use Rattle.access_groups.specs.Groups.{AreGroups};
+ghost use Rattle.alarm_contexts.specs.declared.alarm_context.AlarmContexts.{AlarmContexts};
+ghost use Rattle.alarm_contexts.specs.Contexts.{AreContexts};
 ghost use Rattle.sound_core.specs.Ranges.{HoldsNumber, IsWithin};
 ghost use Rattle.sound_core.specs.Places.{ActsAt, MayAct};
 ghost use Rattle.sound_core.specs.Known.{WaitsFor, HasCircular, HoldsAllTold};
 ghost use Rattle.sound_core.specs.Rings.{IsRing, IsLockOfRing};
+ghost use Rattle.sound_core.specs.Accesses.{ListsAccesses};
+ghost use Rattle.sound_core.specs.Stops.{ListsStops};
 
 /// The cells of a program's layout are laid out as its tables ask; and each of its graphs keeps what they
 /// ask. At the start cells of static storage hold their initial values, which lie within their objects, and local cells
@@ -124,4 +130,25 @@ pub fn places_are_reached()
         → IsPair p tables store → (w : World) → IsReached laid w → (places : List Place)
         → AreDead p (tables_of tables) places → (place : Place) → Contains places place → (body : ℕ)
         → MayAct laid w body → ActsAt (next_at laid w body) place → ⊥ }
+{}
+
+/// Each access that a task is about to make, in a world that a run reaches, to an object that has a group stands in that
+/// group, whichever solution the groups are of: at its place, as one of the task and of its kind, under exactly the
+/// mutexes that the task holds; and the task has found those free that are told so. Where two race, their object has a
+/// group, and both stand in it, as ones that race.
+pub fn accesses_are_listed()
+    ensures { (laid : LaidTree) (p : ProgramBodies) → IsProgramFrom laid p → (is : IsProgram p)
+        → length laid.objects ≤ 2 ^ 32 → (tables : List (List (Option State))) (store : Interferences)
+        → IsPair p tables store → (groups : List AccessGroup) → AreGroups p (tables_of tables) groups
+        → ListsAccesses laid groups }
+{}
+
+/// Where a step stops with an error in a world that a run reaches, the contexts of a solution's alarms tell it: one is of
+/// this class at this place, the body whose step it is stands before one of its edges, and the values with which it does
+/// lie in its operands.
+pub fn stops_are_listed()
+    ensures { (laid : LaidTree) (p : ProgramBodies) → IsProgramFrom laid p → (is : IsProgram p)
+        → length laid.objects ≤ 2 ^ 32 → (tables : List (List (Option State))) (store : Interferences)
+        → IsPair p tables store → (alarms : List AlarmContexts) → AreContexts p (tables_of tables) alarms
+        → ListsStops laid p alarms }
 {}

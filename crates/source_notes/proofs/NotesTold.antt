@@ -17,7 +17,9 @@ use Rattle.source_programs.specs.LaidSources.{longest_source, IsLaidSource}
 use Rattle.source_programs.specs.Sources.{IsAccepted, IsRefused}
 use Rattle.source_programs.specs.Sources.IsRefused.{too_long, not_lexed, not_parsed, not_typed, not_laid, not_prepared}
 use Rattle.source_programs.proofs.Accepted.{accepted_is_program}
+use Rattle.sound_core.proofs.GroupedAccesses.{accesses_listed}
 use Rattle.sound_core.proofs.Rings.{ring_listed}
+use Rattle.sound_core.proofs.ToldStops.{stops_listed}
 use Rattle.program_streams.specs.declared.statuses.Status.{Status}
 use Rattle.program_streams.specs.declared.statuses.Status.TheVariants.{NoAlarm, Alarms, Refused, Usage, ReadFault}
 use Rattle.program_streams.specs.declared.statuses.Status.TheVariants.{WriteFault, NoMemory}
@@ -74,6 +76,8 @@ module _ (bytes : List ℕ) (p : ProgramBodies) (a : IsAccepted [] bytes p) (few
       finds = record {
         solves = solves;
         are = t.are;
+        listed = accesses_listed a.laid p (comes_from [] bytes p a) is few pair.tables pair.store least.solution t.groups
+            t.are;
         alarmed = λ report r place. grouped_alarms p (tables_of pair.tables) t.groups t.are place report r;
       };
       comes = t.comes;
@@ -92,6 +96,7 @@ module _ (bytes : List ℕ) (p : ProgramBodies) (a : IsAccepted [] bytes p) (few
       finds = record {
         solves = solves;
         are = t.are;
+        listed = stops_listed a.laid p (comes_from [] bytes p a) is few pair.tables pair.store least.solution t.alarms t.are;
         alarmed = λ report r place class other.
             report_alarms p (tables_of pair.tables) report t.alarms r t.are place class other;
       };

@@ -22,6 +22,8 @@ use Rattle.source_programs.specs.Sources.{IsRefused}
 use Rattle.program_streams.specs.declared.statuses.Status.{Status}
 use Rattle.program_streams.specs.declared.statuses.Status.TheVariants.{NoAlarm, Alarms, Refused, Usage, ReadFault}
 use Rattle.program_streams.specs.declared.statuses.Status.TheVariants.{WriteFault, NoMemory}
+use Rattle.sound_core.specs.Accesses.{ListsAccesses}
+use Rattle.sound_core.specs.Stops.{ListsStops}
 use Rattle.source_findings.specs.Findings.{Solves, ListsRings}
 use Rattle.source_notes.specs.Names.{task_names, task_priorities, mutex_names, object_names}
 use Rattle.source_notes.specs.RingTexts.{rings_text}
@@ -55,11 +57,14 @@ pub record TellsRings (bytes : List ℕ) (status : Status) (text : List ℕ) : T
 
 -- ## Races
 
--- The objects with races in the tables of the least solution, each with all accesses to it, racing or not; and the report
--- of these tables, which lists each error that occurs in a run, has a race at exactly the places of those that race.
+-- The objects with races in the tables of the least solution, each with all accesses to it, racing or not. Each access
+-- that a task is about to make to such an object, in a world that a run reaches, is among them, under exactly the mutexes
+-- that the task holds, and both sides of each race are, as ones that race; and the report of these tables, which lists
+-- each error that occurs in a run, has a race at exactly the places of those that race.
 pub record FindsRaces (bytes : List ℕ) (groups : List AccessGroup) : Type 0 where
   pub solves : Solves bytes
   pub are : (let s = solves in let pair = s.pair in AreGroups s.program (tables_of pair.tables) groups)
+  pub listed : (let s = solves in let a = s.accepted in ListsAccesses a.laid groups)
   pub alarmed : (let s = solves in let pair = s.pair in (report : List Alarm)
       → IsReport s.program (tables_of pair.tables) report → (place : Place)
       → Contains report (record { place = place; class = Race }) ↔ HasRacingAt groups place)
@@ -78,11 +83,13 @@ pub record TellsRaces (bytes : List ℕ) (status : Status) (text : List ℕ) : T
 
 -- ## Alarms of other classes
 
--- The alarms in the tables of the least solution, each with its edges and operands, that are not races: the report of
--- these tables, which lists each error that occurs in a run, has of the other classes exactly these.
+-- The alarms in the tables of the least solution, each with its edges and operands, that are not races. Wherever a run
+-- stops with an error, one of them tells it: the body that stops stands before one of its edges, with values that lie in
+-- its operands. And the report of these tables has of the other classes exactly these.
 pub record FindsAlarms (bytes : List ℕ) (alarms : List AlarmContexts) : Type 0 where
   pub solves : Solves bytes
   pub are : (let s = solves in let pair = s.pair in AreContexts s.program (tables_of pair.tables) alarms)
+  pub listed : (let s = solves in let a = s.accepted in ListsStops a.laid s.program alarms)
   pub alarmed : (let s = solves in let pair = s.pair in (report : List Alarm)
       → IsReport s.program (tables_of pair.tables) report → (place : Place) (class : Class) → (class ≡ Race → ⊥)
       → Contains report (record { place = place; class = class }) ↔ HasAlarm alarms place class)

@@ -28,9 +28,11 @@ pub fn tell_notes<S: Source, K: Sink>(
     // Status 0 or 1 of rings: for each place of a circular wait of the least solution a shortest ring that begins there;
     // and in each world that a run reaches and that has not stopped, each task of each ring of blocked tasks is about to
     // lock at one of these places. Status 0 or 1 of races: the objects with races in the least solution, each with all
-    // accesses to it; those that race stand exactly where the report has a race. Status 0 or 1 of alarms: those that the
+    // accesses to it, under the mutexes that are held there in a run; those that race stand exactly where the report has a
+    // race, and both sides of each race that a run comes to are among them. Status 0 or 1 of alarms: those that the
     // report has besides, each with the operation, and the least sets that have all values of its operands in the states
-    // of the least solution in which its class is not excluded. Status 2: the refusal.
+    // of the least solution in which its class is not excluded; wherever a run stops with an error, one of them tells it,
+    // with the values there in these sets. Status 2: the refusal.
     ensures whole { IsWhole result →
         Answers (HasNotes note) (S.left source.old) (K.taken out.old) (K.taken out.new) result }
 
