@@ -1,0 +1,5 @@
+-- The crates below, passed on to those above.
+pub use Rattle.sparse_rows.specs as sparse_rows
+pub use Rattle.sparse_rows.specs.sparse_tables
+pub use Rattle.task_equations.specs as task_equations
+pub mod laws

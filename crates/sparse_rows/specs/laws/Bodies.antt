@@ -1,0 +1,124 @@
+-- The law for the equations of a body: a sparse table whose edges were checked is the least solution.
+use Rattle.std.specs.Prelude.{◌≡◌, ℕ, ℤ, ◌<◌, Bool, true, false, cond, List, Option, Some, None, IfSome, refl}
+use Rattle.std.proofs.Common.{sym, subst}
+use Rattle.std.specs.FinMap.{get}
+use Rattle.sparse_tables.specs.table_covers.tm_lattice.LatticeLaws.{IsOrder, IsJoin}
+use Rattle.sparse_tables.specs.table_covers.tm_lattice.Tables.{IsBelow}
+use Rattle.sparse_tables.specs.table_covers.Systems.{System, IsLawfulSystem, from_of}
+use Rattle.sparse_tables.specs.table_covers.Solutions.{NodeTable, edge_count, IsLeastSolution}
+use Rattle.transfer_rows.specs.cell_env.States.{rounded_state_at}
+use Rattle.transfer_rows.specs.interfere_set.pointer_dom.Values.{rounded_values}
+use Rattle.transfer_rows.specs.interfere_set.Stores.{Interferences}
+use Rattle.transfer_rows.specs.StateForms.{State, IsStateForm, IsStateUnder}
+use Rattle.transfer_rows.specs.Actions.{Around, Action}
+use Rattle.transfer_rows.specs.Rows.{after}
+use Rattle.sparse_tables.specs.Sparse.{Placing, IsPlaced, IsFramed, IsFramedIn, IsSparseLeast, KeepsCell}
+use Rattle.sparse_tables.specs.laws.Bounded as bounded
+use Rattle.sparse_tables.specs.laws.Bounded.{IsKept, IsKeptUnder}
+use Rattle.sparse_rows.specs.Checks.{AreChecked}
+use Rattle.sparse_rows.specs.StateParts.{states, state_parts}
+use Rattle.sparse_rows.specs.Touched.{IfSame}
+use Rattle.sparse_rows.specs.Traces.{IsTraced}
+use Rattle.sparse_rows.specs.laws.Parts.{are_parts}
+use Rattle.sparse_rows.specs.laws.Frames.{rows_frame}
+use Rattle.sparse_rows.specs.laws.Traced.{after_traced, joined_traced, rounded_traced}
+use Rattle.sparse_rows.specs.laws.Checked.{checked_leaves, checked_makes}
+
+-- the state rounded at these cells, if the node is a head
+abbrev pub rounded_to : List ℤ → Option (List ℕ) → State → State
+rounded_to marks None s = s
+rounded_to marks (Some keys) s = rounded_state_at (rounded_values marks) keys s
+
+-- The equations are those of rows over a store: an edge that leads somewhere brings what its row says.
+pub record AreRows (suits : ℕ → State → Type 0) (sys : System State) (around : ℕ → Around) (action : ℕ → Action)
+    (leads : ℕ → Bool) (store : Interferences) (marks : List ℤ) (keys : ℕ → Option (List ℕ)) : Type 0 where
+  pub after_is : (e : ℕ) (s : State) → e < edge_count states suits sys
+      → sys.after e s ≡ cond (leads e) (after (around e) (action e) s store) None
+  pub outward_is : (n : ℕ) (s : State) → sys.outward n s ≡ rounded_to marks (keys n) s
+  pub form : (n : ℕ) (s : State) → suits n s → IsStateForm s
+
+module _ (suits : ℕ → State → Type 0) (sys : System State) (around : ℕ → Around) (action : ℕ → Action)
+    (leads : ℕ → Bool) (store : Interferences) (marks : List ℤ) (keys : ℕ → Option (List ℕ))
+    (rows : AreRows suits sys around action leads store marks keys) (place : Placing) (copies : ℕ → ℕ → Bool)
+    (fresh : ℕ → Bool) (order : IsOrder states.is_value states.leq)
+    (join : IsJoin states.is_value states.leq states.joined)
+    (law : IsLawfulSystem states.is_value states.leq states.joined suits sys)
+    (placed : IsPlaced states suits sys state_parts place) where
+  abbrev from : ℕ → ℕ
+  from e = from_of sys.links e
+
+  abbrev Traced : State → Type 0
+  Traced s = IsTraced copies fresh s
+
+  same_temps : (marks : List ℤ) (cells : Option (List ℕ)) (s : State)
+      → (let t = rounded_to marks cells s in t.temps ≡ s.temps)
+  same_temps marks None s = refl
+  same_temps marks (Some cells) s = refl
+
+  rounded_is : (cells : Option (List ℕ)) (s : State) → Traced s → Traced (rounded_to marks cells s)
+  rounded_is None s h = h
+  rounded_is (Some cells) s h = rounded_traced copies fresh marks cells s h
+
+  led_keeps : (b : Bool) (x : ℕ) (s : State) (y : Option State) → IfSame (get s.cells x) x y
+      → KeepsCell states suits sys state_parts place x s (cond b y None)
+  led_keeps false x s y h = tt
+  led_keeps true x s None h = tt
+  led_keeps true x s (Some t) h = h
+
+  led_traced : (b : Bool) (y : Option State) → IfSome y Traced → IfSome (cond b y None) Traced
+  led_traced true y h = h
+  led_traced false y h = tt
+
+  module _ (table : NodeTable State) (checked : AreChecked suits sys around action store place copies fresh table) where
+    -- a traced state below the table's is framed
+    framed_at : (e : ℕ) → e < edge_count states suits sys → (s : State) → Traced s → suits (from e) s
+        → (y : Option State) → table (from e) ≡ y → IfSome y (suits (from e)) → IsBelow IsStateUnder (Some s) y
+        → IsFramed states suits sys state_parts place e s
+    framed_at e lt s traced s-fits None is d-fits le = absurd le
+    framed_at e lt s traced s-fits (Some d) is d-fits le = λ x other.
+        subst (KeepsCell states suits sys state_parts place x s) (sym (rows.after_is e s lt))
+        (led_keeps (leads e) x s (after (around e) (action e) s store)
+        (rows_frame x (around e) (action e) s store
+        (checked_leaves (around e) (place.touches e) (place.looks e) copies fresh s d traced (rows.form (from e) s s-fits)
+        (rows.form (from e) d d-fits) le (action e) store (checked e lt d is) x other)))
+
+    makes_at : (e : ℕ) → e < edge_count states suits sys → (s : State) → Traced s → suits (from e) s
+        → (y : Option State) → table (from e) ≡ y → IfSome y (suits (from e)) → IsBelow IsStateUnder (Some s) y
+        → IfSome (sys.after e s) Traced
+    makes_at e lt s traced s-fits None is d-fits le = absurd le
+    makes_at e lt s traced s-fits (Some d) is d-fits le =
+        subst (λ a. IfSome a Traced) (sym (rows.after_is e s lt))
+        (led_traced (leads e) (after (around e) (action e) s store)
+        (after_traced copies fresh (around e) (action e) s store traced
+        (checked_makes (around e) (place.touches e) (place.looks e) copies fresh s d traced (rows.form (from e) s s-fits)
+        (rows.form (from e) d d-fits) le (action e) store (checked e lt d is))))
+
+    -- where the table's own states are traced, its edges are framed in them
+    pub own_framed : ((n : ℕ) → n < sys.node_count → IfSome (table n) Traced)
+        → ((n : ℕ) → n < sys.node_count → IfSome (table n) (suits n))
+        → IsFramedIn states suits sys state_parts place table
+    own_framed traced fits e lt s at =
+        let n-lt = law.from_node e lt in
+        let s-fits : suits (from e) s = subst (λ a. IfSome a (suits (from e))) at (fits (from e) n-lt) in
+        framed_at e lt s (subst (λ a. IfSome a Traced) at (traced (from e) n-lt)) s-fits (table (from e)) refl
+        (fits (from e) n-lt)
+        (subst (λ a. IsBelow IsStateUnder (Some s) a) (sym at) (order.reflexive s (law.value (from e) s s-fits)))
+
+    -- A table that is the least sparse one, and of which each edge was checked, is the least solution.
+    pub checked_is_least : IfSome sys.entry Traced
+        → IsSparseLeast states suits sys state_parts place table → IsLeastSolution states suits sys table
+    checked_is_least entry sparse =
+        let made = are_parts suits sys place rows.form
+        (λ n s fits. subst (λ (t : State). t.temps ≡ s.temps) (sym (rows.outward_is n s))
+        (same_temps marks (keys n) s)) in
+        bounded.sparse_is_least_kept states suits sys state_parts place (λ n s. Traced s) table order join law made
+        placed sparse
+        record {
+          entry = entry;
+          after = λ e s lt fits traced le. makes_at e lt s traced fits (table (from e)) refl
+              (sparse.closed.fits (from e) (law.from_node e lt)) le;
+          joined = λ n s t s-fits t-fits h k. joined_traced copies fresh s t h k;
+          outward = λ n s fits h. subst Traced (sym (rows.outward_is n s)) (rounded_is (keys n) s h);
+        }
+        (λ e lt s h. framed_at e lt s h.is h.fits (table (from e)) refl
+        (sparse.closed.fits (from e) (law.from_node e lt)) h.under)

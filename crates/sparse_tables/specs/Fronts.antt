@@ -1,0 +1,91 @@
+-- Fronts and slots: what stands at the nodes beside cells, and each cell at the nodes that own it; when they solve the
+-- equations, and the least of these.
+use Rattle.std.specs.Prelude.{◌≡◌, ℕ, ◌<◌, ◌≤◌, Bool, true, false, Option, Some, None, IfSome}
+use Rattle.table_covers.specs.tm_lattice.declared.lattices.Lattice as lattice
+use Rattle.table_covers.specs.tm_lattice.Tables.{IsBelow}
+use Rattle.table_covers.specs.Systems.{System, from_of, to_of}
+use Rattle.table_covers.specs.Solutions.{NodeTable, edge_count}
+use Rattle.sparse_tables.specs.Sparse.{Parts, Placing}
+
+-- the front of each node that is reached, which edges have led on, and what stands in the slot of a node and a cell
+pub record Fronts (F D : Type 0) : Type 0 where
+  pub front_of : ℕ → Option F
+  pub is_open : ℕ → Bool
+  pub slot_of : ℕ → ℕ → Option D
+
+-- something stands there
+abbrev pub IsThere : {A : Type 0} → Option A → Type 0
+IsThere None = ⊥
+IsThere (Some a) = Unit {0}
+
+module _ {V F D M : Type 0} (states : lattice.Ghosts V M) (suits : ℕ → V → Type 0) (sys : System V)
+    (parts : Parts V F (Option D)) (place : Placing) (cell_count : ℕ) where
+  abbrev from : ℕ → ℕ
+  from e = from_of sys.links e
+
+  abbrev to : ℕ → ℕ
+  to e = to_of sys.links e
+
+  abbrev edges : ℕ
+  edges = edge_count states suits sys
+
+  -- the state has the front of the node, and each cell as it stands where it is kept
+  pub record IsStateAt (a : Fronts F D) (n : ℕ) (s : V) : Type 0 where
+    pub fits : suits n s
+    pub front : a.front_of n ≡ Some (parts.front s)
+    pub cells : (x : ℕ) → parts.cell s x ≡ a.slot_of (place.kept_at n x) x
+
+  -- front and touched cells of what an edge brings are at most what stands where it leads, and the edge is open
+  pub record IsArrived (a : Fronts F D) (e : ℕ) (t : V) : Type 0 where
+    pub front : IsBelow parts.front_leq (Some (parts.front t)) (a.front_of (to e))
+    pub opened : a.is_open e ≡ true
+    pub touched : (x : ℕ) → place.touches e x ≡ true → parts.cell_leq (parts.cell t x) (a.slot_of (to e) x)
+
+  -- what stands at the entry besides is at most what stands there
+  pub record IsEntered (a : Fronts F D) (s : V) : Type 0 where
+    pub front : IsBelow parts.front_leq (Some (parts.front s)) (a.front_of 0)
+    pub cells : (x : ℕ) → parts.cell_leq (parts.cell s x) (a.slot_of 0 x)
+
+  -- Fronts and slots at which the entry and each row has arrived, and each cell flows along each open edge that does
+  -- not touch it to where the end of the edge owns it.
+  pub record AreMet (a : Fronts F D) : Type 0 where
+    pub entry : IfSome sys.entry (IsEntered a)
+    pub rows : (e : ℕ) → e < edges → (s : V) → IsStateAt a (from e) s → IfSome (sys.after e s) (IsArrived a e)
+    pub flows : (e x : ℕ) → e < edges → a.is_open e ≡ true → place.owns (to e) x ≡ true → place.touches e x ≡ false
+        → parts.cell_leq (a.slot_of (place.kept_at (from e) x) x) (a.slot_of (to e) x)
+    pub round : (n x : ℕ) (s : V) → n < sys.node_count → place.owns n x ≡ true → IsStateAt a n s
+        → parts.cell (sys.outward n s) x ≡ parts.cell s x
+
+  -- the ones lie below the others
+  pub record AreBelow (a b : Fronts F D) : Type 0 where
+    pub front : (n : ℕ) → n < sys.node_count → IsBelow parts.front_leq (a.front_of n) (b.front_of n)
+    pub opened : (e : ℕ) → e < edges → a.is_open e ≡ true → b.is_open e ≡ true
+    pub slot : (n x : ℕ) → n < sys.node_count → place.owns n x ≡ true → parts.cell_leq (a.slot_of n x) (b.slot_of n x)
+
+  -- met, and below all that are
+  pub record AreLeast (a : Fronts F D) : Type 0 where
+    pub met : AreMet a
+    pub below : (b : Fronts F D) → AreMet b → AreBelow a b
+
+  -- What of states is needed besides: each has a value at each cell of this number and at no other, what is above
+  -- something is something, and the rounding of a cell depends on that cell alone. Cells beyond the number are owned
+  -- everywhere.
+  pub record AreFilled : Type 0 where
+    pub there : (n x : ℕ) (s : V) → suits n s → x < cell_count → IsThere (parts.cell s x)
+    pub above : (c d : Option D) → parts.cell_leq c d → IsThere c → IsThere d
+    pub rounds : (n x : ℕ) (s t : V) → suits n s → suits n t → parts.cell s x ≡ parts.cell t x
+        → parts.cell (sys.outward n s) x ≡ parts.cell (sys.outward n t) x
+    pub beyond : (n x : ℕ) → cell_count ≤ x → place.owns n x ≡ true
+
+  -- where a node has a front, each cell has something where it is kept, and so has the node where it is
+  abbrev pub IsFullAt : Fronts F D → ℕ → Type 0
+  IsFullAt a n = (x : ℕ) → x < cell_count
+      → IsThere (a.slot_of (place.kept_at n x) x) × IsThere (a.front_of (place.kept_at n x))
+
+  -- the table has at each node with a front the state of the node, and no other state
+  abbrev pub IsStandingAt : Fronts F D → ℕ → Option V → Type 0
+  IsStandingAt a n None = a.front_of n ≡ None
+  IsStandingAt a n (Some s) = IsStateAt a n s
+
+  abbrev pub IsExpanded : Fronts F D → NodeTable V → Type 0
+  IsExpanded a table = (n : ℕ) → n < sys.node_count → IsStandingAt a n (table n)

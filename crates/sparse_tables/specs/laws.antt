@@ -1,0 +1,10 @@
+pub mod Bounded
+pub mod Closed
+pub mod Computed
+pub mod Expanded
+pub mod Flowing
+pub mod Least
+pub mod LeastFronts
+pub mod Reached
+pub mod Steps
+pub mod TreePlaces
