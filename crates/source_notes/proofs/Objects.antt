@@ -1,7 +1,7 @@
 -- Where there are no pointers there are no lines of objects.
 use Rattle.std.proofs.Common.{◌≡◌, refl, sym, ap, ◌∙◌, ℕ, List, [], ◌∷◌, length, arith}
 use Rattle.std.specs.Ordering.{nat_cmp}
-use Rattle.std.specs.FinMap.{entries, empty, len-entries, len-empty}
+use Rattle.std.specs.FinMap.{entries, len-entries, len-empty}
 use Rattle.std.specs.List.{flat_map}
 use Rattle.pointer_dom.specs.OffsetSets.{OffsetSet}
 use Rattle.pointer_dom.specs.PointerSets.{no_pointer}

@@ -1,17 +1,15 @@
 -- The operation of an edge of a body stands in the graph of the body.
-use Rattle.std.proofs.Common.{◌≡◌, ◌<◌, ◌≤◌, ℕ, refl, ap, sym, ◌∙◌, List, [], ◌∷◌, length, get_or, arith}
+use Rattle.std.proofs.Common.{◌≡◌, ℕ, refl, ap, sym, ◌∙◌, List, [], ◌∷◌, length, get_or, arith}
 use Rattle.std.specs.Prelude.{suc, zero, slice_get, Option, Some, None}
 use Rattle.flow_graph.specs.declared.graphs.Graph.{Graph}
 use Rattle.flow_graph.specs.declared.graphs.Edge.{Edge}
-use Rattle.flow_graph.specs.declared.operations.Operation.{Operation}
 use Rattle.flow_graph.specs.declared.operations.Operation.TheVariants as Op
 use Rattle.mutex_configs.specs.declared.nodes.ConfiguredGraph.{ConfiguredGraph}
 use Rattle.mutex_configs.specs.declared.programs.Program.{Program}
-use Rattle.post_recheck.specs.program_equations.Programs.{ProgramBodies, body_at}
 use Rattle.post_recheck.specs.task_equations.Bodies.{no_edge, Body}
 use Rattle.post_recheck.specs.body_systems.Facts.{Facts}
 use Rattle.post_recheck.specs.program_systems.Analysable.{IsAnalysable}
-use Rattle.post_recheck.specs.program_systems.ReadPrograms.{ReadBody, ReadProgram, bodies_from}
+use Rattle.post_recheck.specs.program_systems.ReadPrograms.{ReadProgram, bodies_from}
 use Rattle.post_recheck.specs.program_systems.ProgramFacts.{AllFacts, AreProgramFacts, program_with, read_bodies, read_with}
 use Rattle.alarm_contexts.specs.declared.alarm_context.ContextEdge.{ContextEdge}
 use Rattle.source_notes.specs.AlarmOperations.{operation_along}

@@ -1,5 +1,5 @@
 -- The operations of alarms.
-use Rattle.std.specs.Prelude.{ℕ, get_or, slice_get, Option, Some, None}
+use Rattle.std.specs.Prelude.{get_or, slice_get, Option, Some, None}
 use Rattle.flow_graph.specs.declared.operations.Operation.{Operation}
 use Rattle.flow_graph.specs.declared.operations.Operation.TheVariants as Op
 use Rattle.post_recheck.specs.program_equations.Programs.{ProgramBodies, body_at}

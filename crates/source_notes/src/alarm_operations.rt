@@ -1,10 +1,9 @@
 //! The operations of alarms.
-ghost use Rattle.std.specs.Prelude.{◌≡◌, ◌++◌, IfOk, OnOk, slice_get};
-ghost use Rattle.std.specs.Option.{option_copied};
+ghost use Rattle.std.specs.Prelude.{◌≡◌, IfOk, Some, slice_get};
 ghost use Rattle.post_recheck.specs.program_systems.Analysable.{IsAnalysable};
 ghost use Rattle.post_recheck.specs.program_systems.ProgramFacts.{AreProgramFacts, program_with};
 ghost use Rattle.source_notes.specs.AlarmOperations.{operation_of};
-ghost use Rattle.source_notes.specs.AlarmTexts.{alarm_text, alarms_text};
+ghost use Rattle.source_notes.specs.AlarmTexts.{alarms_text};
 ghost use Rattle.source_notes.specs.reading.Operations.{in_graph, in_graphs};
 
 use crate::alarm_lines::{count_line, push_alarm};
