@@ -2,5 +2,4 @@ pub mod Marking
 pub mod Options
 pub mod Raised
 pub mod Rises
-pub mod Starts
 pub mod Steps
