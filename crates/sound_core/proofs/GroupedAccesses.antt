@@ -1,6 +1,6 @@
 -- What a task is about to access in a world that a run reaches stands in the group of the object, if there is one; and
 -- where two race, there is one, and both stand in it as accesses that race.
-use Rattle.std.proofs.Common.{◌≡◌, refl, sym, ap, subst, ◌∙◌, ℕ, ◌<◌, ◌≤◌, ◌^◌, Bool, true, false, List, [], length}
+use Rattle.std.proofs.Common.{◌≡◌, refl, sym, ap, subst, ◌∙◌, ℕ, ◌<◌, ◌≤◌, ◌^◌, Bool, true, false, List, [], ◌∷◌, length}
 use Rattle.std.proofs.Common.{◌⊎◌, inl, inr, ⊎_elim, Option, Some, arith, nat_lt}
 use Rattle.std.specs.Prelude.{Contains, cond}
 use Rattle.std.proofs.lemmas.Bool.{false≢true, lt-ltb}
@@ -67,7 +67,7 @@ list_head m n ms ns e = cc
 list_tail : (m n : ℕ) (ms ns : List ℕ) → m ∷ ms ≡ n ∷ ns → ms ≡ ns
 list_tail m n ms ns e = cc
 
-bit_same : (a b : Bool) → cond a 1 0 ≡ cond b 1 0 → a ≡ b
+bit_same : (a b : Bool) → (let m : ℕ = cond a 1 0 in let n : ℕ = cond b 1 0 in m ≡ n) → a ≡ b
 bit_same true true e = refl
 bit_same false false e = refl
 bit_same true false e = absurd (omega (arith, e))
@@ -314,7 +314,7 @@ module _ (laid : LaidTree) (p : ProgramBodies) (from : IsProgramFrom laid p) (is
                   ((told.free m).0 free h.copy (cell_for o c) (alike_there found.0 a));
             }
 
-        pub grouped : IsGrouped laid w groups o task stores place
+        grouped : IsGrouped laid w groups o task stores place
         grouped = record {
           group = g;
           has_group = member;
@@ -324,7 +324,7 @@ module _ (laid : LaidTree) (p : ProgramBodies) (from : IsProgramFrom laid p) (is
           next = is_next;
         }
 
-        pub told_racing : (other_task other_copy : ℕ) (r : AreRacing p lists task h.copy other_task other_copy)
+        told_racing : (other_task other_copy : ℕ) (r : AreRacing p lists task h.copy other_task other_copy)
             → r.cell ≡ cell_for o c → (let f = found.0 in f.racing ≡ true)
         told_racing other_task other_copy r at =
             told.racing.1 (alike_races other_task other_copy r at found.0 found_alike)
@@ -341,6 +341,7 @@ module _ (laid : LaidTree) (p : ProgramBodies) (from : IsProgramFrom laid p) (is
 
     side : (i j : ℕ) → i < length laid.file.tasks → (place : Place) (r : IsRace laid w i j place)
         → IsListedRace laid p lists w i j place r → IsSide r.object i r.stores place
+    unfolding grouped found
     side i j lt place r l =
         let of : object_in p (cell_for r.object r.offset) ≡ r.object =
         object_is i lt r.object r.offset r.stores place r.access in
@@ -374,6 +375,7 @@ module _ (laid : LaidTree) (p : ProgramBodies) (from : IsProgramFrom laid p) (is
 
     pub races_grouped : (i j : ℕ) → MayAct laid w i → (place : Place) (r : IsRace laid w i j place)
         → IsGroupedRace laid w groups i j place r
+    unfolding turned
     races_grouped i j may place r =
         let t = task_of i r.tasks.0 in
         let u = task_of j r.tasks.1 in

@@ -41,8 +41,7 @@ use Rattle.sound_tables.specs.Memberships.{there, tables_with, tables_of, scalar
 use Rattle.sound_tables.specs.interfere_set.Stores.{Interferences}
 use Rattle.sound_tables.specs.transfer_rows.Contributions.{entry_at}
 use Rattle.sound_tables.specs.program_reports.pointer_dom.Values.{IsValueIn}
-use Rattle.sound_tables.proofs.Alarms.{place_same, IsAt, is_at, at_copy, access_of, race_of}
-use Rattle.sound_tables.proofs.Pairs.{number_below}
+use Rattle.sound_tables.proofs.Alarms.{place_same, IsAt, is_at, task_within, at_copy, access_of, race_of, race_at_cell}
 use Rattle.sound_addresses.specs.sound_runs.Sources.{source_of, action_of, place_of_next, sets_after, Stands}
 use Rattle.sound_addresses.proofs.low.sound_runs.Moved.{next_is}
 use Rattle.sound_core.proofs.NextEdges.{here, IsAccessEdge, AreRaceEdges, next_access, next_race}
@@ -193,21 +192,21 @@ module _ (laid : LaidTree) (p : ProgramBodies) (is : IsProgram p) (n : ℕ) (num
     module _ (i : TaskOf n) (o c : ℕ) (stores : Bool) (q : Place)
         (by : IsAccessBy o c (next_at laid w (number i)) stores q) (e : Copy y)
         (a : IsAccessEdge S T N memory temps C k i (cell_of p.laid o c) e) where
-      abbrev at_copy : At e a.target.state
-      at_copy = is_at p is n number rank within graphs tables e a.target.state a.target.is
+      abbrev copied : At e a.target.state
+      copied = is_at p is n number rank within graphs tables e a.target.state a.target.is
 
-      about : IsAbout laid p w (number e.actor) at_copy.copy stores q
+      about : IsAbout laid p w (number e.actor) copied.copy stores q
       about =
           let actor : e.actor ≡ i = a.next.actor in
           let from : from_of y e ≡ (z i).node = a.next.from in
-          let here' : left_in p (number e.actor) at_copy.copy ≡ node i =
-          at_copy.node ∙ ap (λ (r : Node y). there p n number rank tables r) from in
+          let here' : left_in p (number e.actor) copied.copy ≡ node i =
+          copied.node ∙ ap (λ (r : Node y). there p n number rank tables r) from in
           record {
             sets = subst (λ r. HasSets laid p w (number e.actor) r) (sym here')
                 (subst (λ j. HasSets laid p w (number j) (node i)) (sym actor) (sets_of i));
-            placed = ap place_of at_copy.operation ∙ place_same e.edge.op ∙ a.next.place
+            placed = ap place_of copied.operation ∙ place_same e.edge.op ∙ a.next.place
                 ∙ ap place_of_next (next_now i) ∙ place_is (next_at laid w (number i)) o c stores q by;
-            kind = ap is_writing at_copy.operation
+            kind = ap is_writing copied.operation
                 ∙ bool_same (is_writing e.edge.op) stores
                 (λ h. kind_down i (next_at laid w (number i)) o c stores q by (next_now i)
                 (a.writes (writing_stores e.edge.op e.answer h)))
@@ -222,9 +221,6 @@ module _ (laid : LaidTree) (p : ProgramBodies) (is : IsProgram p)
     (stored : Interferences) where
   abbrev rank_of : ℕ → ℕ
   rank_of t = get_or p.priorities t 0
-
-  abbrev task_within : (i : TaskOf p.tasks) → number_of p.tasks i < length p.bodies
-  task_within i = let a = number_below p.tasks i in let b = is.tasks in omega (arith, a, b)
 
   abbrev yt : Parts
   yt = parts_of p
@@ -261,18 +257,18 @@ module _ (laid : LaidTree) (p : ProgramBodies) (is : IsProgram p)
           (by : IsAccessBy o c (next_at laid w (number_of p.tasks i)) stores q) where
         now : next laid (number_of p.tasks i) (C.answers i) ≡ next_at laid w (number_of p.tasks i)
         now =
-            next_now laid p is p.tasks (number_of p.tasks) rank_of task_within graphs tables weak sync w memory temps C k
+            next_now laid p is p.tasks (number_of p.tasks) rank_of (task_within p is graphs tables stored) graphs tables weak sync w memory temps C k
             shape sol lowered answers holding i
 
         -- it is about to access the cell
         accessing : NextAccesses St Nt C i (cell_of p.laid o c)
         accessing =
-            accesses_next laid p is p.tasks (number_of p.tasks) rank_of task_within graphs tables weak sync w memory temps C k
+            accesses_next laid p is p.tasks (number_of p.tasks) rank_of (task_within p is graphs tables stored) graphs tables weak sync w memory temps C k
             shape sol lowered answers holding i (next_at laid w (number_of p.tasks i)) o c stores q by now
 
         storing : stores ≡ true → NextStores St Nt C i (cell_of p.laid o c)
         storing =
-            kind_up laid p is p.tasks (number_of p.tasks) rank_of task_within graphs tables weak sync w memory temps C k
+            kind_up laid p is p.tasks (number_of p.tasks) rank_of (task_within p is graphs tables stored) graphs tables weak sync w memory temps C k
             shape sol lowered answers holding i (next_at laid w (number_of p.tasks i)) o c stores q by now
 
         abbrev access_at : (e : Copy yt) → IsAccessEdge St Tt Nt memory temps C k i (cell_of p.laid o c) e
@@ -281,7 +277,7 @@ module _ (laid : LaidTree) (p : ProgramBodies) (is : IsProgram p)
             let copied = at_copy p is graphs tables stored e a.target.state a.target.is in
             record {
               copy = copied.copy;
-              about = about laid p is p.tasks (number_of p.tasks) rank_of task_within graphs tables weak sync w memory temps
+              about = about laid p is p.tasks (number_of p.tasks) rank_of (task_within p is graphs tables stored) graphs tables weak sync w memory temps
                   C k shape sol lowered answers holding i o c stores q by e a;
               access = access_of p is graphs tables stored e (abstract_of_cell p.laid (cell_of p.laid o c)) a.target.state
                   copied a.target.holds;
@@ -332,7 +328,7 @@ module _ (laid : LaidTree) (p : ProgramBodies) (is : IsProgram p)
                 one = access_at i o c s q by e g.one;
                 other = access_at j o c t r by' f g.other;
                 racing = race_of p is graphs tables stored e f (at_cell i j (cell_of p.laid o c) e f g);
-                same = refl;
+                same = race_at_cell p is graphs tables stored e f (at_cell i j (cell_of p.laid o c) e f g);
               }))
 
       pub race_listed : (i j : TaskOf p.tasks) (place : Place)

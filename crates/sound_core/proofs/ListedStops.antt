@@ -7,7 +7,7 @@ use Rattle.sound_tables.specs.tm_cint.declared.Class.TheVariants as Classes
 use Rattle.sound_tables.specs.tm_terms.declared.places.Place.{Place}
 use Rattle.sound_tables.specs.tm_laid.Layouts.{LaidTree}
 use Rattle.sound_tables.specs.concrete_values.declared.values.Value.{Value}
-use Rattle.sound_tables.specs.concrete_values.declared.actions.Next.{Next}
+use Rattle.sound_tables.specs.concrete_values.declared.values.Answer.{Answer}
 use Rattle.sound_tables.specs.concrete_values.declared.actions.Next.TheVariants as Acts
 use Rattle.sound_tables.specs.concrete_steps.NextAction.{next}
 use Rattle.sound_tables.specs.concrete_steps.Worlds.{World, standing, answers_of, holds, next_at}
@@ -23,7 +23,8 @@ use Rattle.sound_tables.specs.transfer_rows.Covering.{AreIn, HasTemp}
 use Rattle.sound_tables.specs.transfer_rows.Reports.{IsListed}
 use Rattle.sound_tables.specs.program_reports.pointer_dom.Values.{IsValueIn}
 use Rattle.sound_tables.specs.program_reports.table_covers.Solutions.{NodeTable}
-use Rattle.sound_tables.specs.program_reports.state_fits.Typed.{types_of}
+use Rattle.sound_tables.specs.temporary_types.Sorts.{types_of}
+use Rattle.sound_tables.specs.program_reports.state_fits.Kinds.{OfTypes}
 use Rattle.sound_tables.specs.program_reports.state_fits.Fits.{FitsPlace}
 use Rattle.sound_tables.specs.program_reports.Reports.{place_of, copy_in, operation_in}
 use Rattle.sound_tables.specs.task_equations.Bodies.{edge_of, live_at, copy_at}
@@ -103,7 +104,7 @@ module _ (laid : LaidTree) (p : ProgramBodies) (is : IsProgram p) (n : ℕ) (num
       (answers : (i : TaskOf n) → C.answers i ≡ answers_of w (number i))
       (holding : (i : TaskOf n) (m : ℕ) → m < 16 → has (C.held i) m ≡ holds m (standing w (number i)))
       (fits : (q : Node y) (s : State) → state_at p n number rank tables q ≡ Some s
-      → FitsPlace p.laid (number q.task) (types_of (is.sorts (number q.task)))
+      → FitsPlace p.laid (number q.task) (OfTypes p.laid (types_of (is.sorts (number q.task))))
       (live_at (body_at p (number q.task)) q.place) s) where
     abbrev z : TaskOf n → Situation S
     z i = here S T N memory temps C k i
@@ -114,23 +115,23 @@ module _ (laid : LaidTree) (p : ProgramBodies) (is : IsProgram p) (n : ℕ) (num
     next_now : (i : TaskOf n) → next laid (number i) (C.answers i) ≡ next_at laid w (number i)
     next_now i = ap (next laid (number i)) (answers i) ∙ sym (next_is laid w (number i))
 
-    abbrev StandsAs : TaskOf n → List _ → ℕ → Memory → Type 0
+    abbrev StandsAs : TaskOf n → List Answer → ℕ → Memory → Type 0
     StandsAs i a l m = (let b = body_at p (number i) in StandsAt p.laid b.edges (next laid (number i)) a l m)
 
     -- where the body stands, with the temporaries of its situation
     record IsStanding (i : TaskOf n) : Type 0 where
-      memory : Memory
-      stands : StandsAs i (answers_of w (number i)) (z i).node.place memory
-      temps : (z i).temps ≡ memory.temps
+      now : Memory
+      stands : StandsAs i (answers_of w (number i)) (z i).node.place now
+      same : (z i).temps ≡ now.temps
 
     standing_at : (i : TaskOf n) → IsStanding i
     standing_at i =
         let s = k.stands i in
         record {
-          memory = s.memory;
+          now = s.memory;
           stands = subst (λ a. StandsAs i a (z i).node.place s.memory) (answers i)
               (subst (λ l. StandsAs i (C.answers i) l s.memory) (sym (ap (λ (q : Node y). q.place) s.node)) s.stands);
-          temps = s.temps;
+          same = s.temps;
         }
 
     -- a copy that leaves where the body stands
@@ -157,9 +158,9 @@ module _ (laid : LaidTree) (p : ProgramBodies) (is : IsProgram p) (n : ℕ) (num
         is_at p is n number rank within graphs tables e l.state l.is in
         let h = standing_at i in
         let from : e.edge.from ≡ (z i).node.place = ap (λ (q : Node y). q.place) g.from in
-        let stands : StandsAs e.actor (answers_of w (number e.actor)) e.edge.from h.memory =
-        subst (λ v. StandsAs e.actor (answers_of w (number e.actor)) v h.memory) (sym from)
-        (subst (λ j. StandsAs j (answers_of w (number j)) (z i).node.place h.memory) (sym g.actor) h.stands) in
+        let stands : StandsAs e.actor (answers_of w (number e.actor)) e.edge.from h.now =
+        subst (λ v. StandsAs e.actor (answers_of w (number e.actor)) v h.now) (sym from)
+        (subst (λ j. StandsAs j (answers_of w (number j)) (z i).node.place h.now) (sym g.actor) h.stands) in
         subst (λ j. IsListedStop laid p tables w (number j) class place) g.actor
         (record {
           copy = c.copy;
@@ -170,11 +171,11 @@ module _ (laid : LaidTree) (p : ProgramBodies) (is : IsProgram p) (n : ℕ) (num
                 (subst (λ a. IsListed (around_copy p n number rank tables e) a l.state class) (sym c.action) l.holds);
             placed = ap place_of c.operation ∙ place_same e.edge.op ∙ g.place ∙ ap place_of_next (next_now i) ∙ placed;
           };
-          memory = h.memory;
-          stands = subst (λ v. StandsAs e.actor (answers_of w (number e.actor)) v h.memory)
+          memory = h.now;
+          stands = subst (λ v. StandsAs e.actor (answers_of w (number e.actor)) v h.now)
               (sym (ap (λ d. d.from) c.edge)) stands;
-          operands = subst (λ op. UsesWithin op l.state h.memory.temps) (sym c.operation)
-              (subst (λ f. UsesWithin e.edge.op l.state f) h.temps (uses_within i e g l.state l.is));
+          operands = subst (λ op. UsesWithin op l.state h.now.temps) (sym c.operation)
+              (subst (λ f. UsesWithin e.edge.op l.state f) h.same (uses_within i e g l.state l.is));
         })
 
     lock_acts : (a : Action S ℕ) (m : ℕ) → a ≡ a_lock m → a ≡ a_spins → ⊥

@@ -1,9 +1,10 @@
 -- Where a run stops with an error, the contexts of the alarm tell it.
 use native.Mathlib.Decide.{ℕ_discrete}
 use Rattle.std.proofs.Common.{◌≡◌, refl, sym, ap, subst, ◌∙◌, ℕ, ◌<◌, ◌≤◌, ◌^◌, List, [], length, Option, Some, None}
-use Rattle.std.proofs.Common.{get_or, arith, Dec, yes, no}
+use Rattle.std.proofs.Common.{get_or, arith}
 use Rattle.std.specs.Prelude.{Contains}
 use Rattle.sound_tables.specs.tm_cint.declared.Class.{Class}
+use Rattle.sound_tables.specs.tm_terms.declared.alarms.Alarm.{Alarm}
 use Rattle.sound_tables.specs.tm_terms.declared.places.Place.{Place}
 use Rattle.sound_tables.specs.tm_laid.Layouts.{LaidTree}
 use Rattle.sound_tables.specs.concrete_values.declared.values.Value.{Value}
@@ -21,7 +22,8 @@ use Rattle.sound_tables.specs.transfer_rows.StateForms.{State, value_of}
 use Rattle.sound_tables.specs.transfer_rows.Contributions.{entry_at}
 use Rattle.sound_tables.specs.program_reports.pointer_dom.Values.{IsValueIn, no_value}
 use Rattle.sound_tables.specs.program_reports.table_covers.Solutions.{NodeTable}
-use Rattle.sound_tables.specs.program_reports.state_fits.Typed.{types_of}
+use Rattle.sound_tables.specs.temporary_types.Sorts.{types_of}
+use Rattle.sound_tables.specs.program_reports.state_fits.Kinds.{OfTypes}
 use Rattle.sound_tables.specs.program_reports.state_fits.Fits.{FitsPlace}
 use Rattle.sound_tables.specs.program_reports.Reports.{copy_in, operation_in}
 use Rattle.sound_tables.specs.task_equations.Bodies.{live_at}
@@ -38,7 +40,7 @@ use Rattle.sound_tables.specs.tm_soundness.Numbered.{TaskOf}
 use Rattle.sound_tables.specs.tm_soundness.Known.{IsKnown}
 use Rattle.sound_tables.specs.program_shape.Shape.{Parts, Node, number_of}
 use Rattle.sound_tables.specs.Programs.{parts_of, section_alone}
-use Rattle.sound_tables.specs.Memberships.{section_tables, scalar_as, state_at}
+use Rattle.sound_tables.specs.Memberships.{tables_of as members_of, section_tables, scalar_as, state_at}
 use Rattle.sound_tables.proofs.low.pointer_dom.Meaning.{value_included}
 use Rattle.sound_tables.proofs.low.program_shape.TaskNumbers.{IsNumbered, task_with}
 use Rattle.sound_tables.proofs.Arriving.{state_fits}
@@ -95,10 +97,10 @@ module _ (laid : LaidTree) (p : ProgramBodies) (tables : ℕ → NodeTable State
             (l.operands role lt);
       }
     where
-      place_in : _ → Place
+      place_in : Alarm → Place
       place_in a = a.place
 
-      class_in : _ → Class
+      class_in : Alarm → Class
       class_in a = a.class
 
 -- ## Runs
@@ -116,7 +118,7 @@ module _ (laid : LaidTree) (p : ProgramBodies) (from : IsProgramFrom laid p) (is
   T = length laid.file.tasks
 
   fits : (q : Node x) (s : State) → state_at p p.tasks x.number x.rank lists q ≡ Some s
-      → FitsPlace p.laid (number_of p.tasks q.task) (types_of (is.sorts (number_of p.tasks q.task)))
+      → FitsPlace p.laid (number_of p.tasks q.task) (OfTypes p.laid (types_of (is.sorts (number_of p.tasks q.task))))
       (live_at (body_at p (number_of p.tasks q.task)) q.place) s
   fits =
       let section = table_at tables p.tasks in
@@ -137,7 +139,7 @@ module _ (laid : LaidTree) (p : ProgramBodies) (from : IsProgramFrom laid p) (is
       (graphs_are laid p from is few tables store pair w reached) lists
       (λ j l z v. IsValueIn (entry_at store.weak (x.number j) l z) (scalar_as v))
       (λ j m z v. IsValueIn (entry_at store.sync (x.number j) m z) (scalar_as v)) w k.0
-      (λ i. first_temps) (tasks_in laid x w) k.1 (shapes_lawful p good').0 (pairs_cover p good' tables store pair).0
+      (λ i. first_temps) (tasks_in laid x w) k.1 (shapes_lawful p is good').0 (pairs_cover p is good' tables store pair).0
       (lowered laid p from is few tables store pair w reached) (λ i. refl)
       (holding laid p from is few tables store pair w reached) fits t.task class place
       (subst (λ j. HaltsBy (next_at laid w j) (standing w j) class place) (sym t.is) halts))
@@ -160,10 +162,10 @@ module _ (laid : LaidTree) (p : ProgramBodies) (from : IsProgramFrom laid p) (is
     has_it : HasSection p
     has_it = has_section laid p from is few tables store pair main main_is
 
-    all : IsKnownIn laid x _ (section_tables p lists) w
+    all : IsKnownIn laid x (members_of p lists store) (section_tables p lists) w
     all = known laid p from is few tables store pair main main_is w reached
 
-    seen : IsKnown _ (section_tables p lists) (section_source_in laid x) (first_memory laid) (λ i. first_temps)
+    seen : IsKnown (alone (shape_in laid x) (section_in laid x)) (section_tables p lists) (section_source_in laid x) (first_memory laid) (λ i. first_temps)
         (main_of (shape_in laid x) (source_in laid x) (section_in laid x) (section_source_in laid x)
         (whole_in laid x w all.held))
     seen = (let a = all.known in a.before (λ e. still (is_done_status (status_of w p.tasks) e))).0
@@ -172,7 +174,7 @@ module _ (laid : LaidTree) (p : ProgramBodies) (from : IsProgramFrom laid p) (is
     s = section_alone p
 
     section_fits : (q : Node s) (t : State) → state_at p 1 s.number s.rank lists q ≡ Some t
-        → FitsPlace p.laid p.tasks (types_of (is.sorts p.tasks)) (live_at (body_at p p.tasks) q.place) t
+        → FitsPlace p.laid p.tasks (OfTypes p.laid (types_of (is.sorts p.tasks))) (live_at (body_at p p.tasks) q.place) t
     section_fits =
         let good' = good laid p from is few tables store pair w reached in
         let whole = pair.solves in
@@ -197,7 +199,7 @@ module _ (laid : LaidTree) (p : ProgramBodies) (from : IsProgramFrom laid p) (is
         (λ j l z v. Unit {0}) (λ j m z v. Unit {0}) w (first_memory laid) (λ i. first_temps)
         (main_of (shape_in laid x) (source_in laid x) (section_in laid x) (section_source_in laid x)
         (whole_in laid x w all.held)) seen
-        ((shapes_lawful p good').1 has_it) ((pairs_cover p good' tables store pair).1 has_it) section_lowers
+        ((shapes_lawful p is good').1 has_it) ((pairs_cover p is good' tables store pair).1 has_it) section_lowers
         (λ i. refl) (λ i m lt. all.same still m lt) section_fits tt class place
         (subst (λ j. HaltsBy (next_at laid w j) (standing w j) class place) (sym count) halts))
 

@@ -26,12 +26,12 @@ module _ (laid : LaidTree) (w : World) where
       → (let s = sets_after (next laid task) (answers_of w task) in has s.found m ≡ true)
 
   -- it is the access that the task is about to make
-  pub record IsNextAccess (task : ℕ) (stores : Bool) (place : Place) (e : ObjectAccess) : Type 0 where
-    pub task : e.task ≡ task
+  pub record IsNextAccess (i : ℕ) (stores : Bool) (at : Place) (e : ObjectAccess) : Type 0 where
+    pub task : e.task ≡ i
     pub kind : e.stores ≡ stores
-    pub place : e.place ≡ place
-    pub holds : HoldsExactly task e.held
-    pub free : HasFoundFree task e.free
+    pub place : e.place ≡ at
+    pub holds : HoldsExactly i e.held
+    pub free : HasFoundFree i e.free
 
   -- it stands in a group of the object
   pub record IsGrouped (groups : List AccessGroup) (object task : ℕ) (stores : Bool) (place : Place) : Type 0 where

@@ -211,6 +211,12 @@ module _ (p : ProgramBodies) (is : IsProgram p)
           ap (λ (z : ConfiguredNode). are_apart z.held (part r)) e
           ∙ ap (λ (z : ConfiguredNode). are_apart q'.held (part z)) f ∙ k
 
+  -- they race on the cell at which it is listed
+  pub race_at_cell : (e f : Copy (parts_of p)) (r : IsRaceListed (shape_of (parts_of p)) T e f)
+      → (let h = race_of e f r in h.cell) ≡ r.common.0
+  unfolding race_of
+  race_at_cell e f r = refl
+
   -- such a race is an alarm at the place of either edge
   pub race_alarm : (e f : Copy (parts_of p)) → IsRaceListed (shape_of (parts_of p)) T e f → (place : Place)
       → place_at e.edge.op ≡ Some place → IsAlarm p tables (record { place = place; class = Race })
