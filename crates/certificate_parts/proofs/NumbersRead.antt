@@ -17,10 +17,10 @@ use Rattle.certificate_parts.proofs.Running.{run_more}
 use Rattle.certificate_parts.proofs.RowsRead.{new_key, take_one}
 
 module _ (letters : List ℕ) (tagged : IsTag letters) where
-  pair_lawful : (key n : ℕ) → key < 2 ^ 64 → n < 2 ^ 64 → IsLine (pair_line letters key n)
+  pub pair_lawful : (key n : ℕ) → key < 2 ^ 64 → n < 2 ^ 64 → IsLine (pair_line letters key n)
   pair_lawful key n h k = (tagged, (h, (k, tt)))
 
-  same_key : (d k n m : ℕ) → pair_line letters d n ≡ pair_line letters k m → (d ≡ k) × (n ≡ m)
+  pub same_key : (d k n m : ℕ) → pair_line letters d n ≡ pair_line letters k m → (d ≡ k) × (n ≡ m)
   same_key d k n m e =
       let ws : number (pos d) ∷ number (pos n) ∷ [] ≡ number (pos k) ∷ number (pos m) ∷ [] = ap (λ (l : Line). l.rest) e in
       let a : number (pos d) ≡ number (pos k) = cc in

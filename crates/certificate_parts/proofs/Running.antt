@@ -95,7 +95,7 @@ module _ {Z : Type 0} (row : ℕ → Z → List Line) (Fits : ℕ → Z → Type
   after_row [] k y more n f a = tt
   after_row (d ∷ ks) k y more n f a = (apart d k y more n.0 f a.0, after_row ks k y more n.1 f a.1)
 
-  behind_rows : (d : ℕ) (ks : List ℕ) (ys : List Z) (more : List ℕ) → IsNoneOf d ks → AllFit row Fits After ks ys
+  pub behind_rows : (d : ℕ) (ks : List ℕ) (ys : List Z) (more : List ℕ) → IsNoneOf d ks → AllFit row Fits After ks ys
       → After d more → After d (lines_onto (rows row Fits After ks ys) more)
   behind_rows d [] ys more n f a = a
   behind_rows d (k ∷ ks) [] more n f a = absurd f

@@ -13,13 +13,16 @@ use tm_lattice::NoMemory;
 /// A cursor over a text, with the words of the line that comes next: contracts see the bytes that are left.
 #[derive(Drop)]
 pub struct Ahead<'a> {
+    // What is left, from the words on.
+    text: &'a [u8],
+    // What is left behind them.
     lines: Lines<'a>,
     words: Vec<Word<'a>>,
     has: bool,
 }
 
 impl<'a> Model for Ahead<'a> {
-    ghost use Rattle.std.specs.Prelude.{ℕ, List};
+    ghost use Rattle.std.specs.Prelude.{◌≡◌, ℕ, List};
     ghost use Rattle.certificate_words.specs.Lines.{words_of};
     ghost use Rattle.certificate_parts.specs.Fronts.{ahead_text, IsAhead};
 
@@ -27,7 +30,8 @@ impl<'a> Model for Ahead<'a> {
 
     ghost view = { λ a. ahead_text a.has (words_of a.words.items) a.lines };
 
-    ghost invariant = { λ a. IsAhead a.has (words_of a.words.items) a.lines };
+    ghost invariant = { λ a. IsAhead a.has (words_of a.words.items) a.lines
+        × (a.text.now ≡ ahead_text a.has (words_of a.words.items) a.lines) };
 }
 
 impl<'a> Ahead<'a> {
@@ -38,7 +42,39 @@ impl<'a> Ahead<'a> {
         let mut lines = Lines::new(text);
         let mut words = Vec::new(alloc);
         let has = lines.next(&mut words)?;
-        Ok(Ahead { lines, words, has })
+        Ok(Ahead {
+            text,
+            lines,
+            words,
+            has,
+        })
+    }
+
+    /// The bytes that are left.
+    pub fn rest(&self) -> &'a [u8]
+        ensures { result.now ≡ self.now }
+    {
+        self.text
+    }
+
+    /// Turns to another text, at its beginning. After want of memory no text is left.
+    pub fn turn_to(&mut self, text: &'a [u8]) -> Result<(), NoMemory>
+        ensures { OnOk result (self.new ≡ text.now) }
+    {
+        self.text = text;
+        self.lines = Lines::new(text);
+        match self.lines.next(&mut self.words) {
+            Ok(has) => {
+                self.has = has;
+                Ok(())
+            }
+            Err(NoMemory) => {
+                self.text = &[];
+                self.lines = Lines::new(&[]);
+                self.has = false;
+                Err(NoMemory)
+            }
+        }
     }
 
     /// Whether nothing is left of the text.
@@ -65,17 +101,9 @@ impl<'a> Ahead<'a> {
         if !self.has {
             return Ok(());
         }
-        match self.lines.next(&mut self.words) {
-            Ok(has) => {
-                self.has = has;
-                Ok(())
-            }
-            Err(NoMemory) => {
-                self.lines = Lines::new(&[]);
-                self.has = false;
-                Err(NoMemory)
-            }
-        }
+        let behind = self.lines.rest();
+        self.turn_to(behind)?;
+        Ok(())
     }
 
     /// Steps over the first line where it is that of a tag and these numbers; true exactly where it is.

@@ -1,15 +1,15 @@
 -- States are put together entry by entry.
 use Rattle.std.proofs.Common.{◌≡◌, sym, ap, subst, ◌∙◌, ℕ, ◌+◌, ◌<◌, List, [], ◌∷◌, ◌++◌, length, drop, get_or}
-use Rattle.std.proofs.Common.{Bool, Option, append_assoc, arith, suc}
+use Rattle.std.proofs.Common.{Option, append_assoc, arith, suc}
 use Rattle.std.proofs.lemmas.List.{drop_more}
 use Rattle.std.specs.FinMap.{entries, insert, empty}
 use Rattle.tm_lattice.specs.Tables.{Table}
 use Rattle.pointer_dom.specs.Values.{Values}
-use Rattle.transfer_rows.specs.StateForms.{Temp, Cell}
+use Rattle.transfer_rows.specs.StateForms.{Temp}
 use Rattle.certificate_reading.specs.reading.Shapes.{RiseFrom}
 use Rattle.certificate_reading.specs.Nesting.{AllBelow}
 use Rattle.certificate_reading.specs.reading.Bounds.{AreUnder}
-use Rattle.certificate_reading.specs.reading.Parts.{temps_of, cells_of}
+use Rattle.certificate_reading.specs.reading.Parts.{temps_of}
 use Rattle.certificate_reading.proofs.Rising.{entries_last, below_raise, below_more, below_none, none_listed}
 
 -- ## Entries by rising keys
@@ -72,26 +72,3 @@ temps_more all t new i live vs ws v cs ds c d l values copies same put h =
     (subst (λ xs. AreSoFar all (entries t) (temps_of (k ∷ ks) (v ∷ ws) xs) (k ∷ ks)) copies
     (subst (λ xs. AreSoFar all (entries t) (temps_of (k ∷ ks) xs cs) (k ∷ ks)) values
     (subst (λ xs. AreSoFar all (entries t) (temps_of xs vs cs) xs) (drop_more live i 0 l) h))))
-
--- ## Cells
-
-module _ (shared : ℕ → Bool) where
-  -- what is put first is the cell of the first number
-  abbrev pub IsFirst : ℕ → Values → List (Option ℕ) → Bool → List Bool → Cell → List (Option ℕ) → List Bool → Type 0
-  IsFirst x v ps f ss c qs ts = (xs : List ℕ) (vs : List Values) (fs : List Bool)
-      → cells_of shared (x ∷ xs) (v ∷ vs) ps (f ∷ fs) ss ≡ (x, c) ∷ cells_of shared xs vs qs fs ts
-
-  pub cells_more : (all : List (ℕ × Cell)) (t new : Table Cell) (i : ℕ) (seen : List ℕ) (vs ws : List Values)
-      (v : Values) (ps qs : List (Option ℕ)) (fs gs : List Bool) (f : Bool) (ss ts : List Bool) (c : Cell)
-      → i < length seen → vs ≡ v ∷ ws → fs ≡ f ∷ gs → IsFirst (get_or seen i 0) v ps f ss c qs ts
-      → new ≡ insert t (get_or seen i 0) c
-      → AreSoFar all (entries t) (cells_of shared (drop i seen) vs ps fs ss) (drop i seen)
-      → AreSoFar all (entries new) (cells_of shared (drop (i + 1) seen) ws qs gs ts) (drop (i + 1) seen)
-  cells_more all t new i seen vs ws v ps qs fs gs f ss ts c l values marks first put h =
-      let x = get_or seen i 0 in
-      let xs = drop (i + 1) seen in
-      so_far_more all (cells_of shared xs ws qs gs ts) t new x xs c put
-      (subst (λ es. AreSoFar all (entries t) es (x ∷ xs)) (first xs ws gs)
-      (subst (λ ys. AreSoFar all (entries t) (cells_of shared (x ∷ xs) (v ∷ ws) ps ys ss) (x ∷ xs)) marks
-      (subst (λ ys. AreSoFar all (entries t) (cells_of shared (x ∷ xs) ys ps fs ss) (x ∷ xs)) values
-      (subst (λ ys. AreSoFar all (entries t) (cells_of shared ys vs ps fs ss) ys) (drop_more seen i 0 l) h))))

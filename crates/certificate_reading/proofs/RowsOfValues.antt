@@ -28,7 +28,7 @@ around (x ∷ xs) (suc i) l =
     ∙ ap (λ n. x ∷ (take i xs ++ (get_or xs i 0 ∷ drop n (x ∷ xs)))) (sym e)
 
 module _ (letters : List ℕ) (tagged : IsTag letters) (Fits : ℕ → Values → Type 0) where
-  row_lawful : (key : ℕ) (v : Values) → FitsRow Fits key v → IsLine (value_line letters key v)
+  pub row_lawful : (key : ℕ) (v : Values) → FitsRow Fits key v → IsLine (value_line letters key v)
   row_lawful key v f = (tagged, (f.small, f.lawful))
 
   pub values_apart : (d k : ℕ) (y : Values) (more : List ℕ) → (d ≡ k → ⊥) → FitsRow Fits k y → AnyText d more

@@ -22,7 +22,7 @@ module _ {Q : Type 0} (lines : Q → List Line) (Fits : Q → Type 0) (End : Lis
 
 module _ {Z : Type 0} (row : ℕ → Z → List Line) (Fits : ℕ → Z → Type 0) (After : ℕ → List ℕ → Type 0)
     (End : List ℕ → Type 0) (after : (k : ℕ) (more : List ℕ) → End more → After k more) (keys : List ℕ) where
-  after_all : (ks : List ℕ) (more : List ℕ) → End more → AfterAll row Fits After ks more
+  pub after_all : (ks : List ℕ) (more : List ℕ) → End more → AfterAll row Fits After ks more
   after_all [] more end = tt
   after_all (k ∷ ks) more end = (after k more end, after_all ks more end)
 

@@ -12,7 +12,7 @@ use Rattle.transfer_rows.specs.Accesses.{is_among}
 use Rattle.transfer_rows.proofs.Steps.{among_cons, among_here, among_there}
 use Rattle.certificate_reading.specs.reading.Shapes.{RiseFrom}
 
-least : (bound : ℕ) (ks : List ℕ) → RiseFrom bound ks → (x : ℕ) → IsOf ks x → bound ≤ x
+pub least : (bound : ℕ) (ks : List ℕ) → RiseFrom bound ks → (x : ℕ) → IsOf ks x → bound ≤ x
 least bound [] h x m = absurd m
 least bound (k ∷ ks) h x (inl e) = let b = h.0 in omega (arith, b, e)
 least bound (k ∷ ks) h x (inr m) =

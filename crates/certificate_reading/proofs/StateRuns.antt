@@ -36,12 +36,12 @@ pub none_numbered : (letters : List ℕ) (key : ℕ) (text : List ℕ) → IsNot
 none_numbered letters key text none =
     record { never = λ n rest lawful e. none.never (number (pos key) ∷ number (pos n) ∷ []) rest lawful.1 e }
 
-mark_have : (letters : List ℕ) (key : ℕ) (mark : Bool)
+pub mark_have : (letters : List ℕ) (key : ℕ) (mark : Bool)
     → AllHave letter (word_letter (tag letters)) (mark_row letters key mark)
 mark_have letters key true = (refl, tt)
 mark_have letters key false = tt
 
-number_have : (letters : List ℕ) (key : ℕ) (n : Option ℕ)
+pub number_have : (letters : List ℕ) (key : ℕ) (n : Option ℕ)
     → AllHave letter (word_letter (tag letters)) (number_row letters key n)
 number_have letters key None = tt
 number_have letters key (Some n) = (refl, tt)
@@ -51,13 +51,13 @@ module _ (letters : List ℕ) (is : IsWord (tag letters)) {Z : Type 0} (others :
     (Fits : ℕ → Z → Type 0) (After : ℕ → List ℕ → Type 0)
     (have : (k : ℕ) (z : Z) → AllHave letter (word_letter (tag others)) (row k z))
     (differ : word_letter (tag letters) ≡ word_letter (tag others) → ⊥) where
-  rows_have : (keys : List ℕ) (zs : List Z) → AllHave letter (word_letter (tag others)) (rows row Fits After keys zs)
+  pub rows_have : (keys : List ℕ) (zs : List Z) → AllHave letter (word_letter (tag others)) (rows row Fits After keys zs)
   rows_have [] zs = tt
   rows_have (k ∷ ks) [] = tt
   rows_have (k ∷ ks) (z ∷ zs) =
       all_append letter (word_letter (tag others)) (row k z) (rows row Fits After ks zs) (have k z) (rows_have ks zs)
 
-  ends_rows : (keys : List ℕ) (zs : List Z) (more : List ℕ) → AreLines (rows row Fits After keys zs)
+  pub ends_rows : (keys : List ℕ) (zs : List Z) (more : List ℕ) → AreLines (rows row Fits After keys zs)
       → IsNotTagged letters more → IsNotTagged letters (lines_onto (rows row Fits After keys zs) more)
   ends_rows keys zs more lawful none =
       ends_lines letters (word_letter (tag others)) (rows row Fits After keys zs) more is differ (rows_have keys zs) lawful
@@ -72,13 +72,13 @@ module _ (letters : List ℕ) (is : IsWord (tag letters)) {Z : Type 0} (others :
       subst (IsNotTagged letters) (sym (onto_append (rows row Fits After keys zs) ls more))
       (ends_rows keys zs (lines_onto ls more) l.0 (none l.1))
 
-p_is : IsWord (tag (codes "p"))
+pub p_is : IsWord (tag (codes "p"))
 p_is = (lit≤ tt, lit≤ tt, tt)
 
-f_is : IsWord (tag (codes "f"))
+pub f_is : IsWord (tag (codes "f"))
 f_is = (lit≤ tt, lit≤ tt, tt)
 
-s_is : IsWord (tag (codes "s"))
+pub s_is : IsWord (tag (codes "s"))
 s_is = (lit≤ tt, lit≤ tt, tt)
 
 -- ## What was read

@@ -7,10 +7,12 @@
 #![tactic(auto)]
 
 mod assembled;
+mod cells;
 mod entries;
 mod growing;
+mod kept;
+mod kept_rows;
 mod pairs;
-mod parts;
 mod rows;
 mod shapes;
 mod states;

@@ -17,7 +17,7 @@ use tm_laid::Laid;
 use tm_lattice::NoMemory;
 
 /// What may stand behind a key.
-fn extent_at(extents: &[Extent], key: u32) -> Extent
+pub(crate) fn extent_at(extents: &[Extent], key: u32) -> Extent
     ensures { result ≡ extent_at extents.now key }
 {
     match extents.get(key as usize) {

@@ -1,5 +1,5 @@
 //! The tables of bodies, from their lines.
-ghost use Rattle.std.specs.Prelude.{◌≡◌, ◌≤◌, ◌^◌, [], ◌∷◌, pos, length, option_map, IfOk, MatchBool};
+ghost use Rattle.std.specs.Prelude.{◌≡◌, ◌≤◌, ◌^◌, [], ◌∷◌, pos, length, option_map, IfOk, IfSome, MatchBool};
 ghost use Rattle.certificate_words.specs.Words.{line_onto};
 ghost use Rattle.certificate_parts.specs.Fronts.{IsNotFront, line_of};
 ghost use Rattle.tm_laid.specs.Layouts.{laid_tree};
@@ -14,7 +14,9 @@ ghost use Rattle.certificate_reading.specs.Values.{AreSizes};
 ghost use Rattle.certificate_reading.specs.Tables.{IsReadNode, IsReadTable, FitsTable, FitsNodes, AreReadTables};
 ghost use Rattle.certificate_reading.specs.Tables.{AreReadNodes, FitsBodyTable};
 ghost use Rattle.certificate_reading.specs.reading.Shapes.{IsShape, RiseFrom};
+ghost use Rattle.certificate_reading.specs.reading.Cells.{IsKept};
 
+use crate::kept::Kept;
 use crate::shapes::{Shape, shape_of};
 use crate::states::state_in;
 use body_systems::BodyFacts;
@@ -37,9 +39,9 @@ fn take_numbered(ahead: &mut Ahead, letters: &[u8], number: u64) -> Result<bool,
 }
 
 /// Reads the state of a node, where it has one.
-fn node_in(
+fn node_in<'a>(
     alloc: Global,
-    ahead: &mut Ahead,
+    ahead: &mut Ahead<'a>,
     laid: &Laid,
     sizes: &[u32],
     body: u32,
@@ -47,21 +49,25 @@ fn node_in(
     extents: &[Extent],
     live: &[u32],
     node: usize,
+    kept: &mut Kept<'a>,
 ) -> Result<Option<Option<BodyState>>, NoMemory>
     requires sizes { AreSizes (laid_tree laid.now) sizes.now }
     requires few { length sizes.now ≤ 2 ^ 32 }
     requires cells { length laid.now.abstract_cells.items ≤ 65536 }
     requires shape { IsShape (laid_tree laid.now) body shape.now }
     requires live { RiseFrom 0 live.now }
-    ensures { IfOk result (λ found. IsReadNode
+    requires kept { IsKept (laid_tree laid.now) shape.now kept.old }
+    ensures node { IfOk result (λ found. IsReadNode
         (λ n. FitsPlace (laid_tree laid.now) body (InExtents (laid_tree laid.now) extents.now) live.now) node
         ahead.old found ahead.new) }
+    ensures kept { IfOk result (λ found. IfSome found (λ at.
+        IsKept (laid_tree laid.now) shape.now kept.new)) }
 {
     let taken = take_numbered(ahead, b"node", node as u64)?;
     if !taken {
         return Ok(Some(None));
     }
-    let found = state_in(alloc, ahead, laid, body, sizes, shape, extents, live)?;
+    let found = state_in(alloc, ahead, laid, body, sizes, shape, extents, live, kept)?;
     match found {
         None => Ok(None),
         Some(state) => Ok(Some(Some(BodyState::new(state)))),
@@ -90,11 +96,12 @@ fn nodes_in(
     let extents = extents_in(alloc, graph)?;
     let shape = shape_of(alloc, laid, body)?;
     let nodes = configured.nodes.as_slice();
+    let mut kept = Kept::new(alloc);
     let mut table = Vec::new(alloc);
     for node in 0..nodes.len() {
         let live = known.live_at(nodes[node].place);
         let found = node_in(
-            alloc, ahead, laid, sizes, body, &shape, &extents, live, node,
+            alloc, ahead, laid, sizes, body, &shape, &extents, live, node, &mut kept,
         )?;
         match found {
             None => return Ok(None),

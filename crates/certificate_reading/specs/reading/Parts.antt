@@ -16,7 +16,6 @@ use Rattle.certificate_parts.specs.Numbers.{number_row, FitsNumber, number_after
 use Rattle.certificate_reading.specs.Rows.{value_row, FitsRow, AnyText}
 use Rattle.certificate_reading.specs.States.{IsEnd}
 use Rattle.certificate_reading.specs.declared.shapes.Shape.{Shape}
-use Rattle.certificate_reading.specs.declared.parts.StateParts.{StateParts}
 
 -- Of each live temporary its value; of each cell that is seen its own value; of each shared one what is pending; of each
 -- that is seen whether it is fresh; of each local one whether it is stored; and of each live temporary its copy.
@@ -27,17 +26,6 @@ pub record Parts : Type 0 where
   pub fresh : List Bool
   pub stored : List Bool
   pub copies : List (Option ℕ)
-
--- the lists that the code holds
-abbrev pub parts_of : StateParts → Parts
-parts_of p = record {
-  temps = p.temps.items;
-  cells = p.cells.items;
-  pending = p.pending.items;
-  fresh = p.fresh.items;
-  stored = p.stored.items;
-  copies = p.copies.items;
-}
 
 -- ## Their lines
 
@@ -110,10 +98,6 @@ module _ (laid : LaidTree) (extents : List Extent) (shape : Shape) (live : List 
   pub record HasNoParts (old : List ℕ) : Type 0 where
     pub never : (r : Parts) (more : List ℕ) → FitParts r → AreLines (part_lines r) → IsEnd more
         → old ≡ lines_onto (part_lines r) more → ⊥
-
-  abbrev pub AreReadParts : List ℕ → Option Parts → List ℕ → Type 0
-  AreReadParts old None new = HasNoParts old
-  AreReadParts old (Some q) new = ArePartsIn old q new
 
 -- ## The state of these lists
 

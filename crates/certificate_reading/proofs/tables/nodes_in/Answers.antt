@@ -1,4 +1,5 @@
 use Rattle.std.proofs.Common.{◌∙◌, ap, sym, subst, length, get_or, List, [], ◌<◌, arith}
+use Rattle.std.specs.Prelude.{IfSome}
 use Rattle.mutex_configs.specs.declared.nodes.ConfiguredNode.{ConfiguredNode}
 use Rattle.mutex_configs.specs.Nodes.{entry_node}
 use Rattle.tm_laid.specs.Layouts.{laid_tree}
@@ -7,7 +8,8 @@ use Rattle.certificate_texts.specs.TableLines.{node_lines_of}
 use Rattle.certificate_reading.specs.Series.{HasNoRow, IsRowIn}
 use Rattle.certificate_reading.specs.Tables.{FitsNode, FitsNodes, EndsNode, EndsTable, IsReadNode}
 use Rattle.certificate_reading.specs.reading.Shapes.{RiseFrom}
-use Rattle.certificate_reading.proofs.SeriesRead.{rows_more, rows_stuck, next_count}
+use Rattle.certificate_reading.specs.reading.Cells.{IsKept}
+use Rattle.certificate_reading.proofs.SeriesRead.{rows_none, rows_more, rows_stuck, rows_all, next_count}
 use Rattle.certificate_reading.proofs.TablesRead.{nodes_behind}
 use Rattle.certificate_reading.proofs.BodiesRead.{live_rises, read_node}
 use Rattle.certificate_reading.proofs.tables.nodes_in.Goals as goal
@@ -19,6 +21,18 @@ node_in-requires-clause-live c =
     let q = get_or c.as_slice-nodes.result.now c.loop-node.node entry_node in
     subst (RiseFrom 0) (sym c.live_at-live.ensures)
     (live_rises graph.edges.items graph.nodes lives c.requires.live q.place)
+
+pub loop-node-init : goal.loop-node-init
+loop-node-init c =
+    let laid = laid_tree c.args.laid.now in
+    let nodes = c.args.configured.now.nodes.keys in
+    let known = FitsNodes laid c.args.body (extents_in c.args.graph.now.edges.items) nodes c.args.known.now.live in
+    record {
+      count = ap length c.new-table.ensures.items;
+      far = rows_none node_lines_of (FitsNode known) EndsNode EndsTable (length nodes) c.args.ahead.now
+          c.new-table.result.items c.new-table.ensures.items;
+      kept = c.new-kept.ensures laid c.in_ok-shape.shape;
+    }
 
 pub returns-in-None : goal.returns-in-None
 returns-in-None c =
@@ -34,7 +48,7 @@ returns-in-None c =
     let read = read_node laid c.args.body n extents given c.live_at-live.result.now nodes lives
     (c.deref.ensures.value ∙ c.in_ok-extents.ensures)
     (c.live_at-live.ensures ∙ ap (λ (xs : List ConfiguredNode). let q = get_or xs n entry_node in get_or lives q.place [])
-    c.as_slice-nodes.ensures.keys) mid c.node_in.new.ahead c.in_ok-found.found c.in_ok-found.ensures in
+    c.as_slice-nodes.ensures.keys) mid c.node_in.new.ahead c.in_ok-found.found c.in_ok-found.ensures.node in
     let none = subst (λ r. IsReadNode known n mid r c.node_in.new.ahead) c.in-None.is read in
     let count = c.loop-node.invariant.count in
     let here = c.loop-node-test.true in
@@ -59,7 +73,7 @@ loop-node-preserved c =
     let read = read_node laid c.args.body n extents given c.live_at-live.result.now nodes lives
     (c.deref.ensures.value ∙ c.in_ok-extents.ensures)
     (c.live_at-live.ensures ∙ ap (λ (xs : List ConfiguredNode). let q = get_or xs n entry_node in get_or lives q.place [])
-    c.as_slice-nodes.ensures.keys) mid new c.in_ok-found.found c.in_ok-found.ensures in
+    c.as_slice-nodes.ensures.keys) mid new c.in_ok-found.found c.in_ok-found.ensures.node in
     let at = c.in-Some.at in
     let some = subst (λ r. IsReadNode known n mid r new) c.in-Some.is read in
     let count = c.loop-node.invariant.count in
@@ -72,4 +86,18 @@ loop-node-preserved c =
           c.args.ahead.now mid new zs c.push.new.self.items at less c.loop-node.invariant.far
           (subst (λ k. IsRowIn node_lines_of (FitsNode known) EndsNode EndsTable k mid at new) (sym count) some)
           c.in_ok-push-in-Some.ensures.items;
+      kept = subst (λ r. IfSome r (λ x. IsKept laid c.in_ok-shape.shape c.node_in.new.kept)) c.in-Some.is
+          c.in_ok-found.ensures.kept;
     }
+
+pub returns : goal.returns
+returns c =
+    let laid = laid_tree c.args.laid.now in
+    let nodes = c.args.configured.now.nodes.keys in
+    let known = FitsNodes laid c.args.body (extents_in c.args.graph.now.edges.items) nodes c.args.known.now.live in
+    let past = c.loop-node-test.false in
+    let most = c.loop-node.auto.node-end in
+    let count = c.loop-node.invariant.count in
+    let keys = ap length c.as_slice-nodes.ensures.keys in
+    rows_all node_lines_of (FitsNode known) EndsNode EndsTable (length nodes) c.args.ahead.now c.loop-node.ahead
+    c.loop-node.table.items (omega (arith, past, most, count, keys)) c.loop-node.invariant.far

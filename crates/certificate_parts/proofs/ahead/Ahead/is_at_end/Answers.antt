@@ -7,7 +7,7 @@ pub returns-then-self : goal.returns-then-self
 returns-then-self c = (
   (λ t. (cc)),
   (λ n. absurd (not_ended c.args.self.now c.self.inside.has (words_of c.self.inside.words.items) c.self.inside.lines
-      (sym c.self.view_is) c.self.invariant c.if-self.true n)),
+      (sym c.self.view_is) c.self.invariant.0 c.if-self.true n)),
 )
 
 pub returns : goal.returns
