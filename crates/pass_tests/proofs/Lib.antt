@@ -1,1 +1,2 @@
 pub mod SameStores
+pub mod Without
