@@ -3,15 +3,14 @@ use Rattle.std.specs.Prelude.{◌≡◌, ◌≢◌, ◌↔◌, ◌⊎◌, ℕ, �
 use Rattle.std.proofs.Common.{sym, ap, subst, ◌∙◌, inl, inr, arith}
 use Rattle.std.proofs.lemmas.Int.{ints}
 use Rattle.std.proofs.lemmas.Bool.{cases_eq, false≢true}
-use Rattle.strided_dom.specs.Progression.{Progression, empty, single, Has, IsHull, IsLeastNumber}
-use Rattle.strided_dom.specs.Progression.{IsGreatestNumber, first_of, last_of}
+use Rattle.strided_dom.specs.Progression.{Progression, empty, single, Has, IsHull}
 use Rattle.strided_dom.specs.Combinations.{IsInEither}
 use Rattle.strided_dom.proofs.Members.{spaced_from, not_in_empty}
-use Rattle.pointer_dom.specs.OffsetSets.{OffsetSet, IsOffsetSet}
+use Rattle.pointer_dom.specs.OffsetSets.{OffsetSet, AreEnds}
 use Rattle.pointer_dom.specs.Selections.{IsStanding, AllStand}
 use Rattle.tm_laid.specs.Layouts.{laid_tree, is_alive, stands_at}
 use Rattle.calculations.specs.declared.dereferences.Followed.{Followed}
-use Rattle.calculations.specs.reading.Ends.{Alive, Stands, AreEnds, IsStandingBelow, IsStandingUpTo}
+use Rattle.calculations.specs.reading.Ends.{Alive, Stands, IsStandingBelow, IsStandingUpTo}
 
 -- a test in the code, and what it tests
 pub is_so : (a b : Bool) → a ≡ b → IsTrue b → a ≡ true
@@ -25,21 +24,6 @@ alive_so f object b e h = is_so b (is_alive (laid_tree f.laid.now) f.path object
 
 pub so_alive : (f : Followed) (object : ℕ) (b : Bool) → b ≡ is_alive (laid_tree f.laid.now) f.path object → b ≡ true → Alive f object
 so_alive f object b e h = so_is b (is_alive (laid_tree f.laid.now) f.path object) e h
-
-pub not_negative : (v : ℤ) → pos 0 ≤ℤ v → v ≡ pos (nat_abs v)
-not_negative v h = omega (arith, ints, h)
-
--- the ends of a set of offsets
-pub ends_are : (o : OffsetSet) (set : Progression) (lo hi : ℤ) → set ≡ o.offsets → IsOffsetSet o → set ≢ empty → IsLeastNumber (Has set) lo → lo ≡ first_of set
-    → IsGreatestNumber (Has set) hi → hi ≡ last_of set → AreEnds o (nat_abs lo) (nat_abs hi)
-ends_are o set lo hi same o-is some least first greatest last =
-    let low = o-is.within lo (subst (λ s. Has s lo) same least.member) in
-    let high = o-is.within hi (subst (λ s. Has s hi) same greatest.member) in
-    record {
-      some = λ none. some (same ∙ none);
-      first_is = ap first_of (sym same) ∙ sym first ∙ not_negative lo low.from;
-      last_is = ap last_of (sym same) ∙ sym last ∙ not_negative hi high.from;
-    }
 
 module _ (o : OffsetSet) (first last : ℕ) (ends : AreEnds o first last) where
   pub from_first : (v : ℤ) → Has o.offsets v → pos first ≤ℤ v

@@ -1,7 +1,7 @@
 //! Dereferences.
-ghost use Rattle.std.specs.Prelude.{◌≡◌, ◌↔◌, ◌≤◌, IsTrue, IfOk, MatchOption, length, false};
-ghost use Rattle.strided_dom.specs.Progression.{empty, IsHull};
-ghost use Rattle.pointer_dom.specs.OffsetSets.{IsOffsetsOf};
+ghost use Rattle.std.specs.Prelude.{◌≡◌, ◌↔◌, ◌≤◌, IsTrue, IfOk, length, false};
+ghost use Rattle.strided_dom.specs.Progression.{IsHull};
+ghost use Rattle.pointer_dom.specs.OffsetSets.{IsOffsetsOf, AreEnds};
 ghost use Rattle.pointer_dom.specs.Pointer.{Pointer};
 ghost use Rattle.pointer_dom.specs.PointerSets.{IsPointer};
 ghost use Rattle.pointer_dom.specs.Advances.{IsGiven};
@@ -9,18 +9,18 @@ ghost use Rattle.pointer_dom.specs.Selections.{IsHullOfPointers, IsTarget, Reach
 ghost use Rattle.pointer_dom.specs.Selections.{AllStandAt, AllStandIn};
 ghost use Rattle.tm_laid.specs.tm_typed.TypedFiles.{typed_file_tree};
 ghost use Rattle.tm_laid.specs.Layable.{IsLayable};
-ghost use Rattle.tm_laid.specs.Layouts.{laid_tree, is_alive, stands_at, path_at, is_on_path};
+ghost use Rattle.tm_laid.specs.Layouts.{laid_tree, is_alive, stands_at};
 ghost use Rattle.transfer_rows.specs.Actions.{dereferenced};
 ghost use Rattle.calculations.specs.Given.{IsCalculated};
-ghost use Rattle.calculations.specs.reading.Ends.{AreEnds, Alive, Stands};
+ghost use Rattle.calculations.specs.reading.Ends.{Alive, Stands};
 
 use crate::values::{Calculated, no_classes, pointers_of};
 use cell_env::State;
 use cell_types::stands_at;
-use pointer_dom::{AbsValue, Offsets, PointerSet, Reached};
+use pointer_dom::{AbsValue, Ends, Offsets, PointerSet, Reached};
 use std::alloc::Global;
 use strided_dom::Strided;
-use tm_laid::Laid;
+use tm_laid::{Laid, is_alive};
 use tm_lattice::{Keyed, Lattice, NoMemory};
 use transfer_int::Classes;
 
@@ -69,7 +69,7 @@ fn standing(followed: &Followed, object: u32, offsets: &Offsets) -> (Strided, bo
     ensures hull { IsHull (IsStanding (Stands followed.now object) offsets.now) result.0 }
     ensures all { IsTrue result.1 ↔ AllStand (Stands followed.now object) offsets.now }
 {
-    match ends_of(offsets) {
+    match offsets.ends() {
         None => (Strided::empty(), true),
         Some(Ends { first, last }) => standing_within(followed, object, offsets, first, last),
     }
@@ -128,60 +128,6 @@ fn reached(alloc: Global, followed: &Followed, pointers: &PointerSet) -> Result<
         pointers: PointerSet::from_parts(false, false, objects),
         may_fail: pointers.has_null() | pointers.has_invalid() | !all,
     })
-}
-
-// The first and the last offset of a set.
-#[derive(Clone, Copy)]
-struct Ends {
-    first: u32,
-    last: u32,
-}
-
-// The first and the last offset; none where there is none.
-fn ends_of(offsets: &Offsets) -> Option<Ends>
-    ensures { MatchOption result (offsets.now.offsets ≡ empty) (λ e. AreEnds offsets.now e.first e.last) }
-{
-    // The call tells that the size has 32 bits.
-    let _size = offsets.size();
-    let set = offsets.set();
-    if set.is_empty() {
-        return None;
-    }
-    Some(Ends {
-        first: set.lo() as u32,
-        last: set.hi() as u32,
-    })
-}
-
-// How many call paths begin with this one.
-fn paths_of(laid: &Laid, path: u32) -> u32
-    ensures { result ≡ (path_at (laid_tree laid.now) path).paths }
-{
-    match laid.paths.get(path as usize) {
-        Some(entry) => entry.paths,
-        None => 0,
-    }
-}
-
-// Whether a call path begins with another one.
-fn is_on_path(laid: &Laid, first: u32, path: u32) -> bool
-    ensures { result ≡ is_on_path (laid_tree laid.now) first path }
-{
-    let end = u64::from(first) + u64::from(paths_of(laid, first));
-    first <= path && u64::from(path) < end
-}
-
-// Whether an object is alive on a call path.
-fn is_alive(laid: &Laid, path: u32, object: u32) -> bool
-    ensures { result ≡ is_alive (laid_tree laid.now) path object }
-{
-    match laid.objects.get(object as usize) {
-        Some(entry) => match entry.owner {
-            Some(owner) => is_on_path(laid, owner, path),
-            None => true,
-        },
-        None => true,
-    }
 }
 
 /// A pointer that is followed: what it designates. Condition: the file can be laid out, and there are no more cells

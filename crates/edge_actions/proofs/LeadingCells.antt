@@ -8,10 +8,9 @@ use Rattle.std.specs.FinMap.{find, is_sorted, get, entries, get-entries, entries
 use Rattle.tm_lattice.specs.laws.Keys.{AllAbove, AllAbove-rest, is_sorted-rest, find-here, find-there}
 use Rattle.tm_lattice.specs.laws.Keys.{find_below, AllAbove-lower}
 use Rattle.std.proofs.lemmas.Int.{ints}
-use Rattle.strided_dom.specs.Progression.{Progression, Has, IsLeastNumber, IsGreatestNumber, first_of}
-use Rattle.strided_dom.specs.Progression.{last_of}
+use Rattle.strided_dom.specs.Progression.{Progression, Has}
 use Rattle.strided_dom.proofs.Members.{spaced_from, not_in_empty}
-use Rattle.pointer_dom.specs.OffsetSets.{OffsetSet, IsOffsetSet, no_offset}
+use Rattle.pointer_dom.specs.OffsetSets.{OffsetSet, AreEnds, no_offset}
 use Rattle.pointer_dom.specs.PointerSets.{Pointers, offsets_or_none, offsets_at}
 use Rattle.tm_typed.specs.declared.types.Scalar.{Scalar}
 use Rattle.tm_laid.specs.Layouts.{LaidTree, object_at, no_object, cell_at, cell_of, abstract_of}
@@ -21,7 +20,7 @@ use Rattle.transfer_rows.specs.Accesses.{has_number, leads, targets_at}
 use Rattle.transfer_rows.proofs.Leading.{number_is, is_number}
 use Rattle.edge_actions.specs.Layouts.{is_reachable, spot_at, spots_in, spots_before, spots_of}
 use Rattle.edge_actions.proofs.Lists.{decided}
-use Rattle.edge_actions.specs.reading.Spans.{cell_of_type, cells_led, IsSpanOf, AreEnds}
+use Rattle.edge_actions.specs.reading.Spans.{cell_of_type, cells_led, IsSpanOf}
 
 -- nothing where there is nothing
 both_nil : {A : Type 0} (b : Bool) → (let none : List A = [] in cond b none none ≡ none)
@@ -216,20 +215,6 @@ module _ (laid : LaidTree) (scalar : Scalar) (object : ℕ) (offsets : Progressi
       so ∙ ap (λ xs. before ++ xs) (sym (led_skip laid scalar object offsets n fails)) ∙ ap (λ k. before ++ cells_led laid scalar object offsets k) same
 
 -- ---- the span of a set of offsets
-
-not_negative : (v : ℤ) → pos 0 ≤ℤ v → v ≡ pos (nat_abs v)
-not_negative v h = omega (arith, ints, h)
-
-pub ends_are : (o : OffsetSet) (set : Progression) (lo hi : ℤ) → set ≡ o.offsets → IsOffsetSet o → set ≢ no_offset.offsets → IsLeastNumber (Has set) lo → lo ≡ first_of set
-    → IsGreatestNumber (Has set) hi → hi ≡ last_of set → AreEnds o (nat_abs lo) (nat_abs hi)
-ends_are o set lo hi same o-is some least first greatest last =
-    let low = o-is.within lo (subst (λ s. Has s lo) same least.member) in
-    let high = o-is.within hi (subst (λ s. Has s hi) same greatest.member) in
-    record {
-      some = λ none. some (same ∙ none);
-      first_is = ap first_of (sym same) ∙ sym first ∙ not_negative lo low.from;
-      last_is = ap last_of (sym same) ∙ sym last ∙ not_negative hi high.from;
-    }
 
 pub span_none : (offsets : Progression) (cells : ℕ) → offsets ≡ no_offset.offsets → IsSpanOf offsets cells 0 0
 span_none offsets cells none = record {

@@ -1,11 +1,10 @@
 //! The abstract cells that an access reaches.
-ghost use Rattle.std.specs.Prelude.{◌≡◌, ◌+◌, ◌++◌, min, eqb, pos, IfOk, MatchOption};
+ghost use Rattle.std.specs.Prelude.{◌≡◌, ◌+◌, ◌++◌, min, eqb, pos, IfOk};
 ghost use Rattle.std.specs.List.{list_all};
-ghost use Rattle.strided_dom.specs.Progression.{empty};
 ghost use Rattle.tm_laid.specs.Layouts.{laid_tree, object_at};
 ghost use Rattle.transfer_rows.specs.Accesses.{has_number, is_among, targets_at, single_of};
 ghost use Rattle.edge_actions.specs.Layouts.{spots_of, is_smashed_cell};
-ghost use Rattle.edge_actions.specs.reading.Spans.{AreEnds, IsSpanOf, cells_led, cell_of_type};
+ghost use Rattle.edge_actions.specs.reading.Spans.{IsSpanOf, cells_led, cell_of_type};
 
 use crate::places::{cell_at, is_reachable, is_same_scalar, is_smashed_cell, object_at};
 use crate::views::Targets;
@@ -87,29 +86,6 @@ struct Span {
     end: u32,
 }
 
-// The first and the last offset of a set.
-#[derive(Clone, Copy)]
-struct Ends {
-    first: u32,
-    last: u32,
-}
-
-// The first and the last offset; none where there is none.
-fn ends_of(offsets: &Offsets) -> Option<Ends>
-    ensures { MatchOption result (offsets.now.offsets ≡ empty) (λ e. AreEnds offsets.now e.first e.last) }
-{
-    // The call tells that the size has 32 bits.
-    let _size = offsets.size();
-    let set = offsets.set();
-    if set.is_empty() {
-        return None;
-    }
-    Some(Ends {
-        first: set.lo() as u32,
-        last: set.hi() as u32,
-    })
-}
-
 // One past the last offset, or the number of cells where that is less.
 fn end_of(last: u32, cells: u32) -> u32
     ensures { result ≡ min (last + 1) cells }
@@ -121,7 +97,7 @@ fn end_of(last: u32, cells: u32) -> u32
 fn span_of(offsets: &Offsets, cells: u32) -> Span
     ensures { IsSpanOf offsets.now.offsets cells result.first result.end }
 {
-    match ends_of(offsets) {
+    match offsets.ends() {
         None => Span { first: 0, end: 0 },
         Some(Ends { first, last }) => {
             let end = end_of(last, cells);

@@ -1,14 +1,16 @@
 -- Sets of offsets that are made from a strided set.
-use Rattle.std.proofs.Common.{◌≡◌, ◌≢◌, ℕ, ◌≤◌, max, List, ℤ, pos, nat_abs, refl, sym, subst, arith}
+use Rattle.std.proofs.Common.{◌≡◌, ◌≢◌, ℕ, ◌≤◌, ◌≤ℤ◌, max, List, ℤ, pos, nat_abs, refl, sym, ap, subst, ◌∙◌, arith}
 use Rattle.std.proofs.lemmas.Int.{ints}
 use Rattle.strided_dom.specs.Progression.{Progression, empty, single, Has, IsExactly, IsHull, IsSpaced}
+use Rattle.strided_dom.specs.Progression.{IsLeastNumber, IsGreatestNumber, first_of, last_of}
 use Rattle.strided_dom.specs.Combinations.{IsInBoth, IsInEither}
 use Rattle.strided_dom.specs.Rounding.{IsInRounding}
 use Rattle.strided_dom.proofs.low.tm_numbers.Congruences.{cong_up}
 use Rattle.strided_dom.proofs.Members.{not_in_empty}
 use Rattle.strided_dom.proofs.Spans.{exactly_same}
 use Rattle.pointer_dom.specs.Offset.{IsOffset, IsOffsetAmong, IsInRoundingWithin}
-use Rattle.pointer_dom.specs.OffsetSets.{OffsetSet, IsOffsetSet, IsOffsetsOf, no_offset, joined_offsets, rounded_offsets}
+use Rattle.pointer_dom.specs.OffsetSets.{OffsetSet, IsOffsetSet, IsOffsetsOf, AreEnds, no_offset, joined_offsets}
+use Rattle.pointer_dom.specs.OffsetSets.{rounded_offsets}
 use Rattle.pointer_dom.specs.laws.OffsetLaws.{same_hull, same_members}
 use Rattle.pointer_dom.specs.StridedSets.{hull, hull_is, rounding_within, rounding_within_is}
 
@@ -58,3 +60,19 @@ rounded_is marks size s outer all both h k exact =
     (λ v p. record { rounding = h.sound v p.0; offset = k.sound v p.1 }) (λ v p. (h.complete v p.rounding, k.complete v p.offset)) exact in
     let same = same_members (IsInRoundingWithin size marks s) both (rounding_within size marks s) here (rounding_within_is size marks s) in
     λ i. record { size = size; offsets = same i }
+
+not_negative : (v : ℤ) → pos 0 ≤ℤ v → v ≡ pos (nat_abs v)
+not_negative v h = omega (arith, ints, h)
+
+-- the ends of a set of offsets
+pub ends_are : (o : OffsetSet) (set : Progression) (lo hi : ℤ) → set ≡ o.offsets → IsOffsetSet o → set ≢ empty
+    → IsLeastNumber (Has set) lo → lo ≡ first_of set → IsGreatestNumber (Has set) hi → hi ≡ last_of set
+    → AreEnds o (nat_abs lo) (nat_abs hi)
+ends_are o set lo hi same o-is some least first greatest last =
+    let low = o-is.within lo (subst (λ s. Has s lo) same least.member) in
+    let high = o-is.within hi (subst (λ s. Has s hi) same greatest.member) in
+    record {
+      some = λ none. some (same ∙ none);
+      first_is = ap first_of (sym same) ∙ sym first ∙ not_negative lo low.from;
+      last_is = ap last_of (sym same) ∙ sym last ∙ not_negative hi high.from;
+    }

@@ -1,6 +1,6 @@
 -- Sets of offsets in one object: what an `Offsets` is in every contract.
-use Rattle.std.specs.Prelude.{◌≡◌, ◌≢◌, ℕ, ◌≤◌, max, List, ℤ}
-use Rattle.strided_dom.specs.Progression.{Progression, empty, Has, IsSubset, IsExactly}
+use Rattle.std.specs.Prelude.{◌≡◌, ◌≢◌, ℕ, ◌≤◌, max, List, ℤ, pos}
+use Rattle.strided_dom.specs.Progression.{Progression, empty, Has, IsSubset, IsExactly, first_of, last_of}
 use Rattle.pointer_dom.specs.Offset.{IsOffset}
 use Rattle.pointer_dom.specs.StridedSets.{hull, rounding_within}
 
@@ -27,6 +27,12 @@ pub record IsOffsetsOf (size : ℕ) (P : ℤ → Type 0) (o : OffsetSet) : Type 
   pub offsets : IsExactly P o.offsets
   pub some : o.offsets ≢ empty → o.size ≡ size
   pub none : o.offsets ≡ empty → o.size ≡ 0
+
+-- There are offsets, and these are the first and the last.
+pub record AreEnds (o : OffsetSet) (first last : ℕ) : Type 0 where
+  pub some : o.offsets ≢ empty
+  pub first_is : first_of o.offsets ≡ pos first
+  pub last_is : last_of o.offsets ≡ pos last
 
 -- The order goes part by part: sizes as numbers, offsets by inclusion.
 pub record IsOffsetsBelow (o p : OffsetSet) : Type 0 where

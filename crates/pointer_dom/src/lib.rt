@@ -21,5 +21,5 @@ pub use abs_value::{AbsValue, Parts};
 pub use advances::Reached;
 pub use comparisons::{PointerValue, equality};
 pub use dereferences::Layout;
-pub use offsets::Offsets;
+pub use offsets::{Ends, Offsets};
 pub use pointer_set::PointerSet;

@@ -1,14 +1,21 @@
 //! Sets of offsets in one object.
-ghost use Rattle.std.specs.Prelude.{◌≡◌, ◌↔◌, ◌≤◌, IsTrue, IfOk, pos, min};
-ghost use Rattle.strided_dom.specs.Progression.{single, IsExactly};
+ghost use Rattle.std.specs.Prelude.{◌≡◌, ◌↔◌, ◌≤◌, IsTrue, IfOk, MatchOption, pos, min};
+ghost use Rattle.strided_dom.specs.Progression.{empty, single, IsExactly};
 ghost use Rattle.strided_dom.specs.Combinations.{IsInBoth};
 ghost use Rattle.pointer_dom.specs.Offset.{IsOffset, IsOffsetAmong};
-ghost use Rattle.pointer_dom.specs.OffsetSets.{IsOffsetSet, IsOffsetsOf, no_offset};
+ghost use Rattle.pointer_dom.specs.OffsetSets.{IsOffsetSet, IsOffsetsOf, AreEnds, no_offset};
 
 use std::alloc::Global;
 use std::marker::Model;
 use strided_dom::{Marks, Strided};
 use tm_lattice::{Lattice, NoMemory};
+
+/// The first and the last offset of a set.
+#[derive(Clone, Copy)]
+pub struct Ends {
+    pub first: u32,
+    pub last: u32,
+}
 
 /// A set of offsets in an object, with the size of the object. Both count scalar cells, and each offset lies from 0 to
 /// the size: one past the last cell is an offset too (C99 6.5.6). The empty set has the size 0.
@@ -76,6 +83,22 @@ impl Offsets {
         ensures within { IsOffsetSet self.now }
     {
         self.set
+    }
+
+    /// The first and the last offset; None where there is none.
+    pub fn ends(&self) -> Option<Ends>
+        ensures { MatchOption result (self.now.offsets ≡ empty) (λ e. AreEnds self.now e.first e.last) }
+    {
+        // The calls tell that the size has 32 bits, and that each offset lies from 0 to it.
+        let _size = self.size();
+        let set = self.set();
+        if set.is_empty() {
+            return None;
+        }
+        Some(Ends {
+            first: set.lo() as u32,
+            last: set.hi() as u32,
+        })
     }
 
     /// The offsets in both sets, with the lesser of the sizes.

@@ -7,11 +7,13 @@
 
 mod cells;
 mod layouts;
+mod lives;
 mod objects;
 mod paths;
 
 pub use cells::{AbstractCell, LaidCell};
 pub use layouts::Laid;
+pub use lives::is_alive;
 pub use objects::{DeclaredObject, Initial, LaidObject};
 pub use paths::{CallPath, Caller};
 pub use tm_typed::{Place, Scalar, Unary};

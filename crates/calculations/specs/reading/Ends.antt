@@ -1,6 +1,6 @@
--- How a pointer is followed, the first and the last offset of a set, and what was found of the offsets below a number.
-use Rattle.std.specs.Prelude.{◌≡◌, ◌≢◌, ◌↔◌, ℕ, ◌<◌, ℤ, pos, Bool, IsTrue}
-use Rattle.strided_dom.specs.Progression.{Progression, empty, Has, IsHull, first_of, last_of}
+-- How a pointer is followed, and what was found of the offsets below a number.
+use Rattle.std.specs.Prelude.{◌≡◌, ◌↔◌, ℕ, ◌<◌, ℤ, pos, Bool, IsTrue}
+use Rattle.strided_dom.specs.Progression.{Progression, Has, IsHull}
 use Rattle.pointer_dom.specs.OffsetSets.{OffsetSet}
 use Rattle.tm_laid.specs.Layouts.{laid_tree, is_alive, stands_at}
 use Rattle.calculations.specs.declared.dereferences.Followed.{Followed}
@@ -12,12 +12,6 @@ Alive f object = IsTrue (is_alive (laid_tree f.laid.now) f.path object)
 -- the type stands at the offset
 abbrev pub Stands : Followed → ℕ → ℕ → Type 0
 Stands f object offset = IsTrue (stands_at (laid_tree f.laid.now) object offset f.target)
-
--- there are offsets, and these are the first and the last
-pub record AreEnds (o : OffsetSet) (first last : ℕ) : Type 0 where
-  pub some : o.offsets ≢ empty
-  pub first_is : first_of o.offsets ≡ pos first
-  pub last_is : last_of o.offsets ≡ pos last
 
 -- v is one of the offsets below the end, and the type stands there
 pub record IsStandingBelow (StandsThere : ℕ → Type 0) (o : OffsetSet) (end : ℕ) (v : ℤ) : Type 0 where

@@ -1,7 +1,6 @@
 -- The cells that the offsets of a pointer reach in one object.
-use Rattle.std.specs.Prelude.{◌≡◌, ◌≢◌, ℕ, zero, suc, ◌<◌, ◌≤◌, pos, cond, List, [], ◌∷◌, ◌++◌}
-use Rattle.strided_dom.specs.Progression.{Progression, empty, Has, first_of, last_of}
-use Rattle.pointer_dom.specs.OffsetSets.{OffsetSet}
+use Rattle.std.specs.Prelude.{ℕ, zero, suc, ◌<◌, ◌≤◌, pos, cond, List, [], ◌∷◌, ◌++◌}
+use Rattle.strided_dom.specs.Progression.{Progression, Has}
 use Rattle.tm_typed.specs.declared.types.Scalar.{Scalar}
 use Rattle.tm_laid.specs.Layouts.{LaidTree, cell_at, cell_of, abstract_of, is_same_scalar}
 use Rattle.transfer_rows.specs.Accesses.{has_number}
@@ -25,9 +24,3 @@ pub record IsSpanOf (offsets : Progression) (cells first end : ℕ) : Type 0 whe
   pub within : end ≤ cells
   pub before : (k : ℕ) → k < first → Has offsets (pos k) → ⊥
   pub behind : (k : ℕ) → end ≤ k → k < cells → Has offsets (pos k) → ⊥
-
--- there are offsets, and these are the first and the last
-pub record AreEnds (o : OffsetSet) (first last : ℕ) : Type 0 where
-  pub some : o.offsets ≢ empty
-  pub first_is : first_of o.offsets ≡ pos first
-  pub last_is : last_of o.offsets ≡ pos last
