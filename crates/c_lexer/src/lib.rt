@@ -19,3 +19,5 @@ mod splices;
 mod words;
 
 pub use lexing::lex;
+pub use pieces::begins;
+pub use places::{bare_after, place_after};
