@@ -96,6 +96,7 @@ module _ {V M : Type 0} (values : lattice.Ghosts V M) (suits : ℕ → V → Typ
       constraints = rise.constraints ∙ length-set pending k false;
       round = rise.round;
       done = all_done;
+      risen = rise.above;
       least = λ other closed below.
           rise.below other closed below (λ j j-lt.
           let i = target sys k j in

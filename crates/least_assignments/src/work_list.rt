@@ -1,7 +1,7 @@
 //! The work list.
 ghost use Rattle.std.specs.Prelude.{◌≡◌, ◌<◌, ℕ, length, true, false, slice_index_or, IfOk, IfSome, IsTrue, MatchBool};
 ghost use Rattle.std.specs.Prelude.{MatchOption, None};
-ghost use Rattle.least_assignments.specs.Constraints.{at};
+ghost use Rattle.least_assignments.specs.Constraints.{at, IsPointwiseBelow};
 ghost use Rattle.least_assignments.specs.Solutions.{AreRound, IsClosed, IsLeast, AreAllowed, IsRefused};
 ghost use Rattle.least_assignments.specs.Solutions.{AreDoneOrPending, IsLeastAbove};
 ghost use Rattle.least_assignments.specs.reading.WorkLists.{IsStep};
@@ -59,6 +59,8 @@ pub fn settle<C: ConstraintSystem>(
     ensures allowed { IfOk result (λ found. IfSome found (λ last.
         AreAllowed C.Value.Lattice (C.fits system.now) (C.allows system.now) (C.system_of system.now)
         (at last.items))) }
+    ensures risen { IfOk result (λ found. IfSome found (λ last.
+        IsPointwiseBelow (C.system_of system.now) C.Value.leq (at values.items) (at last.items))) }
     ensures least { IfOk result (λ found. IfSome found (λ last.
         IsLeastAbove C.Value.Lattice (C.fits system.now) (C.allows system.now) (C.system_of system.now)
         (at values.items) (at last.items))) }
@@ -95,6 +97,8 @@ fn run<C: ConstraintSystem>(
     ensures allowed { IfOk result (λ settled. IsTrue settled
         → AreAllowed C.Value.Lattice (C.fits system.now) (C.allows system.now) (C.system_of system.now)
         (at values.new)) }
+    ensures risen { IfOk result (λ settled. IsTrue settled
+        → IsPointwiseBelow (C.system_of system.now) C.Value.leq (at values.old) (at values.new)) }
     ensures least { IfOk result (λ settled. IsTrue settled
         → IsLeastAbove C.Value.Lattice (C.fits system.now) (C.allows system.now) (C.system_of system.now)
         (at values.old) (at values.new)) }

@@ -57,5 +57,6 @@ module _ {V M : Type 0} (values : lattice.Ghosts V M) (suits : ℕ → V → Typ
       pub constraints : length later ≡ length pending
       pub round : AreRound values suits allows sys (at ys)
       pub done : AreDoneOrPending values suits allows sys (at ys) later
+      pub risen : Under (at xs) (at ys)
       pub least : IsLeastAbove values suits allows sys (at xs) (at ys)
       pub smaller : left ys later < left xs pending
