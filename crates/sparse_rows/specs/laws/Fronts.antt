@@ -12,7 +12,8 @@ use Rattle.transfer_rows.specs.Actions.{locks, unlocks, yields, probes, usable, 
 use Rattle.transfer_rows.specs.Actions.{Calculation, constant, copied, negated, complemented, operated, converted}
 use Rattle.transfer_rows.specs.Actions.{compared, part, element, moved, dereferenced}
 use Rattle.transfer_rows.specs.Rows.{holds}
-use Rattle.transfer_rows.specs.Reports.{targets_of, CalculationMayFail, FilterMayFail, IsListed, left_by, weak_of, sync_of}
+use Rattle.transfer_rows.specs.Reports.{targets_of, CalculationMayFail, FilterMayFail, IsListed, left_by, weak_of}
+use Rattle.transfer_rows.specs.Reports.{sync_of}
 use Rattle.transfer_rows.specs.Contributions.{cells_added, nested_under, added}
 
 module _ (p : Table Temp) (c d : Table Cell) where

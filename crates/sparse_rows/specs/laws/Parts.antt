@@ -11,7 +11,8 @@ use Rattle.transfer_rows.specs.cell_env.States.{joined_state, rounded_state}
 use Rattle.transfer_rows.specs.cell_env.laws.CellLaws.{cell_order}
 use Rattle.transfer_rows.specs.interfere_set.pointer_dom.Values.{IsValues, IsValuesBelow, joined_values, rounded_values}
 use Rattle.transfer_rows.specs.interfere_set.pointer_dom.laws.ValueLaws.{values_order}
-use Rattle.transfer_rows.specs.StateForms.{Temp, Cell, State, IsTempUnder, IsCellForm, IsCellUnder, IsStateForm, IsStateUnder}
+use Rattle.transfer_rows.specs.StateForms.{Temp, Cell, State, IsTempUnder, IsCellForm, IsCellUnder, IsStateForm}
+use Rattle.transfer_rows.specs.StateForms.{IsStateUnder}
 use Rattle.sparse_tables.specs.Sparse.{Parts, Placing, AreParts}
 use Rattle.sparse_rows.specs.StateParts.{states, state_parts}
 

@@ -1,5 +1,6 @@
 -- Operations, joins and roundings keep copies and fresh cells among those that may be.
-use Rattle.std.specs.Prelude.{◌≡◌, ℕ, Bool, true, false, ◌&&◌, ◌||◌, not, cond, eqb, List, [], ◌∷◌, Option, Some, None, refl, pos, unwrap_or, ◌==◌, ℤ}
+use Rattle.std.specs.Prelude.{◌≡◌, ℕ, Bool, true, false, ◌&&◌, ◌||◌, not, cond, eqb, List, [], ◌∷◌, Option, Some, None}
+use Rattle.std.specs.Prelude.{refl, pos, unwrap_or, ◌==◌, ℤ}
 use Rattle.std.proofs.Common.{sym, ap, subst, ◌∙◌, inl, inr, IfSome}
 use Rattle.std.specs.FinMap.{get, insert}
 use Rattle.std.specs.Option.{option_map}
