@@ -18,11 +18,11 @@ ghost use Rattle.sparse_rows.specs.Checks.{AreChecked};
 pub fn sparse_tables_are_least()
     ensures { (b : Body) (sorts : List Sort) → IsBody b sorts → (tasks : ℕ) (store : Interferences)
         → FitsStore b.laid tasks store → (entry : Option State) → IfSome entry (FitsBody b 0)
-        → (place : Placing) (copies : ℕ → ℕ → Bool) (fresh : ℕ → Bool) (table : NodeTable State)
+        → (place : Placing) (copies : ℕ → ℕ → Bool) (fresh : ℕ → Bool) (pending : ℕ → ℕ) (table : NodeTable State)
         → IsPlaced states (FitsBody b) (equations_of b entry store) state_parts place
         → AreChecked (FitsBody b) (equations_of b entry store) (λ e. around_along b (copy_at b e))
-        (λ e. action_along b (copy_at b e)) store place copies fresh table
-        → IfSome entry (IsTraced copies fresh)
+        (λ e. action_along b (copy_at b e)) store place copies fresh pending table
+        → IfSome entry (IsTraced copies fresh pending)
         → IsSparseLeast states (FitsBody b) (equations_of b entry store) state_parts place table
         → IsLeastSolution states (FitsBody b) (equations_of b entry store) table }
 {}

@@ -1,5 +1,5 @@
 -- The parts of a state: the temporaries are its front.
-use Rattle.std.specs.Prelude.{ℕ, ℤ, List, Option}
+use Rattle.std.specs.Prelude.{ℤ, List, Option}
 use Rattle.std.specs.FinMap.{get}
 use Rattle.sparse_tables.specs.table_covers.tm_lattice.declared.lattices.Lattice as lattice
 use Rattle.sparse_tables.specs.table_covers.tm_lattice.Tables.{Table, IsBelow, IsTableBelow}

@@ -70,16 +70,16 @@ module _ (b : Body) (sorts : List Sort) (is : IsBody b sorts) (tasks : ℕ) (sto
     }
 
     -- The law: the least sparse table of a body is the least solution of its equations.
-    pub sparse_body_is_least : (place : Placing) (copies : ℕ → ℕ → Bool) (fresh : ℕ → Bool) (table : NodeTable State)
+    pub sparse_body_is_least : (place : Placing) (copies : ℕ → ℕ → Bool) (fresh : ℕ → Bool) (pending : ℕ → ℕ) (table : NodeTable State)
         → IsPlaced states (FitsBody b) (equations_of b entry store) state_parts place
         → AreChecked (FitsBody b) (equations_of b entry store) (λ e. around_along b (copy_at b e))
-        (λ e. action_along b (copy_at b e)) store place copies fresh table
-        → IfSome entry (IsTraced copies fresh)
+        (λ e. action_along b (copy_at b e)) store place copies fresh pending table
+        → IfSome entry (IsTraced copies fresh pending)
         → IsSparseLeast states (FitsBody b) (equations_of b entry store) state_parts place table
         → IsLeastSolution states (FitsBody b) (equations_of b entry store) table
-    sparse_body_is_least place copies fresh table placed checked traced sparse =
+    sparse_body_is_least place copies fresh pending table placed checked traced sparse =
         bodies.checked_is_least (FitsBody b) (equations_of b entry store) (λ e. around_along b (copy_at b e))
         (λ e. action_along b (copy_at b e)) (λ e. (let c = copy_at b e in is_some c.to)) store b.marks (cells_at b)
-        rows place copies fresh states_order states_join
+        rows place copies fresh pending states_order states_join
         (lawful.equations_are_lawful b sorts is tasks store store_fits entry entry_fits) placed table checked traced
         sparse

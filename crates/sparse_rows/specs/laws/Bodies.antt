@@ -40,7 +40,7 @@ pub record AreRows (suits : ℕ → State → Type 0) (sys : System State) (arou
 module _ (suits : ℕ → State → Type 0) (sys : System State) (around : ℕ → Around) (action : ℕ → Action)
     (leads : ℕ → Bool) (store : Interferences) (marks : List ℤ) (keys : ℕ → Option (List ℕ))
     (rows : AreRows suits sys around action leads store marks keys) (place : Placing) (copies : ℕ → ℕ → Bool)
-    (fresh : ℕ → Bool) (order : IsOrder states.is_value states.leq)
+    (fresh : ℕ → Bool) (pending : ℕ → ℕ) (order : IsOrder states.is_value states.leq)
     (join : IsJoin states.is_value states.leq states.joined)
     (law : IsLawfulSystem states.is_value states.leq states.joined suits sys)
     (placed : IsPlaced states suits sys state_parts place) where
@@ -48,7 +48,7 @@ module _ (suits : ℕ → State → Type 0) (sys : System State) (around : ℕ �
   from e = from_of sys.links e
 
   abbrev Traced : State → Type 0
-  Traced s = IsTraced copies fresh s
+  Traced s = IsTraced copies fresh pending s
 
   same_temps : (marks : List ℤ) (cells : Option (List ℕ)) (s : State)
       → (let t = rounded_to marks cells s in t.temps ≡ s.temps)
@@ -57,7 +57,7 @@ module _ (suits : ℕ → State → Type 0) (sys : System State) (around : ℕ �
 
   rounded_is : (cells : Option (List ℕ)) (s : State) → Traced s → Traced (rounded_to marks cells s)
   rounded_is None s h = h
-  rounded_is (Some cells) s h = rounded_traced copies fresh marks cells s h
+  rounded_is (Some cells) s h = rounded_traced copies fresh pending marks cells s h
 
   led_keeps : (b : Bool) (x : ℕ) (s : State) (y : Option State) → IfSame (get s.cells x) x y
       → KeepsCell states suits sys state_parts place x s (cond b y None)
@@ -69,7 +69,7 @@ module _ (suits : ℕ → State → Type 0) (sys : System State) (around : ℕ �
   led_traced true y h = h
   led_traced false y h = tt
 
-  module _ (table : NodeTable State) (checked : AreChecked suits sys around action store place copies fresh table) where
+  module _ (table : NodeTable State) (checked : AreChecked suits sys around action store place copies fresh pending table) where
     -- a traced state below the table's is framed
     framed_at : (e : ℕ) → e < edge_count states suits sys → (s : State) → Traced s → suits (from e) s
         → (y : Option State) → table (from e) ≡ y → IfSome y (suits (from e)) → IsBelow IsStateUnder (Some s) y
@@ -79,7 +79,7 @@ module _ (suits : ℕ → State → Type 0) (sys : System State) (around : ℕ �
         subst (KeepsCell states suits sys state_parts place x s) (sym (rows.after_is e s lt))
         (led_keeps (leads e) x s (after (around e) (action e) s store)
         (rows_frame x (around e) (action e) s store
-        (checked_leaves (around e) (place.touches e) (place.looks e) copies fresh s d traced (rows.form (from e) s s-fits)
+        (checked_leaves (around e) (place.touches e) (place.looks e) copies fresh pending s d traced (rows.form (from e) s s-fits)
         (rows.form (from e) d d-fits) le (action e) store (checked e lt d is) x other)))
 
     makes_at : (e : ℕ) → e < edge_count states suits sys → (s : State) → Traced s → suits (from e) s
@@ -89,8 +89,8 @@ module _ (suits : ℕ → State → Type 0) (sys : System State) (around : ℕ �
     makes_at e lt s traced s-fits (Some d) is d-fits le =
         subst (λ a. IfSome a Traced) (sym (rows.after_is e s lt))
         (led_traced (leads e) (after (around e) (action e) s store)
-        (after_traced copies fresh (around e) (action e) s store traced
-        (checked_makes (around e) (place.touches e) (place.looks e) copies fresh s d traced (rows.form (from e) s s-fits)
+        (after_traced copies fresh pending (around e) (action e) s store traced
+        (checked_makes (around e) (place.touches e) (place.looks e) copies fresh pending s d traced (rows.form (from e) s s-fits)
         (rows.form (from e) d d-fits) le (action e) store (checked e lt d is))))
 
     -- where the table's own states are traced, its edges are framed in them
@@ -117,7 +117,7 @@ module _ (suits : ℕ → State → Type 0) (sys : System State) (around : ℕ �
           entry = entry;
           after = λ e s lt fits traced le. makes_at e lt s traced fits (table (from e)) refl
               (sparse.closed.fits (from e) (law.from_node e lt)) le;
-          joined = λ n s t s-fits t-fits h k. joined_traced copies fresh s t h k;
+          joined = λ n s t s-fits t-fits h k. joined_traced copies fresh pending s t h k;
           outward = λ n s fits h. subst Traced (sym (rows.outward_is n s)) (rounded_is (keys n) s h);
         }
         (λ e lt s h. framed_at e lt s h.is h.fits (table (from e)) refl

@@ -5,43 +5,41 @@ use Rattle.std.specs.FinMap.{get}
 use Rattle.std.specs.Int.{bit_at}
 use Rattle.std.proofs.lemmas.Nat.Bits.{same_from_bits, bit_at_or, bit_at_and}
 use Rattle.std.proofs.lemmas.Bool.{true≢false}
-use Rattle.transfer_rows.specs.cell_env.tm_lattice.Tables.{IsBelow}
 use Rattle.transfer_rows.specs.cell_env.Cells.{IsWithin}
 use Rattle.transfer_rows.specs.interfere_set.Stores.{Interferences}
-use Rattle.transfer_rows.specs.StateForms.{Cell, State, Temp, IsStateForm, IsStateUnder, IsCellUnder, value_of}
+use Rattle.transfer_rows.specs.StateForms.{Cell, State, Temp, IsStateForm, IsStateUnder, value_of}
 use Rattle.transfer_rows.specs.Accesses.{is_among, targets_at}
 use Rattle.transfer_rows.specs.Actions.{Around, Action, skips, gives, refines, loads, loads_any, stores, clears}
 use Rattle.transfer_rows.specs.Actions.{locks, unlocks, yields, probes}
-use Rattle.transfer_rows.specs.Meanings.{IsFiltered}
 use Rattle.transfer_rows.specs.Rows.{aged, released, taken, without}
 use Rattle.transfer_rows.specs.Reports.{targets_of}
 use Rattle.transfer_rows.proofs.RowsRise.{target_rises}
 use Rattle.sparse_rows.specs.Checks.{IsChecked}
 use Rattle.sparse_rows.specs.Looked.{Looks, IsCopyIn}
 use Rattle.sparse_rows.specs.Touched.{Leaves, IsNoCopy, IsKeptBy}
-use Rattle.sparse_rows.specs.Traces.{IsTraced, AreCopies, IsFreshAt, Makes}
+use Rattle.sparse_rows.specs.Traces.{IsTraced, AreCopies, IsFreshAt, IsPendingAt, Makes}
 
-module _ (around : Around) (touch looks : ℕ → Bool) (copies : ℕ → ℕ → Bool) (fresh : ℕ → Bool) where
+module _ (around : Around) (touch looks : ℕ → Bool) (copies : ℕ → ℕ → Bool) (fresh : ℕ → Bool) (pending : ℕ → ℕ) where
   abbrev Checked : Action → State → Interferences → Type 0
-  Checked action s store = IsChecked around touch looks copies fresh action s store
+  Checked action s store = IsChecked around touch looks copies fresh pending action s store
 
   false_where : (b c : Bool) → (b ≡ true → c ≡ true) → c ≡ false → b ≡ false
   false_where true c h other = absurd (true≢false (sym (h refl) ∙ other))
   false_where false c h other = refl
 
-  module _ (s d : State) (traced : IsTraced copies fresh s) (s-is : IsStateForm s) (d-is : IsStateForm d)
+  module _ (s d : State) (traced : IsTraced copies fresh pending s) (s-is : IsStateForm s) (d-is : IsStateForm d)
       (le : IsStateUnder s d) where
     fewer : (action : Action) (x : ℕ) → is_among (targets_of action s) x ≡ true
         → is_among (targets_of action d) x ≡ true
     fewer action x = (target_rises around s d s-is d-is le action).among x
 
     no_copy : (t x : ℕ) → ((y : ℕ) → copies t y ≡ true → touch y ≡ true) → touch x ≡ false → (a : Option Temp)
-        → AreCopies copies fresh t a → IsNoCopy a x
+        → AreCopies copies fresh pending t a → IsNoCopy a x
     no_copy t x within other None h = tt
     no_copy t x within other (Some e) h = λ is. true≢false (sym (within x (h x is)) ∙ other)
 
     copy_in : (t : ℕ) → ((y : ℕ) → copies t y ≡ true → looks y ≡ true) → (a : Option Temp)
-        → AreCopies copies fresh t a → IsCopyIn looks a
+        → AreCopies copies fresh pending t a → IsCopyIn looks a
     copy_in t within None h = tt
     copy_in t within (Some e) h = λ x is. within x (h x is)
 
@@ -49,7 +47,7 @@ module _ (around : Around) (touch looks : ℕ → Bool) (copies : ℕ → ℕ �
     not_fresh x other c h =
         ap (λ (b : Bool). record c { fresh = b }) (sym (false_where c.fresh (fresh x) h other))
 
-    aged_same : (x : ℕ) → fresh x ≡ false → (a : Option Cell) → IsFreshAt copies fresh x a → IsKeptBy aged a
+    aged_same : (x : ℕ) → fresh x ≡ false → (a : Option Cell) → IsFreshAt copies fresh pending x a → IsKeptBy aged a
     aged_same x other None h = tt
     aged_same x other (Some c) h = not_fresh x other c h
 
@@ -58,7 +56,7 @@ module _ (around : Around) (touch looks : ℕ → Bool) (copies : ℕ → ℕ �
     any_kept f h (Some c) = h c
 
     lock_kept : (store : Interferences) (m x : ℕ) → fresh x ≡ false → ((c : Cell) → taken around store m x c ≡ c)
-        → (a : Option Cell) → IsFreshAt copies fresh x a → IsKeptBy (λ c. aged (taken around store m x c)) a
+        → (a : Option Cell) → IsFreshAt copies fresh pending x a → IsKeptBy (λ c. aged (taken around store m x c)) a
     lock_kept store m x other same None h = tt
     lock_kept store m x other same (Some c) h = ap aged (same c) ∙ not_fresh x other c h
 
@@ -75,13 +73,11 @@ module _ (around : Around) (touch looks : ℕ → Bool) (copies : ℕ → ℕ �
             let under : min b k ≡ b = sym (bit_at_and q (65535 - 2 ^ m) i) ∙ ap (λ n. bit_at n i) same in
             bit_at_and p (65535 - 2 ^ m) i ∙ omega (arith, above, under)
 
-    release_kept : (m : ℕ) (a b : Option Cell) → IsBelow IsCellUnder a b → IsKeptBy (released m) b
-        → IsKeptBy (released m) a
-    release_kept m None b below kept = tt
-    release_kept m (Some c) None below kept = absurd below
-    release_kept m (Some c) (Some e) below kept =
-        ap (λ (n : ℕ). record c { pending = n })
-        (without_same c.pending e.pending m below.pending (ap (λ (z : Cell). z.pending) kept))
+    release_kept : (m x : ℕ) → without (pending x) m ≡ pending x → (a : Option Cell)
+        → IsPendingAt copies fresh pending x a → IsKeptBy (released m) a
+    release_kept m x same None h = tt
+    release_kept m x same (Some c) h =
+        ap (λ (n : ℕ). record c { pending = n }) (without_same c.pending (pending x) m h same)
 
     -- what was checked above says that the operation leaves below what it does not touch
     pub checked_leaves : (action : Action) (store : Interferences) → Checked action d store → (x : ℕ)
@@ -100,7 +96,7 @@ module _ (around : Around) (touch looks : ℕ → Bool) (copies : ℕ → ℕ �
     checked_leaves (locks m) store h x other =
         lock_kept store m x (h x other).0 (h x other).1 (get s.cells x) (traced.aged x)
     checked_leaves (unlocks m) store h x other =
-        release_kept m (get s.cells x) (get d.cells x) (le.cells x) (h x other)
+        release_kept m x (h x other) (get s.cells x) (traced.held x)
     checked_leaves yields store h x other = aged_same x (h x other) (get s.cells x) (traced.aged x)
     checked_leaves (probes m target true) store h x other = tt
     checked_leaves (probes m target false) store h x other =
@@ -124,7 +120,7 @@ module _ (around : Around) (touch looks : ℕ → Bool) (copies : ℕ → ℕ �
     checked_looks all (probes m target answer) store h = tt
 
     pub checked_makes : (action : Action) (store : Interferences) → Checked action d store
-        → Makes copies fresh action s
+        → Makes copies fresh pending around action s
     unfolding IsChecked Makes targets_of
     checked_makes skips store h = tt
     checked_makes (gives target calculation) store h = tt
@@ -133,7 +129,7 @@ module _ (around : Around) (touch looks : ℕ → Bool) (copies : ℕ → ℕ �
         λ x among. (h x (fewer (loads spots target address) x among)).1
     checked_makes (loads_any spots target address range) store h = tt
     checked_makes (stores spots address source) store h =
-        λ x among. (h x (fewer (stores spots address source) x among)).1
+        λ x among. (let c = h x (fewer (stores spots address source) x among) in (c.1, c.2))
     checked_makes (clears cleared) store h = tt
     checked_makes (locks m) store h = tt
     checked_makes (unlocks m) store h = tt

@@ -1,19 +1,16 @@
 -- The states of tasks are made of temporaries and cells.
-use Rattle.std.specs.Prelude.{◌≡◌, ℕ, ℤ, List, Option, Some, None}
+use Rattle.std.specs.Prelude.{◌≡◌, ℕ, Option, Some, None}
 use Rattle.std.proofs.Common.{ap, ◌∙◌}
 use Rattle.std.specs.FinMap.{get}
-use Rattle.sparse_tables.specs.table_covers.tm_lattice.declared.lattices.Lattice as lattice
-use Rattle.sparse_tables.specs.table_covers.tm_lattice.Tables.{Table, IsEntry, IsBelow, IsTableBelow}
+use Rattle.sparse_tables.specs.table_covers.tm_lattice.Tables.{Table, IsEntry, IsBelow}
 use Rattle.sparse_tables.specs.table_covers.tm_lattice.LatticeLaws.{IsOrder}
 use Rattle.sparse_tables.specs.table_covers.tm_lattice.laws.TableLaws.{same_table}
 use Rattle.sparse_tables.specs.table_covers.Systems.{System}
-use Rattle.transfer_rows.specs.cell_env.States.{joined_state, rounded_state}
 use Rattle.transfer_rows.specs.cell_env.laws.CellLaws.{cell_order}
-use Rattle.transfer_rows.specs.interfere_set.pointer_dom.Values.{IsValues, IsValuesBelow, joined_values, rounded_values}
+use Rattle.transfer_rows.specs.interfere_set.pointer_dom.Values.{IsValues, IsValuesBelow}
 use Rattle.transfer_rows.specs.interfere_set.pointer_dom.laws.ValueLaws.{values_order}
-use Rattle.transfer_rows.specs.StateForms.{Temp, Cell, State, IsTempUnder, IsCellForm, IsCellUnder, IsStateForm}
-use Rattle.transfer_rows.specs.StateForms.{IsStateUnder}
-use Rattle.sparse_tables.specs.Sparse.{Parts, Placing, AreParts}
+use Rattle.transfer_rows.specs.StateForms.{Temp, Cell, State, IsCellForm, IsCellUnder, IsStateForm}
+use Rattle.sparse_tables.specs.Sparse.{Placing, AreParts}
 use Rattle.sparse_rows.specs.StateParts.{states, state_parts}
 
 cells_order : IsOrder IsCellForm IsCellUnder
