@@ -8,7 +8,7 @@ ghost use Rattle.edge_actions.specs.reading.Spans.{IsSpanOf, cells_led, cell_of_
 
 use crate::places::{cell_at, is_reachable, is_same_scalar, is_smashed_cell, object_at};
 use crate::views::Targets;
-use pointer_dom::{Offsets, PointerSet};
+use pointer_dom::{Ends, Offsets, PointerSet};
 use std::alloc::Global;
 use tm_laid::Laid;
 use tm_lattice::NoMemory;
