@@ -1,7 +1,7 @@
 -- What the code of a calculation gives is what the rows say.
-use Rattle.std.specs.Prelude.{◌≡◌, ◌↔◌, ℕ, Bool, true, false, not, IsTrue, pos, refl}
+use Rattle.std.specs.Prelude.{◌≡◌, ◌↔◌, ℕ, Bool, true, false, IsTrue, pos, refl}
 use Rattle.std.proofs.Common.{sym, ap, subst, ◌∙◌}
-use Rattle.std.proofs.lemmas.Bool.{cases_eq, false≢true, true≢false}
+use Rattle.std.proofs.lemmas.Bool.{false≢true}
 use Rattle.strided_dom.specs.Progression.{Progression, single, IsExactly}
 use Rattle.strided_dom.specs.Combinations.{IsProduct}
 use Rattle.tm_cint.specs.declared.Class.{Class}
@@ -15,7 +15,6 @@ use Rattle.transfer_int.specs.Outcomes.{notes}
 use Rattle.transfer_int.specs.declared.outcomes.Classes.{Classes}
 use Rattle.pointer_dom.specs.Pointer.{Pointer as APointer}
 use Rattle.pointer_dom.specs.PointerSets.{Pointers, IsPointers, IsPointer}
-use Rattle.pointer_dom.specs.Values.{Values}
 use Rattle.pointer_dom.specs.Advances.{IsAdvance, IsElementStep, IsSafeAdvance, AreSubscripts, directed}
 use Rattle.pointer_dom.specs.Selections.{IsHullOfPointers, Reaches}
 use Rattle.pointer_dom.specs.Equality.{IsEqualityValue}
@@ -28,7 +27,7 @@ use Rattle.transfer_rows.specs.operator_values.Classes.{move_fails_is}
 use Rattle.transfer_rows.specs.operator_values.Classes.{dereference_fails, dereference_fails_is}
 use Rattle.transfer_rows.proofs.low.operator_values.OneAnswer.{one_advance, one_hull}
 use Rattle.transfer_rows.specs.StateForms.{State, value_of, only_numbers, only_pointers}
-use Rattle.transfer_rows.specs.Actions.{Calculation, copied, negated, complemented, operated, converted, compared, part, element, moved, dereferenced}
+use Rattle.transfer_rows.specs.Actions.{copied, negated, complemented, operated, converted, compared, part, element, moved, dereferenced}
 use Rattle.transfer_rows.specs.Calculations.{calculated}
 use Rattle.transfer_rows.specs.Reports.{CalculationMayFail}
 use Rattle.calculations.specs.declared.values.Calculated.{Calculated}

@@ -1,5 +1,5 @@
 -- The offsets of a set, from the first to the last, at which a type stands.
-use Rattle.std.specs.Prelude.{◌≡◌, ◌≢◌, ◌↔◌, ◌⊎◌, ℕ, ◌+◌, ◌<◌, ◌≤◌, Bool, true, false, IsTrue, ℤ, pos, ◌≤ℤ◌, ◌<ℤ◌, nat_abs, refl}
+use Rattle.std.specs.Prelude.{◌≡◌, ◌↔◌, ◌⊎◌, ℕ, ◌+◌, ◌<◌, Bool, true, false, IsTrue, ℤ, pos, ◌≤ℤ◌, ◌<ℤ◌, refl}
 use Rattle.std.proofs.Common.{sym, ap, subst, ◌∙◌, inl, inr, arith}
 use Rattle.std.proofs.lemmas.Int.{ints}
 use Rattle.std.proofs.lemmas.Bool.{cases_eq, false≢true}
@@ -8,9 +8,9 @@ use Rattle.strided_dom.specs.Combinations.{IsInEither}
 use Rattle.strided_dom.proofs.Members.{spaced_from, not_in_empty}
 use Rattle.pointer_dom.specs.OffsetSets.{OffsetSet, AreEnds}
 use Rattle.pointer_dom.specs.Selections.{IsStanding, AllStand}
-use Rattle.tm_laid.specs.Layouts.{laid_tree, is_alive, stands_at}
+use Rattle.tm_laid.specs.Layouts.{laid_tree, is_alive}
 use Rattle.calculations.specs.declared.dereferences.Followed.{Followed}
-use Rattle.calculations.specs.reading.Ends.{Alive, Stands, IsStandingBelow, IsStandingUpTo}
+use Rattle.calculations.specs.reading.Ends.{Alive, IsStandingBelow, IsStandingUpTo}
 
 -- a test in the code, and what it tests
 pub is_so : (a b : Bool) → a ≡ b → IsTrue b → a ≡ true

@@ -1,5 +1,5 @@
 -- The cells that an address reaches, found by its objects and offsets, are the targets of the rows, in the same order.
-use Rattle.std.specs.Prelude.{◌≡◌, ◌≢◌, ◌↔◌, ℕ, zero, suc, ℤ, ◌≤ℤ◌, nat_abs, min, IsTrue, ◌+◌, ◌-◌, ◌<◌, ◌≤◌, Bool, true, false, ◌&&◌, ◌||◌, cond, pos, List, [], ◌∷◌, ◌++◌, length, get_or, drop, Some, None, T, refl}
+use Rattle.std.specs.Prelude.{◌≡◌, ◌↔◌, ℕ, zero, suc, ℤ, ◌≤ℤ◌, min, IsTrue, ◌+◌, ◌-◌, ◌<◌, ◌≤◌, Bool, true, false, ◌&&◌, ◌||◌, cond, pos, List, [], ◌∷◌, ◌++◌, length, get_or, drop, Some, None, T, refl}
 use Rattle.std.proofs.Common.{sym, ap, subst, ◌∙◌, inl, inr, arith}
 use Rattle.std.proofs.lemmas.List.{append-nil, append_assoc, drop_more, get_or_past}
 use Rattle.std.specs.List.{list_all, list_any}
