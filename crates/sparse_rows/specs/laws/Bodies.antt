@@ -79,8 +79,9 @@ module _ (suits : ℕ → State → Type 0) (sys : System State) (around : ℕ �
         subst (KeepsCell states suits sys state_parts place x s) (sym (rows.after_is e s lt))
         (led_keeps (leads e) x s (after (around e) (action e) s store)
         (rows_frame x (around e) (action e) s store
-        (checked_leaves (around e) (place.touches e) (place.looks e) copies fresh pending s d traced (rows.form (from e) s s-fits)
-        (rows.form (from e) d d-fits) le (action e) store (checked e lt d is) x other)))
+        (checked_leaves (around e) (place.touches e) (place.looks e) copies fresh pending s d
+        (rows.form (from e) s s-fits) (rows.form (from e) d d-fits) le traced (action e) store (checked e lt d is) x
+        other)))
 
     makes_at : (e : ℕ) → e < edge_count states suits sys → (s : State) → Traced s → suits (from e) s
         → (y : Option State) → table (from e) ≡ y → IfSome y (suits (from e)) → IsBelow IsStateUnder (Some s) y
@@ -90,8 +91,8 @@ module _ (suits : ℕ → State → Type 0) (sys : System State) (around : ℕ �
         subst (λ a. IfSome a Traced) (sym (rows.after_is e s lt))
         (led_traced (leads e) (after (around e) (action e) s store)
         (after_traced copies fresh pending (around e) (action e) s store traced
-        (checked_makes (around e) (place.touches e) (place.looks e) copies fresh pending s d traced (rows.form (from e) s s-fits)
-        (rows.form (from e) d d-fits) le (action e) store (checked e lt d is))))
+        (checked_makes (around e) (place.touches e) (place.looks e) copies fresh pending s d
+        (rows.form (from e) s s-fits) (rows.form (from e) d d-fits) le (action e) store (checked e lt d is))))
 
     -- where the table's own states are traced, its edges are framed in them
     pub own_framed : ((n : ℕ) → n < sys.node_count → IfSome (table n) Traced)

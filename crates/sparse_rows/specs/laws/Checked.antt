@@ -27,8 +27,7 @@ module _ (around : Around) (touch looks : ℕ → Bool) (copies : ℕ → ℕ �
   false_where true c h other = absurd (true≢false (sym (h refl) ∙ other))
   false_where false c h other = refl
 
-  module _ (s d : State) (traced : IsTraced copies fresh pending s) (s-is : IsStateForm s) (d-is : IsStateForm d)
-      (le : IsStateUnder s d) where
+  module _ (s d : State) (s-is : IsStateForm s) (d-is : IsStateForm d) (le : IsStateUnder s d) where
     fewer : (action : Action) (x : ℕ) → is_among (targets_of action s) x ≡ true
         → is_among (targets_of action d) x ≡ true
     fewer action x = (target_rises around s d s-is d-is le action).among x
@@ -80,44 +79,46 @@ module _ (around : Around) (touch looks : ℕ → Bool) (copies : ℕ → ℕ �
         ap (λ (n : ℕ). record c { pending = n }) (without_same c.pending (pending x) m h same)
 
     -- what was checked above says that the operation leaves below what it does not touch
-    pub checked_leaves : (action : Action) (store : Interferences) → Checked action d store → (x : ℕ)
-        → touch x ≡ false → Leaves around action s store x
+    pub checked_leaves : IsTraced copies fresh pending s → (action : Action) (store : Interferences)
+        → Checked action d store → (x : ℕ) → touch x ≡ false → Leaves around action s store x
     unfolding IsChecked Leaves targets_of
-    checked_leaves skips store h x other = tt
-    checked_leaves (gives target calculation) store h x other = tt
-    checked_leaves (refines filter) store h x other =
+    checked_leaves traced skips store h x other = tt
+    checked_leaves traced (gives target calculation) store h x other = tt
+    checked_leaves traced (refines filter) store h x other =
         λ t filtered. no_copy t x (h t filtered) other (get s.temps t) (traced.copied t)
-    checked_leaves (loads spots target address) store h x other = tt
-    checked_leaves (loads_any spots target address range) store h x other = tt
-    checked_leaves (stores spots address source) store h x other =
+    checked_leaves traced (loads spots target address) store h x other = tt
+    checked_leaves traced (loads_any spots target address range) store h x other = tt
+    checked_leaves traced (stores spots address source) store h x other =
         false_where (is_among (targets_at spots (value_of s address).pointers) x) (touch x)
         (λ among. (h x (fewer (stores spots address source) x among)).0) other
-    checked_leaves (clears cleared) store h x other = h x other
-    checked_leaves (locks m) store h x other =
+    checked_leaves traced (clears cleared) store h x other = h x other
+    checked_leaves traced (locks m) store h x other =
         lock_kept store m x (h x other).0 (h x other).1 (get s.cells x) (traced.aged x)
-    checked_leaves (unlocks m) store h x other =
+    checked_leaves traced (unlocks m) store h x other =
         release_kept m x (h x other) (get s.cells x) (traced.held x)
-    checked_leaves yields store h x other = aged_same x (h x other) (get s.cells x) (traced.aged x)
-    checked_leaves (probes m target true) store h x other = tt
-    checked_leaves (probes m target false) store h x other =
+    checked_leaves traced yields store h x other = aged_same x (h x other) (get s.cells x) (traced.aged x)
+    checked_leaves traced (probes m target true) store h x other = tt
+    checked_leaves traced (probes m target false) store h x other =
         any_kept (taken around store m x) (h x other) (get s.cells x)
 
-    pub checked_looks : ((x : ℕ) → touch x ≡ true → looks x ≡ true) → (action : Action) (store : Interferences)
+    -- and that it looks below at no other cells than it may: of the traces this needs copies alone
+    pub checked_looks : ((u : ℕ) → AreCopies copies fresh pending u (get s.temps u))
+        → ((x : ℕ) → touch x ≡ true → looks x ≡ true) → (action : Action) (store : Interferences)
         → Checked action d store → Looks looks action s
     unfolding IsChecked Looks targets_of
-    checked_looks all skips store h = tt
-    checked_looks all (gives target calculation) store h = tt
-    checked_looks all (refines filter) store h =
-        λ t filtered. copy_in t (λ y is. all y (h t filtered y is)) (get s.temps t) (traced.copied t)
-    checked_looks all (loads spots target address) store h =
+    checked_looks copied all skips store h = tt
+    checked_looks copied all (gives target calculation) store h = tt
+    checked_looks copied all (refines filter) store h =
+        λ t filtered. copy_in t (λ y is. all y (h t filtered y is)) (get s.temps t) (copied t)
+    checked_looks copied all (loads spots target address) store h =
         λ x among. (h x (fewer (loads spots target address) x among)).0
-    checked_looks all (loads_any spots target address range) store h = tt
-    checked_looks all (stores spots address source) store h = tt
-    checked_looks all (clears cleared) store h = tt
-    checked_looks all (locks m) store h = tt
-    checked_looks all (unlocks m) store h = tt
-    checked_looks all yields store h = tt
-    checked_looks all (probes m target answer) store h = tt
+    checked_looks copied all (loads_any spots target address range) store h = tt
+    checked_looks copied all (stores spots address source) store h = tt
+    checked_looks copied all (clears cleared) store h = tt
+    checked_looks copied all (locks m) store h = tt
+    checked_looks copied all (unlocks m) store h = tt
+    checked_looks copied all yields store h = tt
+    checked_looks copied all (probes m target answer) store h = tt
 
     pub checked_makes : (action : Action) (store : Interferences) → Checked action d store
         → Makes copies fresh pending around action s
