@@ -12,7 +12,8 @@ use Rattle.transfer_rows.specs.interfere_set.Stores.{Interferences}
 use Rattle.transfer_rows.specs.StateForms.{State, IsStateForm, IsStateUnder}
 use Rattle.transfer_rows.specs.Actions.{Around, Action}
 use Rattle.transfer_rows.specs.Rows.{after}
-use Rattle.sparse_tables.specs.Sparse.{Placing, IsPlaced, IsFramed, IsFramedIn, IsSparseLeast, KeepsCell}
+use Rattle.sparse_tables.specs.Sparse.{Placing, AreParts, IsPlaced, IsFramed, IsFramedIn, IsSparseLeast}
+use Rattle.sparse_tables.specs.Sparse.{KeepsCell}
 use Rattle.sparse_tables.specs.laws.Bounded as bounded
 use Rattle.sparse_tables.specs.laws.Bounded.{IsKept, IsKeptUnder}
 use Rattle.sparse_rows.specs.Checks.{AreChecked}
@@ -50,7 +51,7 @@ module _ (suits : ℕ → State → Type 0) (sys : System State) (around : ℕ �
   abbrev Traced : State → Type 0
   Traced s = IsTraced copies fresh pending s
 
-  same_temps : (marks : List ℤ) (cells : Option (List ℕ)) (s : State)
+  pub same_temps : (marks : List ℤ) (cells : Option (List ℕ)) (s : State)
       → (let t = rounded_to marks cells s in t.temps ≡ s.temps)
   same_temps marks None s = refl
   same_temps marks (Some cells) s = refl
@@ -105,21 +106,32 @@ module _ (suits : ℕ → State → Type 0) (sys : System State) (around : ℕ �
         (fits (from e) n-lt)
         (subst (λ a. IsBelow IsStateUnder (Some s) a) (sym at) (order.reflexive s (law.value (from e) s s-fits)))
 
+    abbrev Fitting : Type 0
+    Fitting = (n : ℕ) → n < sys.node_count → IfSome (table n) (suits n)
+
+    abbrev pub made : AreParts states suits sys state_parts place
+    made = are_parts suits sys place rows.form
+        (λ n s fits. subst (λ (t : State). t.temps ≡ s.temps) (sym (rows.outward_is n s)) (same_temps marks (keys n) s))
+
+    -- what makes up the least solution is traced
+    pub traces_kept : IfSome sys.entry Traced → Fitting → IsKept states suits sys (λ n s. Traced s) table
+    traces_kept entry fits = record {
+      entry = entry;
+      after = λ e s lt s-fits traced le. makes_at e lt s traced s-fits (table (from e)) refl
+          (fits (from e) (law.from_node e lt)) le;
+      joined = λ n s t s-fits t-fits h k. joined_traced copies fresh pending s t h k;
+      outward = λ n s s-fits h. subst Traced (sym (rows.outward_is n s)) (rounded_is (keys n) s h);
+    }
+
+    -- and edges are framed in traced states below
+    pub traced_framed : Fitting
+        → bounded.IsFramedKept states suits sys state_parts place (λ n s. Traced s) table order join law made placed
+    traced_framed fits e lt s h =
+        framed_at e lt s h.is h.fits (table (from e)) refl (fits (from e) (law.from_node e lt)) h.under
+
     -- A table that is the least sparse one, and of which each edge was checked, is the least solution.
     pub checked_is_least : IfSome sys.entry Traced
         → IsSparseLeast states suits sys state_parts place table → IsLeastSolution states suits sys table
     checked_is_least entry sparse =
-        let made = are_parts suits sys place rows.form
-        (λ n s fits. subst (λ (t : State). t.temps ≡ s.temps) (sym (rows.outward_is n s))
-        (same_temps marks (keys n) s)) in
         bounded.sparse_is_least_kept states suits sys state_parts place (λ n s. Traced s) table order join law made
-        placed sparse
-        record {
-          entry = entry;
-          after = λ e s lt fits traced le. makes_at e lt s traced fits (table (from e)) refl
-              (sparse.closed.fits (from e) (law.from_node e lt)) le;
-          joined = λ n s t s-fits t-fits h k. joined_traced copies fresh pending s t h k;
-          outward = λ n s fits h. subst Traced (sym (rows.outward_is n s)) (rounded_is (keys n) s h);
-        }
-        (λ e lt s h. framed_at e lt s h.is h.fits (table (from e)) refl
-        (sparse.closed.fits (from e) (law.from_node e lt)) h.under)
+        placed sparse (traces_kept entry sparse.closed.fits) (traced_framed sparse.closed.fits)

@@ -1,11 +1,12 @@
 -- What code checks of an edge in one state says of each smaller state which makes no other copies and fresh cells.
 use Rattle.std.specs.Prelude.{◌≡◌, ℕ, Bool, true, false, min, max, ◌-◌, ◌^◌, Option, Some, None, refl}
-use Rattle.std.proofs.Common.{sym, ap, ◌∙◌, arith}
+use Rattle.std.proofs.Common.{sym, ap, subst, ◌∙◌, arith}
 use Rattle.std.specs.FinMap.{get}
 use Rattle.std.specs.Int.{bit_at}
 use Rattle.std.proofs.lemmas.Nat.Bits.{same_from_bits, bit_at_or, bit_at_and}
 use Rattle.std.proofs.lemmas.Bool.{true≢false}
 use Rattle.transfer_rows.specs.cell_env.Cells.{IsWithin}
+use Rattle.transfer_rows.specs.cell_env.tm_lattice.Tables.{Table}
 use Rattle.transfer_rows.specs.interfere_set.Stores.{Interferences}
 use Rattle.transfer_rows.specs.StateForms.{Cell, State, Temp, IsStateForm, IsStateUnder, value_of}
 use Rattle.transfer_rows.specs.Accesses.{is_among, targets_at}
@@ -136,3 +137,26 @@ module _ (around : Around) (touch looks : ℕ → Bool) (copies : ℕ → ℕ �
     checked_makes (unlocks m) store h = tt
     checked_makes yields store h = tt
     checked_makes (probes m target answer) store h = tt
+
+  -- a check looks at the temporaries of a state alone
+  pub checked_by_front : (action : Action) (store : Interferences) (s t : State) → s.temps ≡ t.temps
+      → Checked action s store → Checked action t store
+  unfolding IsChecked
+  checked_by_front skips store s t same h = tt
+  checked_by_front (gives target calculation) store s t same h = tt
+  checked_by_front (refines filter) store s t same h = h
+  checked_by_front (loads spots target address) store s t same h =
+      λ x among. h x (subst (λ (q : Table Temp).
+      is_among (targets_at spots (value_of (record { temps = q; cells = t.cells }) address).pointers) x ≡ true)
+      (sym same) among)
+  checked_by_front (loads_any spots target address range) store s t same h = tt
+  checked_by_front (stores spots address source) store s t same h =
+      λ x among. h x (subst (λ (q : Table Temp).
+      is_among (targets_at spots (value_of (record { temps = q; cells = t.cells }) address).pointers) x ≡ true)
+      (sym same) among)
+  checked_by_front (clears cleared) store s t same h = h
+  checked_by_front (locks m) store s t same h = h
+  checked_by_front (unlocks m) store s t same h = h
+  checked_by_front yields store s t same h = h
+  checked_by_front (probes m target true) store s t same h = tt
+  checked_by_front (probes m target false) store s t same h = h
