@@ -1,5 +1,5 @@
 -- What a text is that is written up to a limit.
-use Rattle.std.proofs.Common.{◌≡◌, refl, sym, ap, ◌∙◌, ℕ, ◌<◌, ◌≤◌, inl, inr, true, false, cond}
+use Rattle.std.proofs.Common.{◌≡◌, refl, sym, ap, ◌∙◌, ℕ, ◌+◌, ◌<◌, ◌≤◌, inl, inr, true, false, cond}
 use Rattle.std.proofs.Common.{List, [], ◌∷◌, ◌++◌, length, arith, append-nil, append_assoc, length-append}
 use Rattle.std.specs.Prelude.{nat_lt}
 use Rattle.std.proofs.lemmas.Bool.{cases_lt}
@@ -76,3 +76,21 @@ module _ (limit : ℕ) where
         let same = ap length (joined text l ls) in
         omega (arith, long, same)
   ]
+
+  -- where the whole is within the limit, all lines are there
+  pub fits : (text : List ℕ) (lines : List Line) → length (text ++ lines_text lines) ≤ limit
+      → with_lines_to limit text lines ≡ text ++ lines_text lines
+  fits text lines le = elim (cases_lt limit (length (with_lines_to limit text lines))) [
+    | inl less ↦ absurd (let long = too_long text lines less in omega (arith, le, long))
+    | inr within ↦ whole text lines within
+  ]
+
+  -- lines that were written by themselves
+  pub block : (text kept : List ℕ) (lines : List Line) → kept ≡ with_lines_to limit [] lines
+      → length text + length kept ≤ limit → with_lines_to limit text lines ≡ text ++ kept
+  block text kept lines is le =
+      let size = ap length is in
+      let all : kept ≡ lines_text lines = is ∙ whole [] lines (omega (arith, le, size)) in
+      let sum = length-append text kept in
+      let same = ap (λ t. length (text ++ t)) all in
+      fits text lines (omega (arith, le, sum, same)) ∙ ap (λ t. text ++ t) (sym all)

@@ -6,6 +6,7 @@
 -- (Finishing); and that numbers of programs are small (Smallness).
 pub mod Adding
 pub mod Walking
+pub mod Listing
 pub mod Telling
 pub mod Cutting
 pub mod Blocks

@@ -1,3 +1,4 @@
+pub mod CellLines
 pub mod Counts
 pub mod Cuts
 pub mod Pages

@@ -7,7 +7,9 @@
 //! `t 1 i 0 9 1`, `c 0 i 0 9 1`, `f 0`, `k 1 0`.
 #![tactic(auto)]
 
+mod cells;
 mod certificates;
+mod kept;
 mod laws;
 mod pages;
 mod sizes;

@@ -1,11 +1,12 @@
 //! Texts that are written line by line, as far as a limit.
-ghost use Rattle.std.specs.Prelude.{◌<◌, ◌↔◌, [], ◌∷◌, length, IsTrue, OnOk, pos};
+ghost use Rattle.std.specs.Prelude.{◌≡◌, ◌<◌, ◌↔◌, [], ◌∷◌, length, IsTrue, OnOk, pos};
 ghost use Rattle.certificate_words.specs.Words.{number, tag};
 ghost use Rattle.certificate_texts.specs.Limits.{certificate_limit};
 ghost use Rattle.certificate_texts.specs.StateLines.{numbered, tagged};
 ghost use Rattle.certificate_texts.specs.reading.Pages.{HasBegun, HasEnded, HasLines, HasWords};
 
 use certificate_words::{Word, push_line};
+use std::alloc::Global;
 use tm_lattice::NoMemory;
 
 /// The most bytes of a certificate: 64 MiB.
@@ -19,6 +20,16 @@ pub(crate) struct Page {
 }
 
 impl Page {
+    /// An empty page.
+    pub(crate) fn new(alloc: Global) -> Page
+        ensures { result.text.items ≡ [] }
+    {
+        Page {
+            text: Vec::new(alloc),
+            words: Vec::new(alloc),
+        }
+    }
+
     /// Whether the text is too long already: no line is appended to it then.
     pub(crate) fn is_full(&self) -> bool
         ensures { IsTrue result ↔ (certificate_limit < length self.now.text.items) }

@@ -2,7 +2,6 @@
 ghost use Rattle.std.specs.Prelude.{◌≡◌, ◌∷◌, ◌++◌, [], OnOk, IfOk};
 ghost use Rattle.post_recheck.specs.Pairs.{pair_of};
 ghost use Rattle.certificate_texts.specs.Certificates.{head_text, IsWritten};
-ghost use Rattle.certificate_texts.specs.reading.Pages.{HasLines};
 
 use crate::certificates::Written;
 use crate::pages::{CERTIFICATE_LIMIT, Page};
@@ -16,10 +15,7 @@ impl Page {
     fn with_head(alloc: Global, count: usize) -> Result<Page, NoMemory>
         ensures { IfOk result (λ page. page.text.items ≡ head_text count) }
     {
-        let mut page = Page {
-            text: Vec::new(alloc),
-            words: Vec::new(alloc),
-        };
+        let mut page = Page::new(alloc);
         page.push_numbered(b"tmcert", 1)?;
         page.push_numbered(b"source", count as u64)?;
         Ok(page)

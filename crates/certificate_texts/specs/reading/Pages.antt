@@ -1,13 +1,14 @@
 -- What is written on a page.
-use Rattle.std.specs.Prelude.{◌≡◌, ℕ, List, [], ◌∷◌, ◌++◌}
+use Rattle.std.specs.Prelude.{◌≡◌, ℕ, List, [], ◌∷◌, ◌++◌, map}
 use Rattle.transfer_rows.specs.StateForms.{Cell}
 use Rattle.certificate_words.specs.Words.{Word, tag, Line}
 use Rattle.certificate_words.specs.Lines.{words_of}
 use Rattle.certificate_texts.specs.StateLines.{cell_lines, pending_lines, fresh_lines, stored_lines}
 use Rattle.certificate_texts.specs.reading.Cuts.{with_lines}
 use Rattle.certificate_texts.specs.declared.pages.Page.{Page}
-use Rattle.certificate_texts.specs.declared.states.Kind.{Kind}
-use Rattle.certificate_texts.specs.declared.states.Kind.TheVariants as Kinds
+use Rattle.certificate_texts.specs.declared.cells.CellEntry.{CellEntry}
+use Rattle.certificate_texts.specs.declared.cells.Kind.{Kind}
+use Rattle.certificate_texts.specs.declared.cells.Kind.TheVariants as Kinds
 
 -- the next line has a tag alone, and the text is as it was
 pub record HasBegun (old new : Page) (letters : List ℕ) : Type 0 where
@@ -33,3 +34,7 @@ kind_lines Kinds.Own e = cell_lines e
 kind_lines Kinds.Pending e = pending_lines e
 kind_lines Kinds.Fresh e = fresh_lines e
 kind_lines Kinds.Stored e = stored_lines e
+
+-- what is listed of cells, with their numbers
+abbrev pub entries_of : List CellEntry → List (ℕ × Cell)
+entries_of es = map (λ (e : CellEntry). (e.cell, e.entry.now)) es

@@ -3,7 +3,7 @@ use Rattle.std.specs.FinMap.{remove}
 use Rattle.std.specs.Option.{MatchOption}
 use Rattle.tm_lattice.specs.Tables.{IsPast, IsNext}
 use Rattle.certificate_texts.proofs.Walking.{none_greater, another}
-use Rattle.certificate_texts.proofs.states.next_cell.Goals as goal
+use Rattle.certificate_texts.proofs.cells.next_cell.Goals as goal
 
 pub returns-in-None : goal.returns-in-None
 returns-in-None c = λ key le.
