@@ -19,7 +19,7 @@ IsThere None = ⊥
 IsThere (Some a) = Unit {0}
 
 module _ {V F D M : Type 0} (states : lattice.Ghosts V M) (suits : ℕ → V → Type 0) (sys : System V)
-    (parts : Parts V F (Option D)) (place : Placing) (cell_count : ℕ) where
+    (parts : Parts V F (Option D)) (place : Placing) (is_cell : ℕ → Bool) where
   abbrev from : ℕ → ℕ
   from e = from_of sys.links e
 
@@ -62,24 +62,48 @@ module _ {V F D M : Type 0} (states : lattice.Ghosts V M) (suits : ℕ → V →
     pub opened : (e : ℕ) → e < edges → a.is_open e ≡ true → b.is_open e ≡ true
     pub slot : (n x : ℕ) → n < sys.node_count → place.owns n x ≡ true → parts.cell_leq (a.slot_of n x) (b.slot_of n x)
 
-  -- met, and below all that are
-  pub record AreLeast (a : Fronts F D) : Type 0 where
-    pub met : AreMet a
-    pub below : (b : Fronts F D) → AreMet b → AreBelow a b
+  -- fronts and slots are such as may stand there
+  pub record AreFit (fits_front : ℕ → F → Type 0) (fits_cell : ℕ → ℕ → D → Type 0) (a : Fronts F D) : Type 0 where
+    pub front : (n : ℕ) → n < sys.node_count → IfSome (a.front_of n) (fits_front n)
+    pub slot : (n x : ℕ) → n < sys.node_count → place.owns n x ≡ true → IfSome (a.slot_of n x) (fits_cell n x)
 
-  -- What of states is needed besides: each has a value at each cell of this number and at no other, what is above
-  -- something is something, and the rounding of a cell depends on that cell alone. Cells beyond the number are owned
-  -- everywhere.
+  -- a state that fits its node, keeps a property and is its own rounding
+  pub record IsRoundKept (kept : ℕ → V → Type 0) (n : ℕ) (s : V) : Type 0 where
+    pub node : n < sys.node_count
+    pub fits : suits n s
+    pub is : kept n s
+    pub round : sys.outward n s ≡ s
+
+  -- what fits is at most itself, and what stands in states of a property fits
+  pub record AreFitted (fits_front : ℕ → F → Type 0) (fits_cell : ℕ → ℕ → D → Type 0) (P : ℕ → V → Type 0) : Type 0
+    where
+      pub front_reflexive : (n : ℕ) (f : F) → fits_front n f → parts.front_leq f f
+      pub cell_reflexive : (n x : ℕ) (d : D) → fits_cell n x d → parts.cell_leq (Some d) (Some d)
+      pub front : (n : ℕ) (s : V) → P n s → fits_front n (parts.front s)
+      pub cell : (n x : ℕ) (s : V) → P n s → IfSome (parts.cell s x) (fits_cell n x)
+
+  -- Of the fronts and slots that fit and are met those that lie below each others of these, as far as the others lie
+  -- below them. Others, at which rows may look elsewhere than where they may here, do not count.
+  pub record AreLeast (fits_front : ℕ → F → Type 0) (fits_cell : ℕ → ℕ → D → Type 0) (a : Fronts F D) : Type 0 where
+    pub fits : AreFit fits_front fits_cell a
+    pub met : AreMet a
+    pub below : (b : Fronts F D) → AreFit fits_front fits_cell b → AreMet b → AreBelow b a → AreBelow a b
+
+  -- What of states is needed besides: each has a value at each cell, what is above something is something, and the
+  -- rounding of a cell depends on that cell alone. There are finitely many cells, and what is none is owned everywhere.
   pub record AreFilled : Type 0 where
-    pub there : (n x : ℕ) (s : V) → suits n s → x < cell_count → IsThere (parts.cell s x)
+    pub bound : ℕ
+    pub within : (x : ℕ) → is_cell x ≡ true → x < bound
+    pub there : (n x : ℕ) (s : V) → suits n s → is_cell x ≡ true → IsThere (parts.cell s x)
     pub above : (c d : Option D) → parts.cell_leq c d → IsThere c → IsThere d
+    pub nothing : (c : Option D) → parts.cell_leq None c
     pub rounds : (n x : ℕ) (s t : V) → suits n s → suits n t → parts.cell s x ≡ parts.cell t x
         → parts.cell (sys.outward n s) x ≡ parts.cell (sys.outward n t) x
-    pub beyond : (n x : ℕ) → cell_count ≤ x → place.owns n x ≡ true
+    pub beyond : (n x : ℕ) → is_cell x ≡ false → place.owns n x ≡ true
 
   -- where a node has a front, each cell has something where it is kept, and so has the node where it is
   abbrev pub IsFullAt : Fronts F D → ℕ → Type 0
-  IsFullAt a n = (x : ℕ) → x < cell_count
+  IsFullAt a n = (x : ℕ) → is_cell x ≡ true
       → IsThere (a.slot_of (place.kept_at n x) x) × IsThere (a.front_of (place.kept_at n x))
 
   -- the table has at each node with a front the state of the node, and no other state
