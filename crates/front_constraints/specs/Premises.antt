@@ -42,7 +42,7 @@ module _ {V F D L M N : Type 0} (states : lattice.Ghosts V L) (fronts : lattice.
       pub cell_is : (f : F) (c : ℕ → Option D) (x : ℕ) → sys.is_cell x ≡ true → sys.cell (sys.state_of f c) x ≡ c x
       pub scratch_fits : (x : ℕ) → sys.is_cell x ≡ true → MatchOption (sys.scratch x) ⊥ (fits_cell x)
       pub rounded : (n x : ℕ) (s : V) → suits n s
-          → (let q = sys.equations in sys.cell (q.outward n s) x ≡ option_map (sys.outward n x) (sys.cell s x))
+          → sys.cell (sys.equations.outward n s) x ≡ option_map (sys.outward n x) (sys.cell s x)
 
     -- All of it: states, fronts and cells are lattices, the equations are lawful, states are made of parts, cells are
     -- well placed, and variables and constraints have numbers.

@@ -21,7 +21,7 @@ passed (Some a) y = y
 module _ {V F D : Type 0} (sys : SparseSystem V F D) where
   -- what the assignment has at a variable
   abbrev pub standing : Assignment (Standing F D) → Variable → Option (Standing F D)
-  standing a v = (let q = sys.numbers in a (q.number v))
+  standing a v = a (sys.numbers.number v)
 
   -- ## What is read
 
@@ -63,8 +63,8 @@ module _ {V F D : Type 0} (sys : SparseSystem V F D) where
 
   -- and what it brings there
   abbrev pub brings : Rule → Assignment (Standing F D) → Variable → Option (Standing F D)
-  brings entered a v = (let q = sys.equations in part_of q.entry v)
-  brings (row e) a v = (let q = sys.equations in part_of (brought (q.after e) (small_at e a)) v)
+  brings entered a v = part_of sys.equations.entry v
+  brings (row e) a v = part_of (brought (sys.equations.after e) (small_at e a)) v
   brings (flow e x) a v = passed (standing a (open_at e)) (standing a (slot_at (kept_at sys (from sys e) x) x))
 
   -- a row reads the front of the node that its edge leaves and the slots of the cells at which it may look, a flow
@@ -95,16 +95,15 @@ module _ {V F D : Type 0} (sys : SparseSystem V F D) where
   -- The constraints, by their numbers.
   abbrev pub front_constraints : Constraints (Standing F D)
   front_constraints = record {
-    variable_count = (let q = sys.numbers in q.variable_count);
-    constraint_count = (let q = sys.numbers in q.constraint_count);
-    reads = λ k i. (let q = sys.numbers in is_read (q.rule k) (q.variable i));
-    targets = λ k. (let q = sys.numbers in map q.number (targets_of (q.rule k)));
-    gives = λ k a j. (let q = sys.numbers in
-        brings (q.rule k) a (slice_index_or (targets_of (q.rule k)) j (front_at 0)));
-    outward = λ i. (let q = sys.numbers in changed_standing (λ f. f) (rounded_cell_at (q.variable i)));
+    variable_count = sys.numbers.variable_count;
+    constraint_count = sys.numbers.constraint_count;
+    reads = λ k i. is_read (sys.numbers.rule k) (sys.numbers.variable i);
+    targets = λ k. map sys.numbers.number (targets_of (sys.numbers.rule k));
+    gives = λ k a j.
+        let r = sys.numbers.rule k in brings r a (slice_index_or (targets_of r) j (front_at 0));
+    outward = λ i. changed_standing (λ f. f) (rounded_cell_at (sys.numbers.variable i));
     height = λ w. height_in sys.front_height w.front + height_in sys.cell_height w.cell;
-    limit = λ i. (let q = sys.numbers in
-        (front_limit_at (q.variable i) + 1) + (cell_limit_at (q.variable i) + 1));
+    limit = λ i. let v = sys.numbers.variable i in (front_limit_at v + 1) + (cell_limit_at v + 1);
   }
 
   -- ## Which assignments count
@@ -120,7 +119,7 @@ module _ {V F D : Type 0} (sys : SparseSystem V F D) where
     FitsCellAt v d = ⊥
 
     abbrev pub FitsVariable : ℕ → Standing F D → Type 0
-    FitsVariable i = (let q = sys.numbers in HasParts (FitsFrontAt (q.variable i)) (FitsCellAt (q.variable i)))
+    FitsVariable i = HasParts (FitsFrontAt (sys.numbers.variable i)) (FitsCellAt (sys.numbers.variable i))
 
   -- a row may be applied where its state passes the check
   abbrev pub AllowsRule : (ℕ → V → Type 0) → Rule → Assignment (Standing F D) → Type 0
@@ -128,7 +127,7 @@ module _ {V F D : Type 0} (sys : SparseSystem V F D) where
   AllowsRule checks r a = Unit {0}
 
   abbrev pub Allows : (ℕ → V → Type 0) → ℕ → Assignment (Standing F D) → Type 0
-  Allows checks k a = (let q = sys.numbers in AllowsRule checks (q.rule k) a)
+  Allows checks k a = AllowsRule checks (sys.numbers.rule k) a
 
   -- ## Read back
 

@@ -56,28 +56,28 @@ pub record AreListed (test : ℕ → Bool) (xs : List ℕ) : Type 0 where
 
 module _ {V F D : Type 0} (sys : SparseSystem V F D) where
   abbrev pub nodes : ℕ
-  nodes = (let q = sys.equations in q.node_count)
+  nodes = sys.equations.node_count
 
   abbrev pub edges : ℕ
-  edges = (let q = sys.equations in length q.links)
+  edges = length sys.equations.links
 
   abbrev pub from : ℕ → ℕ
-  from e = (let q = sys.equations in from_of q.links e)
+  from e = from_of sys.equations.links e
 
   abbrev pub to : ℕ → ℕ
-  to e = (let q = sys.equations in to_of q.links e)
+  to e = to_of sys.equations.links e
 
   abbrev pub owns : ℕ → ℕ → Bool
-  owns n x = (let p = sys.place in p.owns n x)
+  owns n x = sys.place.owns n x
 
   abbrev pub touches : ℕ → ℕ → Bool
-  touches e x = (let p = sys.place in p.touches e x)
+  touches e x = sys.place.touches e x
 
   abbrev pub kept_at : ℕ → ℕ → ℕ
-  kept_at n x = (let p = sys.place in p.kept_at n x)
+  kept_at n x = sys.place.kept_at n x
 
   abbrev pub is_looked : ℕ → ℕ → Bool
-  is_looked e x = (let p = sys.place in sys.is_cell x && p.looks e x)
+  is_looked e x = sys.is_cell x && sys.place.looks e x
 
   abbrev pub is_touched : ℕ → ℕ → Bool
   is_touched e x = sys.is_cell x && touches e x
@@ -97,11 +97,11 @@ module _ {V F D : Type 0} (sys : SparseSystem V F D) where
   -- each variable has a number and each rule too, and no number has anything else
   pub record AreNumbered : Type 0 where
     pub number : (v : Variable) → IsVariable v
-        → (let q = sys.numbers in (q.number v < q.variable_count) × (q.variable (q.number v) ≡ v))
-    pub variable : (i : ℕ) → (let q = sys.numbers in i < q.variable_count → IsVariable (q.variable i))
+        → (sys.numbers.number v < sys.numbers.variable_count) × (sys.numbers.variable (sys.numbers.number v) ≡ v)
+    pub variable : (i : ℕ) → i < sys.numbers.variable_count → IsVariable (sys.numbers.variable i)
     pub rules : (r : Rule) → IsRule r
-        → (let q = sys.numbers in (k : ℕ) × ((k < q.constraint_count) × (q.rule k ≡ r)))
-    pub rule : (k : ℕ) → (let q = sys.numbers in k < q.constraint_count → IsRule (q.rule k))
+        → (k : ℕ) × ((k < sys.numbers.constraint_count) × (sys.numbers.rule k ≡ r))
+    pub rule : (k : ℕ) → k < sys.numbers.constraint_count → IsRule (sys.numbers.rule k)
 
   -- the lists have the cells that they should
   pub record AreCellsListed : Type 0 where

@@ -1,3 +1,5 @@
 pub mod Lawful
 pub mod LeastFronts
 pub mod Options
+pub mod Solved
+pub mod StandingLaws

@@ -34,7 +34,7 @@ or_none : {A : Type 0} (o : Option A) (d : A) → A
 or_none None d = d
 or_none (Some a) d = a
 
-same_some : {A : Type 0} (a b : A) → Some a ≡ Some b → a ≡ b
+pub same_some : {A : Type 0} (a b : A) → Some a ≡ Some b → a ≡ b
 unfolding or_none
 same_some a b is = ap (λ o. or_none o a) is
 
@@ -567,10 +567,10 @@ module _ {V F D L M N : Type 0} (states : lattice.Ghosts V L) (fronts : lattice.
           by_checked : (y : Option V) → IfSome y (suits n) → IfSome y (checks e) → IsBelow states.leq (Some small_state) y
               → GiveAlike states suits sys.equations parts sys.place e (sys.equations.after e small_state)
               (sys.equations.after e whole)
-          by_checked None d-fits checked le = absurd le
-          by_checked (Some d) d-fits checked le =
+          by_checked None d-fits passes le = absurd le
+          by_checked (Some d) d-fits passes le =
               local.local e small_state whole d lt small_state_fits whole_fits d-fits le
-              (subst (keeps n) (sym (is.made.front_is f v)) f_is.1) checked
+              (subst (keeps n) (sym (is.made.front_is f v)) f_is.1) passes
               (whole_agrees e f v whole whole_fits small_state_fits (sym (is.made.front_is f whole_cells)) values_looked)
 
           alike_below : GiveAlike states suits sys.equations parts sys.place e (sys.equations.after e small_state)
