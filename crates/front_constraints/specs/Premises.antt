@@ -1,9 +1,9 @@
 -- What the parts of a system with fronts and slots keep.
-use Rattle.std.specs.Prelude.{◌≡◌, ℕ, ◌<◌, ◌≤◌, Bool, true, false, Option, Some, None, IfSome, MatchOption}
+use Rattle.std.specs.Prelude.{◌≡◌, ℕ, ◌<◌, ◌≤◌, true, false, Option, MatchOption}
 use Rattle.std.specs.Option.{option_map}
 use Rattle.sparse_tables.specs.table_covers.tm_lattice.declared.lattices.Lattice as lattice
 use Rattle.sparse_tables.specs.table_covers.tm_lattice.LatticeLaws.{IsOrder, IsJoin}
-use Rattle.sparse_tables.specs.table_covers.Systems.{System, IsLawfulSystem}
+use Rattle.sparse_tables.specs.table_covers.Systems.{IsLawfulSystem}
 use Rattle.sparse_tables.specs.Sparse.{Parts, AreParts, IsPlaced, IsLocal}
 use Rattle.sparse_tables.specs.Fronts.{AreFilled}
 use Rattle.front_constraints.specs.Systems.{SparseSystem, edges, from, parts_of, AreNumbered, AreCellsListed}

@@ -1,16 +1,17 @@
 -- The constraints of fronts and slots.
-use Rattle.std.specs.Prelude.{◌≡◌, ℕ, ◌+◌, ◌==◌, Bool, true, false, ◌&&◌, cond, List, [], ◌∷◌, map, slice_index_or, Option, Some}
+use Rattle.std.specs.Prelude.{ℕ, ◌+◌, ◌==◌, Bool, false, ◌&&◌, cond, List, [], ◌∷◌, map, slice_index_or}
+use Rattle.std.specs.Prelude.{Option, Some}
 use Rattle.std.specs.Prelude.{None, IfSome, is_some}
 use Rattle.std.specs.Option.{option_map}
 use Rattle.std.specs.List.{list_all}
-use Rattle.sparse_tables.specs.table_covers.Systems.{System}
 use Rattle.sparse_tables.specs.table_covers.Solutions.{brought}
 use Rattle.sparse_tables.specs.Fronts.{Fronts}
 use Rattle.least_assignments.specs.Constraints.{Assignment, Constraints}
 use Rattle.front_constraints.specs.declared.standings.Standing.{Standing}
 use Rattle.front_constraints.specs.Standings.{fronted, opened, holding, front_in, cell_in, HasParts, changed_standing}
 use Rattle.front_constraints.specs.Standings.{height_in}
-use Rattle.front_constraints.specs.Systems.{SparseSystem, Variable, front_at, open_at, slot_at, Rule, entered, row, flow}
+use Rattle.front_constraints.specs.Systems.{SparseSystem, Variable, front_at, open_at, slot_at, Rule, entered, row}
+use Rattle.front_constraints.specs.Systems.{flow}
 use Rattle.front_constraints.specs.Systems.{from, to, kept_at, is_looked}
 
 -- the second where there is a first

@@ -1,5 +1,5 @@
 -- What stands at a variable, front by front and cell by cell: its order, joins and heights.
-use Rattle.std.specs.Prelude.{◌≡◌, ℕ, ◌+◌, ◌≤◌, Option, Some, None, IfSome}
+use Rattle.std.specs.Prelude.{ℕ, ◌+◌, Option, Some, None, IfSome}
 use Rattle.std.specs.Option.{option_map}
 use Rattle.sparse_tables.specs.table_covers.tm_lattice.declared.lattices.Lattice as lattice
 use Rattle.sparse_tables.specs.table_covers.tm_lattice.Tables.{IsBelow, joined_at}

@@ -8,6 +8,10 @@
 //! second brings a front to 2. No cell flows, since node 1 owns none that is not touched, and node 2 owns none.
 #![tactic(auto)]
 
+mod front_systems;
+mod laws;
 mod standings;
 
+pub use front_systems::FrontSystem;
+pub use laws::least_fronts;
 pub use standings::Standing;

@@ -1,6 +1,6 @@
 -- Fronts and slots: what stands at the nodes beside cells, and each cell at the nodes that own it; when they solve the
 -- equations, and the least of these.
-use Rattle.std.specs.Prelude.{◌≡◌, ℕ, ◌<◌, ◌≤◌, Bool, true, false, Option, Some, None, IfSome}
+use Rattle.std.specs.Prelude.{◌≡◌, ℕ, ◌<◌, Bool, true, false, Option, Some, None, IfSome}
 use Rattle.table_covers.specs.tm_lattice.declared.lattices.Lattice as lattice
 use Rattle.table_covers.specs.tm_lattice.Tables.{IsBelow}
 use Rattle.table_covers.specs.Systems.{System, from_of, to_of}

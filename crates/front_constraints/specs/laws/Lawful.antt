@@ -1,28 +1,32 @@
 -- The constraints of fronts and slots are lawful, at every assignment that fits: rows are applied to states that are
 -- made of what they read and a scratch state, so that they are monotone and read nothing else.
-use Rattle.std.proofs.Common.{◌≡◌, ℕ, zero, suc, ◌+◌, ◌<◌, ◌≤◌, Bool, true, false, cond, List, length, get_or, Option, Some, None, IfSome, sym, ap, subst, ◌∙◌, refl, inl, inr, arith}
-use Rattle.std.specs.Prelude.{◌&&◌, [], ◌∷◌, map, is_some, MatchOption}
+use Rattle.std.proofs.Common.{◌≡◌, ℕ, zero, suc, ◌<◌, Bool, true, false, cond, List, length, get_or, Option}
+use Rattle.std.proofs.Common.{Some, None, IfSome, sym, ap, subst, ◌∙◌, refl, inl, inr, arith}
+use Rattle.std.specs.Prelude.{[], ◌∷◌, map, is_some, MatchOption}
 use Rattle.std.specs.Option.{option_map}
 use Rattle.std.specs.List.{list_all}
 use Rattle.std.proofs.lemmas.Bool.{cases_Bool, true≢false, false≢true, and_from, and_parts, eq-eqb}
 use Rattle.std.proofs.lemmas.List.{length-map, get_or-map}
 use Rattle.sparse_tables.specs.table_covers.tm_lattice.declared.lattices.Lattice as lattice
 use Rattle.sparse_tables.specs.table_covers.tm_lattice.Tables.{IsBelow}
-use Rattle.sparse_tables.specs.table_covers.Systems.{System}
 use Rattle.sparse_tables.specs.table_covers.Solutions.{brought}
 use Rattle.sparse_tables.specs.table_covers.laws.Closing as closing
-use Rattle.least_assignments.specs.Constraints.{Assignment, Constraints, AreLawful, AreFitting, AgreeFor, IsPointwiseBelow}
+use Rattle.least_assignments.specs.Constraints.{Assignment, Constraints, AreLawful, AreFitting, AgreeFor}
+use Rattle.least_assignments.specs.Constraints.{IsPointwiseBelow}
 use Rattle.least_assignments.specs.Constraints.{target, target_count}
 use Rattle.front_constraints.specs.declared.standings.Standing.{Standing}
-use Rattle.front_constraints.specs.Standings.{fronted, opened, holding, front_in, cell_in, HasParts, IsStandingBelow}
-use Rattle.front_constraints.specs.Standings.{joined_standing, changed_standing, height_in, standings}
-use Rattle.front_constraints.specs.Systems.{SparseSystem, Variable, front_at, open_at, slot_at, Rule, entered, row, flow}
-use Rattle.front_constraints.specs.Systems.{nodes, edges, from, to, owns, touches, kept_at, is_looked, is_touched}
+use Rattle.front_constraints.specs.Standings.{holding, front_in, cell_in, HasParts, IsStandingBelow}
+use Rattle.front_constraints.specs.Standings.{joined_standing}
+use Rattle.front_constraints.specs.Systems.{SparseSystem, Variable, front_at, open_at, slot_at, Rule, entered, row}
+use Rattle.front_constraints.specs.Systems.{flow}
+use Rattle.front_constraints.specs.Systems.{nodes, edges, from, to, owns, touches, kept_at, is_looked}
 use Rattle.front_constraints.specs.Systems.{IsVariable, IsRule}
-use Rattle.front_constraints.specs.Rules.{standing, seen_at, seen, is_ready, small, small_at, part_of, targets_of, brings}
-use Rattle.front_constraints.specs.Rules.{passed, is_read, rounded_cell_at, front_limit_at, cell_limit_at, front_constraints}
+use Rattle.front_constraints.specs.Rules.{standing, seen_at, seen, is_ready, small, small_at, part_of, targets_of}
+use Rattle.front_constraints.specs.Rules.{brings}
+use Rattle.front_constraints.specs.Rules.{passed, is_read, rounded_cell_at, front_limit_at, cell_limit_at}
+use Rattle.front_constraints.specs.Rules.{front_constraints}
 use Rattle.front_constraints.specs.Rules.{FitsFrontAt, FitsCellAt, FitsVariable, AllowsRule, Allows}
-use Rattle.front_constraints.specs.Premises.{AreValues, IsRounding, IsSparseSystem}
+use Rattle.front_constraints.specs.Premises.{IsSparseSystem}
 use Rattle.front_constraints.specs.laws.Options.{AreOptions, are_options, no_values, no_rounding}
 
 -- ## Lists
@@ -64,7 +68,8 @@ pub none_of : {A : Type 0} (P : A → Type 0) (b : Bool) (y : Option A)
 none_of P b None h other = refl
 none_of P b (Some d) h other = absurd (true≢false (sym h.0 ∙ other))
 
-there_rises : {A : Type 0} (leq : A → A → Type 0) (y z : Option A) → IsBelow leq y z → is_some y ≡ true → is_some z ≡ true
+there_rises : {A : Type 0} (leq : A → A → Type 0) (y z : Option A) → IsBelow leq y z → is_some y ≡ true
+    → is_some z ≡ true
 there_rises leq None z le there = absurd (false≢true there)
 there_rises leq (Some a) None le there = absurd le
 there_rises leq (Some a) (Some b) le there = refl
@@ -231,7 +236,8 @@ module _ {V F D L M N : Type 0} (states : lattice.Ghosts V L) (fronts : lattice.
   small_rises e lt (Some f) (Some g) y-fits z-fits le c d c-fits d-fits cells-le =
       cond_below (is_ready sys e c) (is_ready sys e d) (sys.state_of f c) (sys.state_of g d)
       (λ ready. is_ready_where e lt d
-      (λ x looked. there_rises cells.leq (c x) (d x) (cells-le x (and_parts (sys.is_cell x) (sys.place.looks e x) looked).0)
+      (λ x looked. there_rises cells.leq (c x) (d x) (cells-le x
+      (and_parts (sys.is_cell x) (sys.place.looks e x) looked).0)
       (looked_there e lt c ready x looked)))
       (λ c-ready d-ready. made_below (from sys e) f g c d
       (is.made.state_fits (from sys e) f c y-fits (c-fits c-ready))
@@ -272,12 +278,14 @@ module _ {V F D L M N : Type 0} (states : lattice.Ghosts V L) (fronts : lattice.
   IsPart n (open_at e) = Unit {0}
   IsPart n (slot_at m x) = m ≡ n
 
-  cell_part : (m x : ℕ) (y : Option D) → MatchOption y (sys.is_cell x ≡ false) (λ d. (sys.is_cell x ≡ true) × fits_cell x d)
+  cell_part : (m x : ℕ) (y : Option D)
+      → MatchOption y (sys.is_cell x ≡ false) (λ d. (sys.is_cell x ≡ true) × fits_cell x d)
       → IfSome (option_map holding y) (FitsAt (slot_at m x))
   cell_part m x None h = tt
   cell_part m x (Some d) h = record { front = tt; cell = h.1 }
 
-  part_fits : (n : ℕ) (y : Option V) → IfSome y (suits n) → (v : Variable) → IsPart n v → IfSome (part_of sys y v) (FitsAt v)
+  part_fits : (n : ℕ) (y : Option V) → IfSome y (suits n) → (v : Variable) → IsPart n v
+      → IfSome (part_of sys y v) (FitsAt v)
   part_fits n None fits v at = tt
   part_fits n (Some s) fits (front_at m) at = record {
     front = subst (λ k. fits_front k (sys.front s)) (sym at) (is.made.front_fits n s fits);
@@ -344,7 +352,8 @@ module _ {V F D L M N : Type 0} (states : lattice.Ghosts V L) (fronts : lattice.
   targets_are (flow e x) is-r zero lt = ((is.law.to_node e is-r.0, is-r.1, is-r.2), refl)
   targets_are (flow e x) is-r (suc j) lt = absurd (omega (arith, lt))
 
-  passed_fits : (e x m k : ℕ) (y z : Option S) → IfSome z (FitsAt (slot_at k x)) → IfSome (passed y z) (FitsAt (slot_at m x))
+  passed_fits : (e x m k : ℕ) (y z : Option S) → IfSome z (FitsAt (slot_at k x))
+      → IfSome (passed y z) (FitsAt (slot_at m x))
   passed_fits e x m k None z h = tt
   passed_fits e x m k (Some w) None h = tt
   passed_fits e x m k (Some w) (Some u) h = record { front = h.front; cell = h.cell }
@@ -404,7 +413,8 @@ module _ {V F D L M N : Type 0} (states : lattice.Ghosts V L) (fronts : lattice.
       (kept_slot (from sys e) x (is.law.from_node e lt) (and_parts (sys.is_cell x) (sys.place.looks e x) looked).0)
       (and_from (is_looked sys e x) _ looked (eq-eqb k k refl))))
 
-  small_same : (e : ℕ) → e < edges sys → (a b : Assignment S) → AgreeAt (row e) a b → small_at sys e a ≡ small_at sys e b
+  small_same : (e : ℕ) → e < edges sys → (a b : Assignment S) → AgreeAt (row e) a b
+      → small_at sys e a ≡ small_at sys e b
   small_same e lt a b agree =
       let v = front_at (from sys e) in
       let same : seen sys e a ≡ seen sys e b = λ i x. seen_same e lt a b agree x i in
@@ -443,7 +453,8 @@ module _ {V F D L M N : Type 0} (states : lattice.Ghosts V L) (fronts : lattice.
       are_options fronts (λ f. ⊥) sys.front_height 0 (λ f. f) is.front_order (no_values fronts sys.front_height)
       (no_rounding fronts (λ f. ⊥) (λ f fits. absurd fits))
 
-  cell_options : (v : Variable) → AreOptions cells (CellOk v) sys.cell_height (cell_limit_at sys v) (rounded_cell_at sys v)
+  cell_options : (v : Variable)
+      → AreOptions cells (CellOk v) sys.cell_height (cell_limit_at sys v) (rounded_cell_at sys v)
   cell_options (front_at n) =
       are_options cells (λ d. ⊥) sys.cell_height 0 (λ d. d) is.cell_order (no_values cells sys.cell_height)
       (no_rounding cells (λ d. ⊥) (λ d fits. absurd fits))
@@ -451,7 +462,8 @@ module _ {V F D L M N : Type 0} (states : lattice.Ghosts V L) (fronts : lattice.
       are_options cells (λ d. ⊥) sys.cell_height 0 (λ d. d) is.cell_order (no_values cells sys.cell_height)
       (no_rounding cells (λ d. ⊥) (λ d fits. absurd fits))
   cell_options (slot_at n x) =
-      are_options cells (fits_cell x) sys.cell_height (sys.cell_limit x) (sys.outward n x) is.cell_order (is.cell_values x)
+      are_options cells (fits_cell x) sys.cell_height (sys.cell_limit x) (sys.outward n x) is.cell_order
+      (is.cell_values x)
       (is.roundings n x)
 
   abbrev at : ℕ → Variable
@@ -476,7 +488,8 @@ module _ {V F D L M N : Type 0} (states : lattice.Ghosts V L) (fronts : lattice.
     target_is = get_or-map sys.numbers.number (targets_of sys rule) j (front_at 0) 0 within
 
     target_within : target system k j < sys.numbers.variable_count
-    target_within = subst (λ i. i < sys.numbers.variable_count) (sym target_is) (is.numbered.number to_variable good.0).0
+    target_within = subst (λ i. i < sys.numbers.variable_count) (sym target_is)
+        (is.numbered.number to_variable good.0).0
 
     gives_fits : (a : Assignment S) → Fitting a
         → IfSome (system.gives k a j) (FitsVariable sys fits_front fits_cell (target system k j))
@@ -542,6 +555,7 @@ module _ {V F D L M N : Type 0} (states : lattice.Ghosts V L) (fronts : lattice.
         let front-le = (front_options (at i)).climbs v.front w.front h.front h'.front le.front in
         let cell-le = (cell_options (at i)).climbs v.cell w.cell h.cell h'.cell le.cell in
         same_standing v w
-        ((front_options (at i)).strictly v.front w.front h.front h'.front le.front (omega (arith, low, front-le, cell-le)))
+        ((front_options (at i)).strictly v.front w.front h.front h'.front le.front
+        (omega (arith, low, front-le, cell-le)))
         ((cell_options (at i)).strictly v.cell w.cell h.cell h'.cell le.cell (omega (arith, low, front-le, cell-le)));
   }

@@ -1,27 +1,30 @@
 -- The least assignment of the constraints of fronts and slots, read back, is the least fronts and slots.
-use Rattle.std.proofs.Common.{◌≡◌, ℕ, zero, suc, ◌<◌, Bool, true, false, cond, List, length, get_or, Option, Some, None, IfSome, sym, ap, subst, ◌∙◌, refl, inl, inr, arith}
-use Rattle.std.specs.Prelude.{◌&&◌, [], ◌∷◌, map, is_some, MatchOption}
+use Rattle.std.proofs.Common.{◌≡◌, ℕ, zero, suc, ◌<◌, Bool, true, false, cond, List, length, get_or, Option, Some}
+use Rattle.std.proofs.Common.{None, IfSome, sym, ap, subst, ◌∙◌, refl, inl, inr, arith}
+use Rattle.std.specs.Prelude.{map, is_some}
 use Rattle.std.specs.Option.{option_map}
 use Rattle.std.proofs.lemmas.Bool.{cases_Bool, true≢false, false≢true, and_from, and_parts, cond-true, cond-false}
 use Rattle.std.proofs.lemmas.List.{length-map, get_or-map}
-use Rattle.std.proofs.lemmas.Option.{none-some}
 use Rattle.sparse_tables.specs.table_covers.tm_lattice.declared.lattices.Lattice as lattice
 use Rattle.sparse_tables.specs.table_covers.tm_lattice.Tables.{IsBelow}
-use Rattle.sparse_tables.specs.table_covers.Systems.{System}
 use Rattle.sparse_tables.specs.table_covers.Solutions.{brought}
 use Rattle.sparse_tables.specs.Sparse.{Parts, AgreeOn, GiveAlike}
-use Rattle.sparse_tables.specs.Fronts.{Fronts, IsThere, IsStateAt, IsArrived, IsEntered, AreMet, AreBelow, AreFit, AreLeast}
+use Rattle.sparse_tables.specs.Fronts.{Fronts, IsThere, IsStateAt, IsArrived, IsEntered, AreMet, AreBelow, AreFit}
+use Rattle.sparse_tables.specs.Fronts.{AreLeast}
 use Rattle.sparse_tables.specs.Fronts.{IsFullAt}
 use Rattle.sparse_tables.specs.laws.LeastFronts as fronts_law
 use Rattle.least_assignments.specs.Constraints.{Assignment, Constraints, target, target_count}
-use Rattle.least_assignments.specs.Solutions.{AreRound, IsMet, IsClosed, IsLeast, AreAllowed}
+use Rattle.least_assignments.specs.Solutions.{IsClosed, IsLeast, AreAllowed}
 use Rattle.front_constraints.specs.declared.standings.Standing.{Standing}
-use Rattle.front_constraints.specs.Standings.{fronted, opened, holding, front_in, cell_in, HasParts, IsStandingBelow}
+use Rattle.front_constraints.specs.Standings.{fronted, opened, holding, front_in, cell_in}
 use Rattle.front_constraints.specs.Standings.{changed_standing, standings}
-use Rattle.front_constraints.specs.Systems.{SparseSystem, Variable, front_at, open_at, slot_at, Rule, entered, row, flow}
-use Rattle.front_constraints.specs.Systems.{nodes, edges, from, to, owns, touches, kept_at, is_looked, is_touched, parts_of}
+use Rattle.front_constraints.specs.Systems.{SparseSystem, Variable, front_at, open_at, slot_at, Rule, entered, row}
+use Rattle.front_constraints.specs.Systems.{flow}
+use Rattle.front_constraints.specs.Systems.{nodes, edges, from, to, owns, touches, kept_at, is_looked, is_touched}
+use Rattle.front_constraints.specs.Systems.{parts_of}
 use Rattle.front_constraints.specs.Systems.{IsVariable, IsRule}
-use Rattle.front_constraints.specs.Rules.{standing, seen_at, seen, is_ready, small, small_at, part_of, targets_of, brings}
+use Rattle.front_constraints.specs.Rules.{standing, seen_at, seen, is_ready, small, small_at, part_of, targets_of}
+use Rattle.front_constraints.specs.Rules.{brings}
 use Rattle.front_constraints.specs.Rules.{passed, rounded_cell_at, front_constraints, FitsVariable, AllowsRule, Allows}
 use Rattle.front_constraints.specs.Rules.{fronts_of}
 use Rattle.front_constraints.specs.Premises.{IsSparseSystem, AreLocal, IsKeptFront, IsRoundCell}
@@ -55,12 +58,14 @@ is_there : {A : Type 0} (y : Option A) → IsThere y → is_some y ≡ true
 is_there None h = absurd h
 is_there (Some a) h = refl
 
-uncut : {A : Type 0} (leq : A → A → Type 0) (b : Bool) (y z : Option A) → IsBelow leq y (cond b z None) → IsBelow leq y z
+uncut : {A : Type 0} (leq : A → A → Type 0) (b : Bool) (y z : Option A) → IsBelow leq y (cond b z None)
+    → IsBelow leq y z
 uncut leq true y z le = le
 uncut leq false None z le = tt
 uncut leq false (Some a) z le = absurd le
 
-cut_below : {A : Type 0} (leq : A → A → Type 0) (b : Bool) (y z : Option A) → IsBelow leq y z → IsBelow leq (cond b y None) z
+cut_below : {A : Type 0} (leq : A → A → Type 0) (b : Bool) (y z : Option A) → IsBelow leq y z
+    → IsBelow leq (cond b y None) z
 cut_below leq true y z le = le
 cut_below leq false y z le = tt
 
@@ -140,7 +145,8 @@ module _ {V F D L M N : Type 0} (states : lattice.Ghosts V L) (fronts : lattice.
   open_if o = cond o (Some opened) None
 
   held_below : (y : Option D) (z : Option S) → Below (option_map holding y) z → IsBelow cells.leq y (cell_in z)
-  held_below y z le = subst (λ c. IsBelow cells.leq c (cell_in z)) (cell_back y) (cell_below (option_map holding y) z le)
+  held_below y z le = subst (λ c. IsBelow cells.leq c (cell_in z)) (cell_back y)
+      (cell_below (option_map holding y) z le)
 
   open_below : (y z : Option S) → Below y z → is_some y ≡ true → is_some z ≡ true
   open_below None z le there = absurd (false≢true there)
@@ -167,7 +173,8 @@ module _ {V F D L M N : Type 0} (states : lattice.Ghosts V L) (fronts : lattice.
   -- ## A closed assignment is met
 
   module _ (a : Assignment S) (closed : Closed a)
-      (allowed : AreAllowed (standings fronts cells) (FitsVariable sys fits_front fits_cell) (Allows sys checks) system a)
+      (allowed : AreAllowed (standings fronts cells) (FitsVariable sys fits_front fits_cell) (Allows sys checks) system
+      a)
       (kept : (n : ℕ) → n < nodes sys → IfSome (front_in (standing sys a (front_at n))) (keeps n)) where
     abbrev read : Fronts F D
     read = fronts_of sys a
@@ -180,7 +187,8 @@ module _ {V F D L M N : Type 0} (states : lattice.Ghosts V L) (fronts : lattice.
         let counted : j < target_count system k =
         subst (λ m. j < m) (sym (length-map (targets_of sys (sys.numbers.rule k)) sys.numbers.number)) j-lt in
         subst (λ i. Below (system.gives k a j) (a i))
-        (lawful.target_is states fronts cells suits fits_front fits_cell sys is k j lt counted) (closed.met k lt j counted)
+        (lawful.target_is states fronts cells suits fits_front fits_cell sys is k j lt counted)
+        (closed.met k lt j counted)
 
     met_at : (r : Rule) → IsRule sys r → (j : ℕ) → j < length (targets_of sys r)
         → Below (brings sys r a (get_or (targets_of sys r) j (front_at 0)))
@@ -330,9 +338,11 @@ module _ {V F D L M N : Type 0} (states : lattice.Ghosts V L) (fronts : lattice.
         let k = kept_at sys (from sys e) x in
         slot_holds (to sys e) x (read.slot_of k x)
         (λ other. cond-false (sys.is_cell x) (cell_in (standing sys a (slot_at k x))) None other)
-        (λ cell. subst (λ y. IsBelow cells.leq y (cell_in (standing sys a (slot_at (to sys e) x)))) (sym (slot_is k x cell))
+        (λ cell. subst (λ y. IsBelow cells.leq y (cell_in (standing sys a (slot_at (to sys e) x))))
+        (sym (slot_is k x cell))
         (cell_below (standing sys a (slot_at k x)) (standing sys a (slot_at (to sys e) x))
-        (passed_below (standing sys a (open_at e)) (standing sys a (slot_at k x)) (standing sys a (slot_at (to sys e) x))
+        (passed_below (standing sys a (open_at e)) (standing sys a (slot_at k x))
+        (standing sys a (slot_at (to sys e) x))
         opens (met_at (flow e x) (lt, cell, own, passes) zero (omega arith)))))
 
     rounded_in : (n x : ℕ) (y : Option S)
@@ -346,7 +356,8 @@ module _ {V F D L M N : Type 0} (states : lattice.Ghosts V L) (fronts : lattice.
     round_slot n x is-v =
         let at = is.numbered.number (slot_at n x) is-v in
         rounded_in n x (standing sys a (slot_at n x))
-        (subst (λ v. IfSome (standing sys a (slot_at n x)) (λ w. changed_standing (λ f. f) (rounded_cell_at sys v) w ≡ w))
+        (subst (λ v. IfSome (standing sys a (slot_at n x)) (λ w. changed_standing (λ f. f) (rounded_cell_at sys v) w ≡
+        w))
         at.1 (closed.round.round (number (slot_at n x)) at.0))
 
     round_met : (n x : ℕ) (s : V) → n < nodes sys → owns sys n x ≡ true → StateAt read n s
@@ -357,7 +368,8 @@ module _ {V F D L M N : Type 0} (states : lattice.Ghosts V L) (fronts : lattice.
         is.made.rounded n x s at.fits ∙ elim (cases_Bool (sys.is_cell x)) [
           | inl cell ↦ ap (option_map (sys.outward n x)) (stands ∙ slot_is n x cell) ∙ round_slot n x (lt, cell, own)
               ∙ sym (stands ∙ slot_is n x cell)
-          | inr other ↦ ap (option_map (sys.outward n x)) (none_at n x s at.fits other) ∙ sym (none_at n x s at.fits other)
+          | inr other ↦ ap (option_map (sys.outward n x)) (none_at n x s at.fits other) ∙ sym
+              (none_at n x s at.fits other)
         ]
 
     pub read_met : Met read
@@ -377,7 +389,8 @@ module _ {V F D L M N : Type 0} (states : lattice.Ghosts V L) (fronts : lattice.
     read_fits = record {
       front = λ n lt. both_hold (fits_front n) (keeps n) (front_in (standing sys a (front_at n)))
           (lawful.front_fits states fronts cells suits fits_front fits_cell sys is n (standing sys a (front_at n))
-          (lawful.standing_fits states fronts cells suits fits_front fits_cell sys is a closed.round.fits (front_at n) lt))
+          (lawful.standing_fits states fronts cells suits fits_front fits_cell sys is a closed.round.fits (front_at n)
+          lt))
           (kept n lt);
       slot = λ n x lt own. if_cond_option (Round n x) (sys.is_cell x) (cell_in (standing sys a (slot_at n x)))
           (λ cell. round_each n x (cell_in (standing sys a (slot_at n x))) (round_slot n x (lt, cell, own)) cell
@@ -399,11 +412,13 @@ module _ {V F D L M N : Type 0} (states : lattice.Ghosts V L) (fronts : lattice.
       full_test n = fronts_law.full_below sys.place sys.is_cell b n is.filled.bound
 
       met : Met cut
-      met = fronts_law.cut_met states suits sys.equations parts sys.place sys.is_cell is.state_order is.state_join is.law
+      met = fronts_law.cut_met states suits sys.equations parts sys.place sys.is_cell is.state_order is.state_join
+          is.law
           is.pieces is.placed is.filled b b_met
 
       fits : Fit cut
-      fits = fronts_law.cut_fits states suits sys.equations parts sys.place sys.is_cell is.state_order is.state_join is.law
+      fits = fronts_law.cut_fits states suits sys.equations parts sys.place sys.is_cell is.state_order is.state_join
+          is.law
           is.pieces is.placed is.filled Keeps Round b b_fits
 
       full_at : (n : ℕ) (f : F) → cut.front_of n ≡ Some f
@@ -426,7 +441,8 @@ module _ {V F D L M N : Type 0} (states : lattice.Ghosts V L) (fronts : lattice.
       front_stands : (n : ℕ) → n < nodes sys → front_in (standing sys values (front_at n)) ≡ cut.front_of n
       front_stands n lt = ap front_in (stands (front_at n) lt) ∙ front_back (cut.front_of n)
 
-      slot_stands : (n x : ℕ) → IsVariable sys (slot_at n x) → cell_in (standing sys values (slot_at n x)) ≡ cut.slot_of n x
+      slot_stands : (n x : ℕ) → IsVariable sys (slot_at n x)
+          → cell_in (standing sys values (slot_at n x)) ≡ cut.slot_of n x
       slot_stands n x is-v = ap cell_in (stands (slot_at n x) is-v) ∙ cell_back (cut.slot_of n x)
 
       -- ### It fits, and is round
@@ -438,7 +454,8 @@ module _ {V F D L M N : Type 0} (states : lattice.Ghosts V L) (fronts : lattice.
       front_value n None h = tt
       front_value n (Some f) h = record { front = h.0; cell = tt }
 
-      slot_value : (n x : ℕ) (y : Option D) → IfSome y (Round n x) → IfSome (option_map holding y) (FitsAt (slot_at n x))
+      slot_value : (n x : ℕ) (y : Option D) → IfSome y (Round n x)
+          → IfSome (option_map holding y) (FitsAt (slot_at n x))
       slot_value n x None h = tt
       slot_value n x (Some d) h = record { front = tt; cell = h.1 }
 
@@ -455,7 +472,8 @@ module _ {V F D L M N : Type 0} (states : lattice.Ghosts V L) (fronts : lattice.
       front_round n None = tt
       front_round n (Some f) = refl
 
-      slot_round : (n x : ℕ) (y : Option D) → IfSome y (Round n x) → IfSome (option_map holding y) (RoundAt (slot_at n x))
+      slot_round : (n x : ℕ) (y : Option D) → IfSome y (Round n x)
+          → IfSome (option_map holding y) (RoundAt (slot_at n x))
       slot_round n x None h = tt
       slot_round n x (Some d) h = ap holding h.2
 
@@ -564,14 +582,16 @@ module _ {V F D L M N : Type 0} (states : lattice.Ghosts V L) (fronts : lattice.
               cond-true (is_looked sys e x) (seen_at sys e values x) (sys.scratch x) looked
               ∙ slot_stands (kept_at sys n x) x (kept_slot n x n_lt cell) ∙ sym (is.made.cell_is f whole_cells x cell)
 
-          by_checked : (y : Option V) → IfSome y (suits n) → IfSome y (checks e) → IsBelow states.leq (Some small_state) y
+          by_checked : (y : Option V) → IfSome y (suits n) → IfSome y (checks e)
+              → IsBelow states.leq (Some small_state) y
               → GiveAlike states suits sys.equations parts sys.place e (sys.equations.after e small_state)
               (sys.equations.after e whole)
           by_checked None d-fits passes le = absurd le
           by_checked (Some d) d-fits passes le =
               local.local e small_state whole d lt small_state_fits whole_fits d-fits le
               (subst (keeps n) (sym (is.made.front_is f v)) f_is.1) passes
-              (whole_agrees e f v whole whole_fits small_state_fits (sym (is.made.front_is f whole_cells)) values_looked)
+              (whole_agrees e f v whole whole_fits small_state_fits (sym (is.made.front_is f whole_cells))
+              values_looked)
 
           alike_below : GiveAlike states suits sys.equations parts sys.place e (sys.equations.after e small_state)
               (sys.equations.after e whole)
@@ -624,7 +644,8 @@ module _ {V F D L M N : Type 0} (states : lattice.Ghosts V L) (fronts : lattice.
       fronted_rises (Some f) None le = absurd le
       fronted_rises (Some f) (Some g) le = record { front = le; cell = tt }
 
-      abbrev holding_rises : (y z : Option D) → IsBelow cells.leq y z → Below (option_map holding y) (option_map holding z)
+      abbrev holding_rises : (y z : Option D) → IsBelow cells.leq y z
+          → Below (option_map holding y) (option_map holding z)
       holding_rises = lawful.holding_rises states fronts cells suits fits_front fits_cell sys is
 
       abbrev IsTarget : Rule → Variable → Type 0
@@ -705,7 +726,8 @@ module _ {V F D L M N : Type 0} (states : lattice.Ghosts V L) (fronts : lattice.
             subst (λ y. Below (standing sys a v) y) (stands v is-v)
             (least values values_closed (number v) (is.numbered.number v is-v).0)
 
-        slot_under : (n x : ℕ) → n < nodes sys → owns sys n x ≡ true → IsBelow cells.leq (read.slot_of n x) (b.slot_of n x)
+        slot_under : (n x : ℕ) → n < nodes sys → owns sys n x ≡ true
+            → IsBelow cells.leq (read.slot_of n x) (b.slot_of n x)
         slot_under n x lt own = elim (cases_Bool (sys.is_cell x)) [
           | inl cell ↦ subst (λ y. IsBelow cells.leq y (b.slot_of n x)) (sym (slot_is n x cell))
               (subst (IsBelow cells.leq (cell_in (standing sys a (slot_at n x)))) (cell_back (b.slot_of n x))
@@ -726,7 +748,8 @@ module _ {V F D L M N : Type 0} (states : lattice.Ghosts V L) (fronts : lattice.
               (subst (IsBelow fronts.leq (front_in (standing sys a (front_at n)))) (front_back (cut.front_of n))
               (front_below (standing sys a (front_at n)) (option_map fronted (cut.front_of n))
               (at_variable (front_at n) lt)));
-          opened = λ e lt opens. open_under (b.is_open e) (standing sys a (open_at e)) (at_variable (open_at e) lt) opens;
+          opened = λ e lt opens. open_under (b.is_open e) (standing sys a (open_at e)) (at_variable (open_at e) lt)
+              opens;
           slot = slot_under;
         }
 

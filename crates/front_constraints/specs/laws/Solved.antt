@@ -58,7 +58,8 @@ module _ {V F D L M N : Type 0} (states : lattice.Ghosts V L) (fronts : lattice.
       → AreAllowed (standings fronts cells) (FitsVariable sys fits_front fits_cell) (Allows sys checks)
       (front_constraints sys) a
       → ((n : ℕ) → n < nodes sys → (let b = fronts_of sys a in IfSome (b.front_of n) (keeps n)))
-      → (table : NodeTable V) → IsExpanded states suits sys.equations parts sys.place sys.is_cell (fronts_of sys a) table
+      → (table : NodeTable V)
+      → IsExpanded states suits sys.equations parts sys.place sys.is_cell (fronts_of sys a) table
       → IsFramedIn states suits sys.equations parts sys.place table → IsKept states suits sys.equations kept table
       → bounded.IsFramedKept states suits sys.equations parts sys.place kept table is.state_order is.state_join is.law
       is.pieces is.placed

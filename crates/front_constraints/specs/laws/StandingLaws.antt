@@ -60,7 +60,8 @@ module _ {A : Type 0} (is_value : A → Type 0) (leq : A → A → Type 0) where
     option_join : IsJoin IsIn Below (joined_at joined)
     option_join = record { value = value; left = left; right = right; least = least }
 
-  module _ {M : Type 0} (is_marks : M → Type 0) (rounded : M → A → A) (closure : IsClosure is_value is_marks leq rounded)
+  module _ {M : Type 0} (is_marks : M → Type 0) (rounded : M → A
+      → A) (closure : IsClosure is_value is_marks leq rounded)
     where
       round_value : (marks : M) (x : Option A) → is_marks marks → IsIn x → IsIn (option_map (rounded marks) x)
       round_value marks None m is = tt

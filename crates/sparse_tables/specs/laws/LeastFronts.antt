@@ -1,5 +1,6 @@
 -- The least fronts and slots are those of the least solution.
-use Rattle.std.proofs.Common.{◌≡◌, ℕ, zero, suc, ◌<◌, ◌≤◌, Bool, true, false, cond, Option, Some, None, IfSome, sym, ap, subst, ◌∙◌, refl, inl, inr, arith}
+use Rattle.std.proofs.Common.{◌≡◌, ℕ, zero, suc, ◌<◌, Bool, true, false, cond, Option, Some, None, IfSome, sym}
+use Rattle.std.proofs.Common.{ap, subst, ◌∙◌, refl, inl, inr, arith}
 use Rattle.std.specs.Prelude.{◌&&◌, is_some}
 use Rattle.std.specs.Option.{option_map}
 use Rattle.std.proofs.lemmas.Bool.{cases_Bool, cases_eq, false≢true, and_from, and_parts, cond_both, cond-true}
@@ -12,8 +13,9 @@ use Rattle.table_covers.specs.Solutions.{NodeTable, edge_count, along, brought, 
 use Rattle.table_covers.specs.Solutions.{AreFitting, least_of}
 use Rattle.table_covers.specs.laws.Closing as closing
 use Rattle.table_covers.specs.laws.Iterates as iterates
-use Rattle.sparse_tables.specs.Sparse.{Parts, Placing, AreParts, IsPlaced, IsFramedIn, IsFlowing, IsSparseClosed, SameCell}
-use Rattle.sparse_tables.specs.Sparse.{CellBelow, IsUnderAt, IsOwnBelow, AreOwnBelow, KeepsCell, IsThin}
+use Rattle.sparse_tables.specs.Sparse.{Parts, Placing, AreParts, IsPlaced, IsFramedIn, IsFlowing, IsSparseClosed}
+use Rattle.sparse_tables.specs.Sparse.{SameCell}
+use Rattle.sparse_tables.specs.Sparse.{CellBelow, IsUnderAt, IsOwnBelow, KeepsCell}
 use Rattle.sparse_tables.specs.laws.Bounded as bounded
 use Rattle.sparse_tables.specs.laws.Bounded.{IsKept, IsKeptUnder}
 use Rattle.sparse_tables.specs.laws.Closed as closed
@@ -133,7 +135,8 @@ module _ {V F D M : Type 0} (states : lattice.Ghosts V M) (suits : ℕ → V →
               (met.flows e x lt arrived.opened own passed) (full x cell).0),
           front_there (parts.front t) (a.front_of (to e)) arrived.front,
         ))
-        (λ other. subst (λ m. IsThere (a.slot_of m x) × IsThere (a.front_of m)) (placed.same e x lt other) (full x cell))
+        (λ other. subst (λ m. IsThere (a.slot_of m x) × IsThere (a.front_of m)) (placed.same e x lt other)
+        (full x cell))
 
     entry_is_full : (s : V) → suits 0 s → IsEntered states suits sys parts place is_cell a s → Full a 0
     entry_is_full s fits entered x cell =
@@ -159,7 +162,8 @@ module _ {V F D M : Type 0} (states : lattice.Ghosts V M) (suits : ℕ → V →
     whole : (n : ℕ) → full_below place is_cell a n filled.bound ≡ true → Full a n
     whole n told-is x cell = tells place is_cell a n filled.bound told-is x (filled.within x cell) cell
 
-    pub is_full : (n : ℕ) (f : F) (b : Bool) → full_below place is_cell a n filled.bound ≡ b → cond b (a.front_of n) None ≡ Some f
+    pub is_full : (n : ℕ) (f : F) (b : Bool) → full_below place is_cell a n filled.bound ≡ b
+        → cond b (a.front_of n) None ≡ Some f
         → Full a n
     is_full n f true told-is is = whole n told-is
     is_full n f false told-is is = absurd (none-some f is)
@@ -201,7 +205,8 @@ module _ {V F D M : Type 0} (states : lattice.Ghosts V M) (suits : ℕ → V →
         entry = entered sys.entry law.entry_fits met.entry;
         rows = λ e lt s at.
             let whole = uncut (from e) s at in
-            arrived e lt s whole (is_full (from e) (parts.front s) (full_below place is_cell a (from e) filled.bound) refl at.front)
+            arrived e lt s whole (is_full (from e) (parts.front s) (full_below place is_cell a (from e) filled.bound)
+            refl at.front)
             (sys.after e s) (law.after_fits e s lt at.fits) (met.rows e lt s whole);
         flows = met.flows;
         round = λ n x s lt own at. met.round n x s lt own (uncut n s at);
@@ -247,7 +252,8 @@ module _ {V F D M : Type 0} (states : lattice.Ghosts V M) (suits : ℕ → V →
 
       pub cut_under : (a : Fronts F D) → Fit a → AreBelow states suits sys parts place is_cell (cut a) a
       cut_under a fits = record {
-        front = λ n lt. cond_below_itself n (full_below place is_cell a n filled.bound) (a.front_of n) (fits.front n lt);
+        front = λ n lt. cond_below_itself n (full_below place is_cell a n filled.bound) (a.front_of n)
+            (fits.front n lt);
         opened = λ e lt opened. opened;
         slot = λ n x lt own. slot_below_itself n x (a.slot_of n x) (fits.slot n x lt own);
       }
@@ -458,7 +464,8 @@ module _ {V F D M : Type 0} (states : lattice.Ghosts V M) (suits : ℕ → V →
         let to-lt = law.to_node e lt in
         last_flow e x k r t fits (subst (λ a. IfSome a (suits (to e))) brings (law.after_fits e r lt fits))
         (subst (λ a. KeepsCell states suits sys parts place x r a) brings (framed e lt r is x passed))
-        (low k) (low (to e)) (solved.started.fits k (placed.within (from e) x from-lt)) (solved.started.fits (to e) to-lt)
+        (low k) (low (to e)) (solved.started.fits k (placed.within (from e) x from-lt))
+        (solved.started.fits (to e) to-lt)
         (subst (CellBelow states suits sys parts place x (low k)) is (flows (from e) x from-lt))
         (subst (λ a. Below a (low (to e))) brings
         (subst (λ a. Below (brought (sys.after e) a) (low (to e))) is (solved.edges e lt)))
@@ -526,7 +533,8 @@ module _ {V F D M : Type 0} (states : lattice.Ghosts V M) (suits : ℕ → V →
       front_low n None z y-fits z-fits at le = tt
       front_low n (Some r) None y-fits z-fits at le = absurd le
       front_low n (Some r) (Some s) y-fits z-fits at le =
-          subst (IsBelow parts.front_leq (Some (parts.front r))) (sym at.front) (made.front_rises n r s y-fits z-fits le)
+          subst (IsBelow parts.front_leq (Some (parts.front r))) (sym at.front)
+          (made.front_rises n r s y-fits z-fits le)
 
       slot_low : (n x : ℕ) → place.owns n x ≡ true → (y z : Option V) → IfSome y (suits n) → IfSome z (suits n)
           → IsStandingAt states suits sys parts place is_cell a n z → Below y z
@@ -553,7 +561,8 @@ module _ {V F D M : Type 0} (states : lattice.Ghosts V M) (suits : ℕ → V →
 
       pub low_under : AreBelow states suits sys parts place is_cell (fronts_of low) a
       low_under = record {
-        front = λ n lt. front_low n (low n) (table n) (solved.started.fits n lt) (fits n lt) (expanded n lt) (below n lt);
+        front = λ n lt. front_low n (low n) (table n) (solved.started.fits n lt) (fits n lt) (expanded n lt)
+            (below n lt);
         opened = λ e lt led.
             let n = from e in
             let n-lt = law.from_node e lt in
@@ -565,7 +574,8 @@ module _ {V F D M : Type 0} (states : lattice.Ghosts V M) (suits : ℕ → V →
 
     module _ (fits_front : ℕ → F → Type 0) (fits_cell : ℕ → ℕ → D → Type 0)
         (fitted : Fitted fits_front fits_cell (IsStateOf low)) where
-      front_fits : (n : ℕ) → n < sys.node_count → (y : Option V) → low n ≡ y → IfSome (option_map parts.front y) (fits_front n)
+      front_fits : (n : ℕ) → n < sys.node_count → (y : Option V) → low n ≡ y
+          → IfSome (option_map parts.front y) (fits_front n)
       front_fits n lt None is = tt
       front_fits n lt (Some s) is = fitted.front n s (lt, is)
 
@@ -599,7 +609,8 @@ module _ {V F D M : Type 0} (states : lattice.Ghosts V M) (suits : ℕ → V →
         let solved = closed.sparse_is_closed states suits sys parts place order law made placed table sparse in
         let solves = closing.closed_solves states suits sys order join law table solved in
         let low-least = iterates.least_is_least states suits sys order join law in
-        let flows = flowing.least_flows states suits sys parts place order join law made placed low low-least low-framed in
+        let flows = flowing.least_flows states suits sys parts place order join law made placed low low-least
+        low-framed in
         let low-closed = closing.least_is_closed states suits sys order join law low low-least in
         let below-fronts = least-fronts.below (fronts_of low)
         (low_fits low low-closed flows low-framed fits_front fits_cell fitted)
@@ -628,7 +639,8 @@ module _ {V F D M : Type 0} (states : lattice.Ghosts V M) (suits : ℕ → V →
         → IsLeastSolution states suits sys table
     least_fronts_are_least_kept kept a least-fronts table expanded framed keeps kept-framed fitted =
         let sparse = expanded_is_closed a table least-fronts.met
-        (λ n f lt is. least_is_full fits_front fits_cell (IsRoundKept states suits sys parts place is_cell kept) fitted a least-fronts n f lt is)
+        (λ n f lt is. least_is_full fits_front fits_cell (IsRoundKept states suits sys parts place is_cell kept) fitted
+        a least-fronts n f lt is)
         expanded framed in
         let solved = closed.sparse_is_closed states suits sys parts place order law made placed table sparse in
         let under = bounded.lawful_under states suits sys kept table order join law keeps solved in
