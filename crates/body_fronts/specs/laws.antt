@@ -1,0 +1,6 @@
+pub mod Tables
+pub mod Fitting
+pub mod Made
+pub mod Local
+pub mod SparseBody
+pub mod BodySolved
