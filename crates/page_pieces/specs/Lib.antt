@@ -1,0 +1,4 @@
+pub mod Composed
+pub mod Laws
+pub mod Markup
+pub mod Pieces
