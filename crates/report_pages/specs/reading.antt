@@ -1,0 +1,2 @@
+-- How the definitions see what the code holds.
+pub mod Seen
