@@ -1,5 +1,5 @@
 -- What the findings give is a page, or a cause for which there is none.
-use Rattle.std.proofs.Common.{◌≡◌, ◌∙◌, ℕ, suc, Option, Some, None, List, [], ◌∷◌, length, map, arith, refl, sym, subst, ap}
+use Rattle.std.proofs.Common.{◌≡◌, ◌∙◌, ℕ, suc, Option, Some, None, List, [], ◌∷◌, length, map, refl, sym, subst, ap}
 use Rattle.tm_terms.specs.declared.alarms.Alarm.{Alarm}
 use Rattle.source_marks.specs.Marks.{Origin}
 use Rattle.report_views.specs.Causes.{AreOrigins, IsReportOf}

@@ -6,6 +6,7 @@
 //! `pump.c:12:27`, which leads to that line, `DIV` and its sentence.
 #![tactic(auto)]
 
+pub mod laws;
 mod lines;
 mod pages;
 mod rows;
