@@ -48,7 +48,8 @@ STATIONS = {
     " check_main",
     "Replays": "replay_lines replay_runs source_replays",
     "Commands": "big_source analyser analyse_main alarm_notes",
-    "Views of reports": "place_details report_reading report_views report_logs report_view refusal_hints refusal_hint",
+    "Views of reports": "place_details report_reading report_views report_logs report_view page_pieces report_pages"
+    " report_page refusal_hints refusal_hint",
     "Tests": "held_passes engine_tests words_tests source_tests transfer_tests pass_tests program_tests",
 }
 
