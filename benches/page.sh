@@ -1,0 +1,63 @@
+#!/usr/bin/env bash
+# Opens pages in a browser: benches/page.sh FOLDER [CHROMIUM]. It makes with ./analyse the pages of two examples and of a
+# source that is full of tags, in its comments, its strings and its name, and FOLDER then has them and a picture of each in
+# light and dark. Of each it sees that the browser's console says nothing, that the page as the browser has read it has no
+# script and no image, and that nothing was loaded. Then it times a page of some 5,000 lines and 500 alarms and one of
+# 10,000 alarms. CHROMIUM is `chromium`, as Debian has it.
+set -eu
+top=$(readlink -f -- "$(dirname -- "${BASH_SOURCE[0]}")/..")
+mkdir -p -- "$1"
+folder=$(readlink -f -- "$1")
+chromium=${2:-chromium}
+work=$(mktemp -d)
+trap 'rm -rf -- "$work"' EXIT
+
+browse() { # WORDS..
+    timeout 120 "$chromium" --headless --no-sandbox --disable-gpu --user-data-dir="$work/profile" --enable-logging=stderr \
+        --v=0 "$@" 2>"$work/told"
+}
+
+look() { # PAGE
+    local page=$folder/$1.html
+    browse --dump-dom "file://$page" >"$work/dom"
+    ! grep -a 'CONSOLE' "$work/told" || { echo "$1: the console says this" && return 1; }
+    ! grep -aiE '<(script|img|iframe|object|embed|link|base|form|svg)[ >/]' "$work/dom" ||
+        { echo "$1: the page has this element" && return 1; }
+    ! grep -aoiE '<[^>]* (on[a-z]+|src|style)=[^>]*>' "$work/dom" || { echo "$1: the page has this attribute" && return 1; }
+    browse --window-size=1100,1400 --screenshot="$folder/$1.png" "file://$page"
+    browse --window-size=1100,1400 --force-dark-mode --enable-features=WebContentsForceDark:inversion_method/none \
+        --blink-settings=preferredColorScheme=0 --screenshot="$folder/$1-dark.png" "file://$page"
+    echo "$1: $(wc -c <"$page") bytes, no message, no element but its own"
+}
+
+make_page() { # NAME FILE
+    "$top/analyse" --html="$folder/$1.html" "$2" >/dev/null || [ $? = 1 ]
+}
+
+make_page tank "$top/examples/tank.c"
+make_page uart_driver "$top/examples/uart_driver.c"
+hostile="$work/a<b>&\"'<img src=x onerror=alert(1)>.c"
+cat >"$hostile" <<'SOURCE'
+/* </code></div><script>alert(1)</script><img src=x onerror="alert(1)"> */
+char text[] = "</style></title><script>alert('2')</script>"; // <svg onload=alert(3)>
+int level, shown;
+__task(2) void drain(void) { level = __input(0, 4); /* --><iframe src=//x> */ }
+__task(1) void show(void) { if (level > 0) shown = 100 / level; /* &lt;script&gt; */ }
+SOURCE
+make_page hostile "$hostile"
+for name in tank uart_driver hostile; do look "$name"; done
+
+# A task that divides in each tenth line, and one that divides in each line.
+python3 - "$work" <<'PYTHON'
+import sys
+for name, lines, every in (("long", 5000, 10), ("many", 10000, 1)):
+    body = "\n".join(f"y = 1 / x; /* {at} */" if at % every == 0 else f"/* {at} */" for at in range(lines))
+    with open(f"{sys.argv[1]}/{name}.c", "w", encoding="ascii") as it:
+        it.write(f"int x, y;\nvoid f(void) {{\n{body}\n}}\n__task(1) void t(void) {{ x = __input(0, 1); f(); }}\n")
+PYTHON
+for name in long many; do
+    make_page "$name" "$work/$name.c"
+    bash -c "time $(printf '%q ' "$chromium") --headless --no-sandbox --user-data-dir=$work/profile --dump-dom \
+        file://$folder/$name.html >/dev/null 2>&1" 2>&1 | grep real
+    echo "$name: $(wc -c <"$folder/$name.html") bytes"
+done
