@@ -193,7 +193,8 @@ def views(top, program, view, folder):
             with open(others[-1], "wb") as it:
                 # (of the answer of `ranges` the view takes what stands behind the lines of objects, of four words)
                 it.writelines(line for line in found.splitlines(keepends=True) if len(line.split()) == 2)
-        for words in [["--lines", path, name], ["--sarif", path, name, *others], ["--summary", path, name]]:
+        refusal = ["--refusal", path, name, path, folder, "2", "1", "Syntax", "no source goes on so"]
+        for words in [["--lines", path, name], ["--sarif", path, name, *others], ["--summary", path, name], refusal]:
             yield f"{words[0]} < the report of {name}", [view, *words], report.stdout
 
 

@@ -240,6 +240,28 @@ for command in waits ranges; do
 done
 printf '# 99999999999 "a.h"\nint n;\n' >"$work/broken.c"
 same "status 10" "$(told "$top/analyse" --preprocessed "$work/broken.c")" "a broken mark"
+
+# A log tells of a refusal, at its place or at none, and has no results; the line goes to standard error.
+notified() { # LOG
+    python3 -c 'import json, sys
+run = json.load(open(sys.argv[1]))["runs"][0]
+told = run["invocations"][0]["toolExecutionNotifications"]
+at = [it["physicalLocation"] for it in told[0]["locations"]]
+print(len(told), told[0]["descriptor"]["id"], *[it["artifactLocation"]["uri"] for it in at],
+      *[value for it in at for _, value in sorted(it["region"].items())], len(run["results"]))' "$1"
+}
+printf '# 99999999999 "a.h"\nint\n=;\n' >"$work/marks.c"
+printf '%1048577s' '' >"$work/long.c"
+printf 'int f(void) { return ; }\n' >"$work/function.c"
+for row in "refused.c:Syntax a%20b.h 1 8" "marks.c:Syntax" "long.c:Limit source 1048576" \
+    "function.c:Mismatch $work/function.c 21 15 1"; do
+    told "$top/analyse" --preprocessed --sarif "$work/${row%%:*}" >"$work/log"
+    same "status 2" "$(tail -n 1 "$work/log")" "the status of the log of a refusal, ${row%%:*}"
+    grep -q '^analyse: .*: error: ' "$work/err"
+    sed -i '$d' "$work/log"
+    python3 "$here/sarif.py" "$work/log"
+    same "1 ${row#*:} 0" "$(notified "$work/log")" "the log of a refusal, ${row%%:*}"
+done
 printf 'int n;\n__task(1) void t(void) { n = 1 / n; }\n' >"$work/"$'n\xff.c'
 same "$work/"$'n\xff.c:2:32: warning: the divisor may be zero [DIV]\nalarms 1\nstatus 1' \
     "$(told "$top/analyse" "$work/"$'n\xff.c')" "a name that is no UTF-8"

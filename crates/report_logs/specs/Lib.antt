@@ -1,5 +1,6 @@
 pub mod Laws
 pub mod Logs
+pub mod Refusals
 pub mod Sarif
 pub mod Uris
 pub mod reading

@@ -1,5 +1,5 @@
 -- What the program answers: the view of a report over a text, or the log of a report, its waits and its dead places, or
--- why there is none.
+-- why there is none; or the log of a refusal.
 use Rattle.std.specs.Prelude.{◌≡◌, ℕ, ◌+◌, ◌⊎◌, Bool, List, Option}
 use Rattle.std.specs.Io.KnownBytes.{append_known}
 use Rattle.report_views.specs.declared.causes.Cause.{Cause}
@@ -7,6 +7,7 @@ use Rattle.report_views.specs.declared.views.Form.{Form}
 use Rattle.report_views.specs.Causes.{cause_text, IsCause, IsLogCause, longest_report, longest_text}
 use Rattle.report_views.specs.Views.{IsView}
 use Rattle.report_logs.specs.Logs.{IsLog}
+use Rattle.report_logs.specs.Refusals.{Refusal, refusal_text}
 use Rattle.program_streams.specs.Streams.{IsRead, TakesFrontOf}
 
 -- By what two streams have left before and after a call: the report, and the text whose first file has this name.
@@ -98,3 +99,31 @@ module _ (documents folder name : List ℕ) (report_left report_left' text_left 
   -- a stream has taken nothing, or a front of the log
   abbrev pub LogsNoMore : Option (List ℕ) → Option (List ℕ) → Type 0
   LogsNoMore taken taken' = (taken' ≡ taken) ⊎ LogsFront taken taken'
+
+-- By what two streams have left before and after a call: the text whose first file has this name, and the lines of the
+-- files from which its lines come; and by the folder of documents and the refusal of the text.
+module _ (documents name : List ℕ) (refusal : Refusal) (text_left text_left' lines_left lines_left' : Option (List ℕ))
+  where
+    -- a log of the refusal of what was read
+    pub record IsRefusalRead (log : List ℕ) : Type 0 where
+      pub text : List ℕ
+      pub lines : List ℕ
+      pub text_read : IsRead text_left text_left' (longest_text + 1) text
+      pub lines_read : IsRead lines_left lines_left' (longest_report + 1) lines
+      pub is : log ≡ refusal_text documents name text lines refusal
+
+    -- a stream has taken the whole log
+    pub record LogsRefusal (taken taken' : Option (List ℕ)) : Type 0 where
+      pub log : List ℕ
+      pub is : IsRefusalRead log
+      pub appended : taken' ≡ append_known taken log
+
+    -- a stream has taken a front of the log
+    pub record LogsRefusalFront (taken taken' : Option (List ℕ)) : Type 0 where
+      pub log : List ℕ
+      pub is : IsRefusalRead log
+      pub front : TakesFrontOf log taken taken'
+
+    -- a stream has taken nothing, or a front of the log
+    abbrev pub LogsRefusalNoMore : Option (List ℕ) → Option (List ℕ) → Type 0
+    LogsRefusalNoMore taken taken' = (taken' ≡ taken) ⊎ LogsRefusalFront taken taken'

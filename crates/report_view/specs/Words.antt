@@ -1,5 +1,8 @@
 -- Which words are a command, each a list of bytes behind the program's name.
-use Rattle.std.specs.Prelude.{ℕ, List, [], ◌∷◌, codes, Option, Some, None, option_map, bytes_eq, if◌then◌else◌}
+use Rattle.std.specs.Prelude.{ℕ, List, [], ◌∷◌, codes, Option, Some, None, option_map, bytes_eq}
+use Rattle.std.specs.Prelude.{option_and_then, if◌then◌else◌}
+use Rattle.cmd_words.specs.Numbers.{number_of}
+use Rattle.report_logs.specs.Refusals.{Refusal}
 use Rattle.report_views.specs.declared.views.Form.{Form}
 use Rattle.report_views.specs.declared.views.Form.TheVariants.{Lines, Summary}
 
@@ -50,3 +53,40 @@ asked_log_of (word ∷ file ∷ first ∷ waits ∷ dead ∷ lines ∷ folder �
     })
     else None
 asked_log_of _ = None
+
+-- what a command that asks for the log of a refusal asks for
+pub record AskedRefusal : Type 0 where
+  pub text : List ℕ
+  pub name : List ℕ
+  pub lines : List ℕ
+  pub documents : List ℕ
+  pub line : List ℕ
+  pub col : List ℕ
+  pub word : List ℕ
+  pub said : List ℕ
+
+-- `--refusal`, the file that holds the text, the name of the file from which its first line comes, the file that holds
+-- the lines of the files from which those of the text come, the folder of the documents, and a line, a column, the word
+-- of a kind and what it means; no other words ask for such a log
+abbrev pub asked_refusal_of : List (List ℕ) → Option AskedRefusal
+asked_refusal_of (word ∷ file ∷ first ∷ lines ∷ documents ∷ line ∷ col ∷ kind ∷ said ∷ []) =
+    if bytes_eq word (codes "--refusal")
+    then Some (record {
+      text = file;
+      name = first;
+      lines = lines;
+      documents = documents;
+      line = line;
+      col = col;
+      word = kind;
+      said = said;
+    })
+    else None
+asked_refusal_of _ = None
+
+-- the refusal that words tell: a line, a column, the word of a kind, and what it means
+abbrev pub refusal_of : List ℕ → List ℕ → List ℕ → List ℕ → Option Refusal
+refusal_of line col word said =
+    option_and_then
+    (λ l. option_map (λ c. record { place = record { line = l; col = c }; word = word; said = said }) (number_of col))
+    (number_of line)

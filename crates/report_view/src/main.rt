@@ -5,15 +5,22 @@
 //! file WAITS, what `ranges` answers behind the bounds of objects from the file DEAD, and the lines of the files from
 //! which those of the text come from the file LINES, and writes the log of the three; FOLDER is the folder from which
 //! names of files are seen, and DOCUMENTS that in which ALARMS.md stands. Why a text is refused goes to standard error.
+//! `report_view --refusal TEXT NAME LINES DOCUMENTS LINE COL KIND MEANING` writes the log of an analysis that refused the
+//! text at the place LINE:COL, for this kind of cause, with this meaning; 0 and 0 are no place.
 //! Where the system does not give the program its words, it writes nothing and ends with status 7.
 #![tactic(auto)]
 
+mod refusals;
 mod top;
 mod words;
 
+use crate::refusals::answer_refusal;
 use crate::top::{answer, answer_log};
-use crate::words::{Asked, AskedLog, read_log_words, read_words};
+use crate::words::{
+    Asked, AskedLog, AskedRefusal, read_log_words, read_refusal_words, read_words, refusal_of,
+};
 use program_streams::Status;
+use report_logs::Refusal;
 use std::env;
 use std::fs::File;
 use std::io::ErrorKind;
@@ -33,7 +40,8 @@ fn status_without_words(reason: ErrorKind) -> u8 {
 
 /// The line that says how the program is used.
 const USAGE: &str = "usage: report_view --lines|--summary TEXT NAME < REPORT, \
-    or report_view --sarif TEXT NAME WAITS DEAD LINES FOLDER DOCUMENTS < REPORT";
+    or report_view --sarif TEXT NAME WAITS DEAD LINES FOLDER DOCUMENTS < REPORT, \
+    or report_view --refusal TEXT NAME LINES DOCUMENTS LINE COL KIND MEANING";
 
 /// Writes the log that is asked for.
 fn write_log(rt: &HostRuntime, asked: AskedLog<'_>) -> Status {
@@ -69,6 +77,20 @@ fn write_log(rt: &HostRuntime, asked: AskedLog<'_>) -> Status {
     )
 }
 
+/// Writes the log of a refusal that is asked for.
+fn write_refusal(rt: &HostRuntime, asked: AskedRefusal<'_>, refusal: Refusal<'_>) -> Status {
+    let Ok(text) = File::open(rt, asked.text) else {
+        return Status::ReadFault;
+    };
+    let Ok(lines) = File::open(rt, asked.lines) else {
+        return Status::ReadFault;
+    };
+    let mut text = StdSource::new(text);
+    let mut lines = StdSource::new(lines);
+    let mut out = StdSink::new(rt.stdout());
+    answer_refusal(rt.alloc(), asked, refusal, &mut text, &mut lines, &mut out)
+}
+
 /// Writes the view that is asked for.
 fn write_view(rt: &HostRuntime, asked: Asked<'_>) -> Status {
     let Ok(text) = File::open(rt, asked.text) else {
@@ -95,6 +117,11 @@ fn run(rt: &HostRuntime, words: &[String]) -> Status {
     }
     if let Some(asked) = read_log_words(words) {
         return write_log(rt, asked);
+    }
+    if let Some(asked) = read_refusal_words(words) {
+        if let Some(refusal) = refusal_of(asked.line, asked.col, asked.word, asked.said) {
+            return write_refusal(rt, asked, refusal);
+        }
     }
     match rt.eprintln(USAGE) {
         Ok(()) => Status::Usage,

@@ -19,7 +19,7 @@ use tm_io::{Sink, Source, Stop};
 use tm_lattice::NoMemory;
 
 /// The status of a stream that could not be read.
-fn unread(error: InputError) -> Status
+pub fn unread(error: InputError) -> Status
     ensures { result ≡ unread_status error }
 {
     match error {
@@ -129,7 +129,7 @@ pub fn answer<R: Source, T: Source, K: Sink, E: Sink>(
 }
 
 /// Writes a log, and says whether it was taken whole.
-fn show_log<K: Sink>(out: &mut K, text: &[u8]) -> Status
+pub fn show_log<K: Sink>(out: &mut K, text: &[u8]) -> Status
     ensures whole { result ≡ Status.NoAlarm → K.taken out.new ≡ append_known (K.taken out.old) text.now }
     ensures front { TakesFrontOf text.now (K.taken out.old) (K.taken out.new) }
     ensures write { result ≡ Status.WriteFault → Rose (K.faults out.old) (K.faults out.new) }

@@ -11,6 +11,8 @@ use Rattle.report_logs.specs.Sarif.{artifact_data}
 use Rattle.report_views.specs.reading.Seen.{spot_seen}
 use Rattle.report_logs.specs.Sarif.{Told}
 use Rattle.report_logs.specs.declared.sarif.Told.{Told as ToldCode}
+use Rattle.report_logs.specs.Refusals.{Refusal}
+use Rattle.report_logs.specs.declared.refusals.Refusal.{Refusal as RefusalCode}
 
 abbrev pub told_seen : ToldCode → Told
 told_seen told =
@@ -20,6 +22,9 @@ told_seen told =
       function = told.function.now;
       fingerprint = told.fingerprint.now;
     }
+
+abbrev pub refusal_seen : RefusalCode → Refusal
+refusal_seen refusal = record { place = refusal.place; word = refusal.word.now; said = refusal.said.now }
 
 -- what is told of findings is told of each
 pub record AreAsMany (count : ℕ) (regions : List Region) (functions : List (Bor (List ℕ)))
