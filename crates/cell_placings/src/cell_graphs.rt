@@ -1,0 +1,22 @@
+//! Graphs whose edges touch cells.
+
+use crate::cell_sets::CellSet;
+use table_covers::Link;
+
+/// A graph with node 0 as its entry, and what its edges do with cells. An edge for which no set stands touches no cell,
+/// or looks at none, and at a node for which none stands no cell is rounded.
+#[derive(Drop)]
+pub struct CellGraph {
+    /// How many nodes there are. They are numbered from 0.
+    pub nodes: usize,
+    /// The edges.
+    pub links: Vec<Link>,
+    /// How many cells there are. They are numbered from 0.
+    pub cells: usize,
+    /// For each edge the cells that it may change.
+    pub touched: Vec<CellSet>,
+    /// For each edge the cells at which it may look, those that it may change among them.
+    pub looked: Vec<CellSet>,
+    /// For each node the cells that may be rounded there.
+    pub rounded: Vec<CellSet>,
+}

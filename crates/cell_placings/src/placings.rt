@@ -1,0 +1,162 @@
+//! Cells that are placed on a graph.
+ghost use Rattle.std.specs.Prelude.{◌≡◌, ◌<◌, ℕ, [], length, map, IfOk, IfSome, Some};
+ghost use Rattle.std.specs.List.Sorted.{IsStrictlyIncreasing};
+ghost use Rattle.cell_placings.specs.CellLists.{cells_at};
+ghost use Rattle.cell_placings.specs.OwnerTrees.{tree_of, owns_in, kept_in, placing_of};
+ghost use Rattle.cell_placings.specs.Placed.{IsCellPlaced};
+ghost use Rattle.cell_placings.specs.Checks.{AreOwnersPlaced};
+ghost use Rattle.cell_placings.specs.reading.Walks.{history_of, time_at};
+
+use crate::cell_graphs::CellGraph;
+use crate::checks::are_placed;
+use crate::finding::found_owners;
+use crate::frontiers::nodes_below;
+use crate::histories::History;
+use crate::lists::filled;
+use crate::owners::Owners;
+use crate::walks::walk;
+use std::alloc::Global;
+use std::marker::Model;
+use tm_lattice::NoMemory;
+
+/// Which nodes of a graph own which cells, and where a cell is kept at a node that does not own it.
+#[derive(Drop)]
+pub struct CellPlacing {
+    owners: Owners,
+    // For each node a time at which the walk was there.
+    times: Vec<usize>,
+    // For each cell where it was kept along the walk.
+    histories: Vec<History>,
+}
+
+impl Model for CellPlacing {
+    ghost use Rattle.cell_placings.specs.OwnerTrees.{OwnerTree, tree_of};
+    ghost use Rattle.cell_placings.specs.reading.Walks.{IsTabled};
+
+    ghost Value = { OwnerTree };
+
+    ghost view = { λ placing. tree_of placing.owners };
+
+    ghost invariant = { λ placing. IsTabled (tree_of placing.owners) placing.times.items placing.histories.items };
+}
+
+impl CellPlacing {
+    /// How many nodes there are.
+    pub fn nodes(&self) -> usize
+        ensures { result ≡ length self.now.above }
+    {
+        self.owners.above.len()
+    }
+
+    /// How many cells there are. Node 0 owns all of them.
+    pub fn cells(&self) -> usize
+        ensures { result ≡ self.now.cells }
+    {
+        self.owners.cells
+    }
+
+    /// The cells that a node owns, in rising order. What stands for node 0 says nothing: it owns all cells.
+    pub fn owned(&self, node: usize) -> &[usize]
+        requires { node < length self.now.above }
+        ensures same { result.now ≡ cells_at self.now.owned node }
+        ensures rising { IsStrictlyIncreasing result.now }
+    {
+        self.owners.owned[node].cells()
+    }
+
+    /// Whether a node owns a cell. It takes time logarithmic in the number of cells that it owns.
+    pub fn is_owned(&self, node: usize, cell: usize) -> bool
+        ensures { result ≡ owns_in self.now node cell }
+    {
+        self.owners.has(node, cell)
+    }
+
+    /// The node at which a cell is kept at a node. It takes time logarithmic in the number of nodes that own the cell
+    /// and of cells that the node owns.
+    pub fn kept_at(&self, node: usize, cell: usize) -> usize
+        requires { node < length self.now.above }
+        ensures { result ≡ kept_in self.now node cell }
+    {
+        if self.owners.has(node, cell) {
+            return node;
+        }
+        self.histories[cell].at(self.times[node])
+    }
+}
+
+/// Finds which nodes own which cells and checks it. None where what is found does not pass: of what is found nothing
+/// is proved.
+pub fn place_cells(alloc: Global, graph: &CellGraph) -> Result<Option<CellPlacing>, NoMemory>
+    ensures nodes { IfOk result (λ found. IfSome found (λ tree. length tree.above ≡ graph.now.nodes)) }
+    ensures placed { IfOk result (λ found. IfSome found (λ tree. IsCellPlaced graph.now (placing_of graph.now tree))) }
+{
+    let owners = found_owners(alloc, graph)?;
+    Ok(checked_placing(alloc, graph, owners)?)
+}
+
+/// The cells placed by these owners. None where they are not well placed, or the walk that notes where cells are kept
+/// does not come to each node.
+pub fn checked_placing(alloc: Global, graph: &CellGraph, owners: Owners) -> Result<Option<CellPlacing>, NoMemory>
+    ensures same { IfOk result (λ found. IfSome found (λ tree. tree ≡ tree_of owners)) }
+    ensures nodes { IfOk result (λ found. IfSome found (λ tree. length tree.above ≡ graph.now.nodes)) }
+    ensures placed { IfOk result (λ found. IfSome found (λ tree. IsCellPlaced graph.now (placing_of graph.now tree))) }
+{
+    if !are_placed(graph, &owners) {
+        return Ok(None);
+    }
+    let below = nodes_below(alloc, &owners.above)?;
+    let mut places = filled(alloc, owners.above.len(), 0)?;
+    let mut times = first_times(alloc, owners.above.len())?;
+    let mut histories = no_histories(alloc, owners.cells)?;
+    if !walk(&owners, &below, &mut places, &mut times, &mut histories)? {
+        return Ok(None);
+    }
+    match all_times(alloc, &times)? {
+        None => Ok(None),
+        Some(times) => Ok(Some(CellPlacing {
+            owners,
+            times,
+            histories,
+        })),
+    }
+}
+
+// Node 0 was seen at time 0, and no other node yet.
+fn first_times(alloc: Global, nodes: usize) -> Result<Vec<Option<usize>>, NoMemory>
+    requires { 0 < nodes }
+    ensures each { IfOk result (λ times. length times.items ≡ nodes) }
+    ensures first { IfOk result (λ times. (n : ℕ) → IfSome (time_at times.items n) (λ time. (n ≡ 0) × (time ≡ 0))) }
+{
+    let mut times = Vec::new(alloc);
+    times.push(Some(0))?;
+    for _ in 1..nodes {
+        times.push(None)?;
+    }
+    Ok(times)
+}
+
+// For each cell the history in which nothing changes.
+fn no_histories(alloc: Global, cells: usize) -> Result<Vec<History>, NoMemory>
+    ensures each { IfOk result (λ histories. length histories.items ≡ cells) }
+    ensures none { IfOk result (λ histories. (x : ℕ) → history_of histories.items x ≡ []) }
+{
+    let mut histories = Vec::new(alloc);
+    for _ in 0..cells {
+        histories.push(History::new(alloc))?;
+    }
+    Ok(histories)
+}
+
+// The times, where each is there.
+fn all_times(alloc: Global, times: &[Option<usize>]) -> Result<Option<Vec<usize>>, NoMemory>
+    ensures { IfOk result (λ all. IfSome all (λ list. times.now ≡ map Some list.items)) }
+{
+    let mut all = Vec::new(alloc);
+    for time in times {
+        match time {
+            None => return Ok(None),
+            Some(time) => all.push(*time)?,
+        }
+    }
+    Ok(Some(all))
+}
