@@ -1,6 +1,5 @@
 //! The check of owners, node by node and edge by edge.
 ghost use Rattle.std.specs.Prelude.{◌≡◌, ◌<◌, ◌↔◌, ℕ, IsTrue, length, true};
-ghost use Rattle.table_covers.specs.Systems.{to_of};
 ghost use Rattle.cell_placings.specs.CellLists.{is_in, cells_at};
 ghost use Rattle.cell_placings.specs.OwnerTrees.{tree_of, owns_in};
 ghost use Rattle.cell_placings.specs.Checks.{IsTree, IsBelowAnother, IsEdgePlaced, AreOwnersPlaced};
@@ -17,10 +16,16 @@ use crate::owners::Owners;
 pub fn are_placed(graph: &CellGraph, owners: &Owners) -> bool
     ensures { IsTrue result ↔ AreOwnersPlaced graph.now (tree_of owners.now) }
 {
-    if owners.cells != graph.cells || !is_tree(graph.nodes, owners) {
+    if owners.cells != graph.cells {
         return false;
     }
-    are_edges_placed(graph, owners) && are_rounded_owned(graph, owners)
+    if !is_tree(graph.nodes, owners) {
+        return false;
+    }
+    if !are_edges_placed(graph, owners) {
+        return false;
+    }
+    are_rounded_owned(graph, owners)
 }
 
 // Whether the owners have a tree over the nodes.
@@ -58,7 +63,6 @@ fn is_below_another(nodes: usize, owners: &Owners, node: usize) -> bool
 
 // Whether all edges are placed.
 fn are_edges_placed(graph: &CellGraph, owners: &Owners) -> bool
-    requires { IsTree graph.now.nodes (tree_of owners.now) }
     ensures { IsTrue result ↔ ((e : ℕ) → e < length graph.now.links.items
         → IsEdgePlaced graph.now (tree_of owners.now) e) }
 {
@@ -72,18 +76,18 @@ fn are_edges_placed(graph: &CellGraph, owners: &Owners) -> bool
 
 // Whether an edge is placed.
 fn is_edge_placed(graph: &CellGraph, owners: &Owners, edge: usize) -> bool
-    requires tree { IsTree graph.now.nodes (tree_of owners.now) }
-    requires edge { edge < length graph.now.links.items }
+    requires { edge < length graph.now.links.items }
     ensures { IsTrue result ↔ IsEdgePlaced graph.now (tree_of owners.now) edge }
 {
     let link = graph.links[edge];
     if link.from >= graph.nodes || link.to >= graph.nodes {
         return false;
     }
-    if !are_looked_at(graph, edge) || !are_owned(owners, link.to, cells_of(&graph.touched, edge)) {
+    let touched = cells_of(&graph.touched, edge);
+    if !are_looked_at(graph, edge) || !are_owned(owners, link.to, touched) {
         return false;
     }
-    are_fronts_owned(graph.nodes, owners, link.from, link.to)
+    are_fronts_owned(owners, link.from, link.to)
 }
 
 // Whether an edge looks at what it touches.
@@ -112,21 +116,19 @@ fn are_owned(owners: &Owners, node: usize, cells: &[usize]) -> bool
 }
 
 // Whether the way up from one node leads to the node above another one, which owns what is owned on the way.
-fn are_fronts_owned(nodes: usize, owners: &Owners, from: usize, to: usize) -> bool
-    requires tree { IsTree nodes (tree_of owners.now) }
-    requires from { from < nodes }
-    requires to { to < nodes }
+fn are_fronts_owned(owners: &Owners, from: usize, to: usize) -> bool
     ensures { IsTrue result ↔ AreFrontsOwned (tree_of owners.now) from to }
 {
-    let end = owners.above[to];
-    let way = owners.depths[from].saturating_sub(owners.depths[end]);
+    let steps = owners.way(from, to);
     let mut node = from;
-    for _ in 0..way {
-        if !are_owned(owners, to, owners.owned[node].cells()) {
+    for _ in 0..steps {
+        let listed = owners.listed(node);
+        if !are_owned(owners, to, listed) {
             return false;
         }
-        node = owners.above[node];
+        node = owners.node_above(node);
     }
+    let end = owners.node_above(to);
     node == end
 }
 
@@ -136,7 +138,8 @@ fn are_rounded_owned(graph: &CellGraph, owners: &Owners) -> bool
         → is_in (cells_at graph.now.rounded.items n) x ≡ true → owns_in (tree_of owners.now) n x ≡ true) }
 {
     for node in 0..graph.nodes {
-        if !are_owned(owners, node, cells_of(&graph.rounded, node)) {
+        let rounded = cells_of(&graph.rounded, node);
+        if !are_owned(owners, node, rounded) {
             return false;
         }
     }

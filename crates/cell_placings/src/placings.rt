@@ -1,11 +1,10 @@
 //! Cells that are placed on a graph.
-ghost use Rattle.std.specs.Prelude.{◌≡◌, ◌<◌, ℕ, [], length, map, IfOk, IfSome, Some};
+ghost use Rattle.std.specs.Prelude.{◌≡◌, ◌<◌, [], length, map, replicate, slice_set, IfOk, IfSome, Some, None};
 ghost use Rattle.std.specs.List.Sorted.{IsStrictlyIncreasing};
 ghost use Rattle.cell_placings.specs.CellLists.{cells_at};
 ghost use Rattle.cell_placings.specs.OwnerTrees.{tree_of, owns_in, kept_in, placing_of};
 ghost use Rattle.cell_placings.specs.Placed.{IsCellPlaced};
 ghost use Rattle.cell_placings.specs.Checks.{AreOwnersPlaced};
-ghost use Rattle.cell_placings.specs.reading.Walks.{history_of, time_at};
 
 use crate::cell_graphs::CellGraph;
 use crate::checks::are_placed;
@@ -80,7 +79,9 @@ impl CellPlacing {
         if self.owners.has(node, cell) {
             return node;
         }
-        self.histories[cell].at(self.times[node])
+        let time = self.times[node];
+        let history = &self.histories[cell];
+        history.at(time)
     }
 }
 
@@ -124,12 +125,19 @@ pub fn checked_placing(alloc: Global, graph: &CellGraph, owners: Owners) -> Resu
 // Node 0 was seen at time 0, and no other node yet.
 fn first_times(alloc: Global, nodes: usize) -> Result<Vec<Option<usize>>, NoMemory>
     requires { 0 < nodes }
-    ensures each { IfOk result (λ times. length times.items ≡ nodes) }
-    ensures first { IfOk result (λ times. (n : ℕ) → IfSome (time_at times.items n) (λ time. (n ≡ 0) × (time ≡ 0))) }
+    ensures { IfOk result (λ times. times.items ≡ slice_set (replicate nodes None) 0 (Some 0)) }
+{
+    let mut times = no_times(alloc, nodes)?;
+    times[0] = Some(0);
+    Ok(times)
+}
+
+// No node was seen.
+fn no_times(alloc: Global, nodes: usize) -> Result<Vec<Option<usize>>, NoMemory>
+    ensures { IfOk result (λ times. times.items ≡ replicate nodes None) }
 {
     let mut times = Vec::new(alloc);
-    times.push(Some(0))?;
-    for _ in 1..nodes {
+    for _ in 0..nodes {
         times.push(None)?;
     }
     Ok(times)
@@ -137,8 +145,7 @@ fn first_times(alloc: Global, nodes: usize) -> Result<Vec<Option<usize>>, NoMemo
 
 // For each cell the history in which nothing changes.
 fn no_histories(alloc: Global, cells: usize) -> Result<Vec<History>, NoMemory>
-    ensures each { IfOk result (λ histories. length histories.items ≡ cells) }
-    ensures none { IfOk result (λ histories. (x : ℕ) → history_of histories.items x ≡ []) }
+    ensures { IfOk result (λ histories. histories.items ≡ replicate cells []) }
 {
     let mut histories = Vec::new(alloc);
     for _ in 0..cells {
@@ -148,6 +155,7 @@ fn no_histories(alloc: Global, cells: usize) -> Result<Vec<History>, NoMemory>
 }
 
 // The times, where each is there.
+#[tactic(auto, using(crate::proofs::Noting::times_next))]
 fn all_times(alloc: Global, times: &[Option<usize>]) -> Result<Option<Vec<usize>>, NoMemory>
     ensures { IfOk result (λ all. IfSome all (λ list. times.now ≡ map Some list.items)) }
 {

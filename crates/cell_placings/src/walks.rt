@@ -2,7 +2,7 @@
 ghost use Rattle.std.specs.Prelude.{◌≡◌, ◌<◌, ◌+◌, ◌∷◌, ◌^◌, length, IfOk, IfSome, true, []};
 ghost use Rattle.cell_placings.specs.OwnerTrees.{tree_of, above_in};
 ghost use Rattle.cell_placings.specs.Checks.{IsTree};
-ghost use Rattle.cell_placings.specs.reading.Walks.{AreNoted, IsWalked, AreTimed};
+ghost use Rattle.cell_placings.specs.reading.Walks.{AreNoted, IsWalked, AreTimed, kept_then, time_at};
 
 use crate::histories::History;
 use crate::owners::Owners;
@@ -45,11 +45,18 @@ fn note_one(
         return Ok(true);
     }
     let history = &mut histories[cell];
-    let node = match seen {
+    let node = keeper(history, next, seen);
+    Ok(history.note(time, node)?)
+}
+
+// The node, or else where the cell was kept when it was seen.
+fn keeper(history: &History, next: usize, seen: Option<usize>) -> usize
+    ensures { result ≡ kept_then next seen history.now }
+{
+    match seen {
         None => next,
         Some(then) => history.at(then),
-    };
-    Ok(history.note(time, node)?)
+    }
 }
 
 // One step down to a node below. False where it is not below, or a change came later.
@@ -67,10 +74,14 @@ fn enter(
     ensures { IfOk result (λ entered. entered ≡ true
         → IsWalked (tree_of owners.now) below (time + 1) times.new histories.new) }
 {
-    if below == 0 || below >= owners.above.len() || owners.above[below] != node {
+    if below == 0 || below >= times.len() {
         return Ok(false);
     }
-    let cells = owners.owned[below].cells();
+    let above = owners.node_above(below);
+    if above != node {
+        return Ok(false);
+    }
+    let cells = owners.listed(below);
     if !note_all(histories, cells, time + 1, below, None)? {
         return Ok(false);
     }
@@ -93,12 +104,23 @@ fn leave(
     ensures { IfOk result (λ left. left ≡ true
         → IsWalked (tree_of owners.now) (above_in (tree_of owners.now) node) (time + 1) times.now histories.new) }
 {
-    let above = owners.above[node];
-    if times[above].is_none() {
+    let above = owners.node_above(node);
+    let seen = seen_at(times, above);
+    if seen.is_none() {
         return Ok(false);
     }
-    let cells = owners.owned[node].cells();
-    Ok(note_all(histories, cells, time + 1, above, times[above])?)
+    let cells = owners.listed(node);
+    Ok(note_all(histories, cells, time + 1, above, seen)?)
+}
+
+// The time at which a node was seen.
+fn seen_at(times: &[Option<usize>], node: usize) -> Option<usize>
+    ensures { result ≡ time_at times.now node }
+{
+    match times.get(node) {
+        None => None,
+        Some(time) => *time,
+    }
 }
 
 // The next node below a node, by lists of these and the place to which each list was followed.
@@ -140,7 +162,7 @@ fn step(
                 return Ok(None);
             }
             let is_there = leave(owners, times, histories, node, time)?;
-            Ok(if is_there { Some(owners.above[node]) } else { None })
+            Ok(if is_there { Some(owners.node_above(node)) } else { None })
         }
     }
 }
