@@ -4,7 +4,8 @@ ghost use Rattle.std.specs.List.Sorted.{IsStrictlyIncreasing};
 ghost use Rattle.cell_placings.specs.CellLists.{cells_at};
 ghost use Rattle.cell_placings.specs.OwnerTrees.{tree_of, owns_in, kept_in, placing_of};
 ghost use Rattle.cell_placings.specs.Placed.{IsCellPlaced};
-ghost use Rattle.cell_placings.specs.Checks.{AreOwnersPlaced};
+ghost use Rattle.cell_placings.specs.Checks.{IsTree};
+ghost use Rattle.cell_placings.specs.reading.Walks.{AreTimed};
 
 use crate::cell_graphs::CellGraph;
 use crate::checks::are_placed;
@@ -97,7 +98,11 @@ pub fn place_cells(alloc: Global, graph: &CellGraph) -> Result<Option<CellPlacin
 
 /// The cells placed by these owners. None where they are not well placed, or the walk that notes where cells are kept
 /// does not come to each node.
-pub fn checked_placing(alloc: Global, graph: &CellGraph, owners: Owners) -> Result<Option<CellPlacing>, NoMemory>
+pub fn checked_placing(
+    alloc: Global,
+    graph: &CellGraph,
+    owners: Owners,
+) -> Result<Option<CellPlacing>, NoMemory>
     ensures same { IfOk result (λ found. IfSome found (λ tree. tree ≡ tree_of owners)) }
     ensures nodes { IfOk result (λ found. IfSome found (λ tree. length tree.above ≡ graph.now.nodes)) }
     ensures placed { IfOk result (λ found. IfSome found (λ tree. IsCellPlaced graph.now (placing_of graph.now tree))) }
@@ -105,21 +110,41 @@ pub fn checked_placing(alloc: Global, graph: &CellGraph, owners: Owners) -> Resu
     if !are_placed(graph, &owners) {
         return Ok(None);
     }
-    let below = nodes_below(alloc, &owners.above)?;
-    let mut places = filled(alloc, owners.above.len(), 0)?;
-    let mut times = first_times(alloc, owners.above.len())?;
-    let mut histories = no_histories(alloc, owners.cells)?;
-    if !walk(&owners, &below, &mut places, &mut times, &mut histories)? {
+    let Some(walked) = walked_histories(alloc, &owners)? else {
         return Ok(None);
-    }
-    match all_times(alloc, &times)? {
+    };
+    match all_times(alloc, &walked.times)? {
         None => Ok(None),
         Some(times) => Ok(Some(CellPlacing {
             owners,
             times,
-            histories,
+            histories: walked.histories,
         })),
     }
+}
+
+// The times at which a walk over the tree came to its nodes, and where each cell was kept on the way.
+#[derive(Drop)]
+struct Walked {
+    times: Vec<Option<usize>>,
+    histories: Vec<History>,
+}
+
+// Walks over the tree. None where the walk does not go over it.
+fn walked_histories(alloc: Global, owners: &Owners) -> Result<Option<Walked>, NoMemory>
+    requires { IsTree (length owners.now.above.items) (tree_of owners.now) }
+    ensures { IfOk result (λ found. IfSome found (λ walked.
+        AreTimed (tree_of owners.now) walked.times.items walked.histories.items)) }
+{
+    let below = nodes_below(alloc, &owners.above)?;
+    let mut places = filled(alloc, owners.above.len(), 0)?;
+    let mut times = first_times(alloc, owners.above.len())?;
+    let mut histories = no_histories(alloc, owners.cells)?;
+    let is_walked = walk(owners, &below, &mut places, &mut times, &mut histories)?;
+    if is_walked {
+        return Ok(Some(Walked { times, histories }));
+    }
+    Ok(None)
 }
 
 // Node 0 was seen at time 0, and no other node yet.

@@ -162,7 +162,11 @@ fn step(
                 return Ok(None);
             }
             let is_there = leave(owners, times, histories, node, time)?;
-            Ok(if is_there { Some(owners.node_above(node)) } else { None })
+            Ok(if is_there {
+                Some(owners.node_above(node))
+            } else {
+                None
+            })
         }
     }
 }

@@ -1,4 +1,4 @@
-use Rattle.std.proofs.Common.{◌≡◌, ◌<◌, ◌∙◌, refl, sym, arith, subst, true}
+use Rattle.std.proofs.Common.{◌≡◌, ◌∙◌, refl, sym, arith, subst, true}
 use Rattle.cell_placings.specs.CellLists.{is_in}
 use Rattle.cell_placings.specs.OwnerTrees.{tree_of, above_in}
 use Rattle.cell_placings.specs.reading.Fronts.{way_of}
@@ -29,6 +29,6 @@ returns-then-not-are_owned c =
 pub returns : goal.returns
 returns c =
     let all : c.loop.counter ≡ way_of (tree_of c.args.owners.now) c.args.from c.args.to
-          = omega (arith, c.way-steps.ensures) in
+    = omega (arith, c.way-steps.ensures) in
     fronts_end (tree_of c.args.owners.now) c.args.from c.args.to c.loop.counter c.loop.node c.loop.invariant.climbs
     c.node_above-end.result c.loop.invariant.owned all c.node_above-end.ensures

@@ -1,4 +1,4 @@
-use Rattle.std.proofs.Common.{◌≡◌, ◌↔◌, ℕ, refl, arith, true, subst, ap, ◌∙◌}
+use Rattle.std.proofs.Common.{◌≡◌, ◌↔◌, ℕ, refl, arith, true, subst}
 use Rattle.cell_placings.specs.CellLists.{is_in, cells_at}
 use Rattle.cell_placings.proofs.Checking.{all_members}
 use Rattle.cell_placings.proofs.checks.are_looked_at.Goals as goal

@@ -1,6 +1,6 @@
-use Rattle.std.proofs.Common.{◌≡◌, ◌+◌, ◌<◌, ◌∙◌, sym, arith, subst, ap, rules, IfSome}
+use Rattle.std.proofs.Common.{◌+◌, ◌<◌, ◌∙◌, sym, subst, ap, IfSome}
 use Rattle.cell_placings.specs.OwnerTrees.{tree_of, above_in}
-use Rattle.cell_placings.specs.reading.Walks.{AreNoted, IsWalked, time_at}
+use Rattle.cell_placings.specs.reading.Walks.{time_at}
 use Rattle.cell_placings.proofs.Walking.{left_by, seen_before}
 use Rattle.cell_placings.proofs.walks.leave.Goals as goal
 

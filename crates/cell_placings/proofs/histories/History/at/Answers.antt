@@ -11,9 +11,9 @@ pub returns-then-behind-eq0 : goal.returns-then-behind-eq0
 returns-then-behind-eq0 c =
     let rising = subst (λ (xs : List Change). IsNonDecreasingBy (λ (y : Change). y.time) xs) (sym c.deref.ensures.value) c.self.invariant in
     let parts = IsPartitionPoint-from_clause (λ (y : Change). leb y.time c.args.time) c.deref.result.now
-        c.partition_point-behind.result c.partition_point-behind.ensures.partitioned
-        (IsPartitionedBy-leb (λ (y : Change). y.time) c.deref.result.now c.args.time rising)
-        (λ a r f called. search rules) in
+    c.partition_point-behind.result c.partition_point-behind.ensures.partitioned
+    (IsPartitionedBy-leb (λ (y : Change). y.time) c.deref.result.now c.args.time rising)
+    (λ a r f called. search rules) in
     sym (subst (λ xs. node_at 0 xs c.args.time ≡ 0) (c.deref.ensures.value ∙ c.self.view_is)
     (found_none c.deref.result.now c.args.time c.partition_point-behind.result parts
     c.partition_point-behind.ensures.bound c.if-behind-eq0.true))
@@ -22,13 +22,13 @@ pub returns : goal.returns
 returns c =
     let rising = subst (λ (xs : List Change). IsNonDecreasingBy (λ (y : Change). y.time) xs) (sym c.deref.ensures.value) c.self.invariant in
     let parts = IsPartitionPoint-from_clause (λ (y : Change). leb y.time c.args.time) c.deref.result.now
-        c.partition_point-behind.result c.partition_point-behind.ensures.partitioned
-        (IsPartitionedBy-leb (λ (y : Change). y.time) c.deref.result.now c.args.time rising)
-        (λ a r f called. search rules) in
+    c.partition_point-behind.result c.partition_point-behind.ensures.partitioned
+    (IsPartitionedBy-leb (λ (y : Change). y.time) c.deref.result.now c.args.time rising)
+    (λ a r f called. search rules) in
     let parts' = subst (λ xs. IsPartitionPoint (λ (y : Change). leb y.time c.args.time ≡ true)
-        (λ (y : Change). leb y.time c.args.time ≡ false) xs c.partition_point-behind.result) c.deref.ensures.value parts in
+    (λ (y : Change). leb y.time c.args.time ≡ false) xs c.partition_point-behind.result) c.deref.ensures.value parts in
     let bound = subst (λ (xs : List Change). c.partition_point-behind.result ≤ length xs) c.deref.ensures.value
-        c.partition_point-behind.ensures.bound in
+    c.partition_point-behind.ensures.bound in
     ap (λ (y : Change). y.node) c.index.ensures
     ∙ sym (found_one c.self.inside.changes.items c.args.time c.partition_point-behind.result parts' bound
     c.index.result.now (omega arith))
