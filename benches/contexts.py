@@ -9,7 +9,7 @@ PROGRAM is the built alarm_notes. CASES has a JSON object in each line, with the
 their order: place, class and operator; the type in which it computes, the length of an array, the cells of an element,
 the mutex and the rule; the tasks with their priorities; whether each run ends there; and of each operand its role, its
 least and greatest number and their stride, null and unset pointers, and the objects of the others with their places,
-sizes and offsets; of a refusal the whole line. The status is 1 where a case differs."""
+sizes and offsets, and what is bad about these; of a refusal the whole line. The status is 1 where a case differs."""
 import json
 import subprocess
 import sys
@@ -23,6 +23,15 @@ def wanted_operand(operand, objects):
         of = objects[it["object"]]
         led_to.append((of["line"], of["col"], of["name"], it["size"], it["lo"], it["hi"], it["step"]))
     return operand["role"], numbers, operand.get("null", False), operand.get("invalid", False), led_to
+
+
+def wanted_flaws(operands, objects):
+    """What is bad about the objects of the operands of the other implementation."""
+    flaws = set()
+    for led_to in (it for operand in operands for it in operand.get("objects", [])):
+        of = objects[led_to["object"]]
+        flaws.update((of["line"], of["col"], of["name"], flaw) for flaw in led_to["bad"].split("|") if flaw)
+    return flaws
 
 
 def wanted(case):
@@ -44,7 +53,8 @@ def wanted(case):
             "always": alarm["always"],
         }
         operands = [wanted_operand(it, notes["objects"]) for it in alarm["operands"]]
-        alarms.append(((alarm["line"], alarm["col"], alarm["class"], alarm["operator"]), about, operands))
+        bad = wanted_flaws(alarm["operands"], notes["objects"])
+        alarms.append(((alarm["line"], alarm["col"], alarm["class"], alarm["operator"]), about, operands, bad))
     return alarms
 
 
@@ -69,7 +79,7 @@ def told_head(words):
     about["always"] = words[edges + 2] == "always"
     pairs = words[edges + 3 + about["always"] :]
     about["tasks"] = list(zip(pairs[::2], pairs[1::2]))
-    return (*place_of(words[0]), words[1], words[2]), about, []
+    return (*place_of(words[0]), words[1], words[2]), about, [], set()
 
 
 def told_operand(words):
@@ -87,6 +97,9 @@ def told(text):
             # LINE:COL NAME of SIZE at LEAST GREATEST STRIDE
             offsets = (int(it) for it in words[5:])
             alarms[-1][2][-1][4].append((*place_of(words[0]), words[1], int(words[3]), *offsets))
+        elif len(words) > 2 and words[2] == "bad":
+            # LINE:COL NAME bad FLAW
+            alarms[-1][3].add((*place_of(words[0]), words[1], words[3]))
         elif words[1].isupper():
             alarms.append(told_head(words))
         else:

@@ -87,6 +87,11 @@ function read_object() {
     objects[key, role, ++count[key, role]] = $0
 }
 
+# Reads what is wrong with a pointer to an object: LINE:COL NAME bad FLAW
+function read_flaw() {
+    bad[key, $1, $4] = 1
+}
+
 # Tells of an object to which a pointer may lead, in elements where it consists of whole ones and they are known.
 function tell_object(key, text,    words, size, unit, low, high, step, sentence) {
     split(text, words, " ")
@@ -104,6 +109,11 @@ function tell_object(key, text,    words, size, unit, low, high, step, sentence)
         if (high == size) sentence = sentence ", and so behind its last"
     }
     note(words[1], sentence)
+    if ((key, words[1], "gone") in bad) note(words[1], words[2] " is not there any more where the pointer is followed")
+    if ((key, words[1], "offset") in bad)
+        note(words[1], "where the pointer may lead in " words[2] ", nothing of its type may begin")
+    if ((key, words[1], "before") in bad) note(words[1], "the sum may lie before " words[2])
+    if ((key, words[1], "behind") in bad) note(words[1], "the sum may lie behind the end of " words[2])
 }
 
 function counted(number, unit) {
@@ -202,6 +212,7 @@ part == 3 && NF == 4 && $3 == "RACES" {
 }
 part == 3 && $4 == "holds" { read_access(); next }
 part == 4 && $3 == "of" && $5 == "at" { read_object(); next }
+part == 4 && NF == 4 && $3 == "bad" { read_flaw(); next }
 part == 4 && $2 ~ /^[A-Z]+$/ { read_head(); next }
 part == 4 && NF >= 2 && $1 in shown { read_operand(); next }
 part == 5 { alarms[FNR] = $1; classes[FNR] = $2; next }

@@ -15,16 +15,18 @@ use Rattle.program_reports.specs.Reports.{copy_in}
 use Rattle.alarm_contexts.specs.declared.alarm_context.ContextEdge.{ContextEdge}
 use Rattle.alarm_contexts.specs.declared.alarm_context.AlarmContexts.{AlarmContexts}
 use Rattle.alarm_contexts.specs.declared.exits.Context.{Context}
+use Rattle.alarm_contexts.specs.declared.flaws.ObjectFlaw.{ObjectFlaw}
 use Rattle.alarm_contexts.specs.Order.{AreRising}
-use Rattle.alarm_contexts.specs.Contexts.{IsContext, IsEdge, HasOperand, IsOperand, IsAlways, IsContextOf}
+use Rattle.alarm_contexts.specs.Contexts.{IsContext, IsEdge, HasOperand, IsOperand, IsFlaw, IsAlways, IsContextOf}
 use Rattle.alarm_contexts.specs.Contexts.{alarm_of, AreContexts}
 use Rattle.alarm_contexts.specs.reading.Found.{IsContextUpTo}
-use Rattle.alarm_contexts.specs.reading.Operands.{operands_of}
-use Rattle.alarm_contexts.specs.reading.Merging.{IsGiven, IsEdgeOf, HasValue, IsValueOf, IsMerged, AreMerged}
+use Rattle.alarm_contexts.specs.reading.Operands.{operands_of, IsFlawed}
+use Rattle.alarm_contexts.specs.reading.Merging.{IsGiven, IsEdgeOf, HasValue, IsValueOf, IsFlawOf}
+use Rattle.alarm_contexts.specs.reading.Merging.{IsMerged, AreMerged}
 use Rattle.alarm_contexts.proofs.Rising.{first}
 use Rattle.alarm_contexts.proofs.Bounds.{least_same}
 use Rattle.alarm_contexts.proofs.Leaving.{same_after, ends_none, IsAs, as_context, from_copy, found_copy, as_copy}
-use Rattle.alarm_contexts.proofs.Leaving.{operand_count, operand_is}
+use Rattle.alarm_contexts.proofs.Leaving.{operand_count, operand_is, flawed_as, as_flawed}
 
 strictly : (list : List AlarmContexts) → AreRising (λ (a b : AlarmContexts). AlarmBefore (alarm_of a) (alarm_of b)) list
     → IsStrictlySorted (map alarm_of list)
@@ -37,6 +39,9 @@ module _ (p : ProgramBodies) (is : IsProgram p) (tables : ℕ → NodeTable Stat
     (found : (x : Context) → Contains contexts x ↔ IsContextUpTo p store tables (length p.bodies) x) where
   abbrev values : Context → List Values
   values = operands_of p tables
+
+  abbrev Flawed : Context → ObjectFlaw → Type 0
+  Flawed = IsFlawed p tables
 
   module _ (a : AlarmContexts) where
     abbrev Is : Context → Type 0
@@ -138,6 +143,25 @@ module _ (p : ProgramBodies) (is : IsProgram p) (tables : ℕ → NodeTable Stat
           value = h.value ∙ sym (operand_is p tables store x h.body h.copy h.state like role h.within);
         }
 
+    flaw_from : (f : ObjectFlaw) → IsFlawOf Flawed Is f → IsFlaw p tables a.place a.class f
+    flaw_from f h =
+        let c = copy_of h.one h.is in record {
+          body = c.body;
+          copy = c.copy;
+          state = c.state;
+          context = c.context;
+          flaw = flawed_as p tables store h.one c.body c.copy c.state c.like f h.flaw;
+        }
+
+    flaw_to : (f : ObjectFlaw) → IsFlaw p tables a.place a.class f → IsFlawOf Flawed Is f
+    flaw_to f h =
+        let x = of_copy h.body h.copy h.state in record {
+          one = x;
+          is = given h.body h.copy h.state h.context;
+          flaw = as_flawed p tables store x h.body h.copy h.state
+              (like_copy h.body h.copy h.state h.context) f h.flaw;
+        }
+
     always_from : ((x : Context) → Is x → x.exit.ends ≡ true) → IsAlways p tables a.place a.class
     always_from all t k s h other =
         let b = body_at p t in
@@ -153,7 +177,7 @@ module _ (p : ProgramBodies) (is : IsProgram p) (tables : ℕ → NodeTable Stat
         c.like.ends
         ∙ ap (λ (o : Option State). not (is_some o)) (all c.body c.copy c.state c.context store)
 
-    is_context : IsMerged values Is a → IsContextOf p tables a
+    is_context : IsMerged values Flawed Is a → IsContextOf p tables a
     is_context h =
         let c = copy_of h.one h.is in record {
           some = record { body = c.body; copy = c.copy; state = c.state; context = c.context };
@@ -165,13 +189,15 @@ module _ (p : ProgramBodies) (is : IsProgram p) (tables : ℕ → NodeTable Stat
           );
           operands = λ role. least_same (IsValueOf values Is role) (IsOperand p tables a.place a.class role)
               (get_or a.operands.items role no_value) (h.operands role) (operand_from role) (operand_to role);
+          ordered = h.ordered;
+          flaws = λ f. (λ m. flaw_from f ((h.flaws f).0 m), λ k. (h.flaws f).1 (flaw_to f k));
           always = (
             λ t. always_from (h.always.0 t),
             λ all. h.always.1 (always_to all),
           );
         }
 
-  pub contexts_are : (list : List AlarmContexts) → AreMerged values contexts list → AreContexts p tables list
+  pub contexts_are : (list : List AlarmContexts) → AreMerged values Flawed contexts list → AreContexts p tables list
   contexts_are list h = record {
     sorted = strictly list h.rising;
     each = λ a c. is_context a (h.each a c);

@@ -4,15 +4,18 @@ use Rattle.std.proofs.Common.{length, get_or, arith}
 use Rattle.std.specs.Prelude.{Contains}
 use Rattle.std.proofs.lemmas.Bool.{cases_lt, and_parts, and_from}
 use Rattle.std.proofs.lemmas.List.{length-append, get_or_past, get_or_append_left, get_or_push}
+use Rattle.std.proofs.lemmas.List.Elements.{Contains-append_left, Contains-append_right, Contains-append_cases}
 use Rattle.interfere_set.specs.pointer_dom.Values.{Values, IsValues, joined_values, no_value}
 use Rattle.access_races.proofs.Joins.{either}
 use Rattle.alarm_contexts.specs.declared.alarm_context.ContextEdge.{ContextEdge}
 use Rattle.alarm_contexts.specs.declared.alarm_context.AlarmContexts.{AlarmContexts}
 use Rattle.alarm_contexts.specs.declared.exits.Context.{Context}
+use Rattle.alarm_contexts.specs.declared.flaws.ObjectFlaw.{ObjectFlaw}
 use Rattle.alarm_contexts.specs.Order.{AreRising, IsEdgeBefore}
 use Rattle.alarm_contexts.specs.Bounds.{IsLeastAbove}
 use Rattle.alarm_contexts.specs.reading.Operands.{AreJoined}
-use Rattle.alarm_contexts.specs.reading.Merging.{edge_of, IsAlone, IsJoined, IsEdgeOf, HasValue, IsValueOf, IsMerged}
+use Rattle.alarm_contexts.specs.reading.Merging.{edge_of, IsAlone, IsJoined, IsEdgeOf, HasValue, IsValueOf}
+use Rattle.alarm_contexts.specs.reading.Merging.{IsFlawOf, IsMerged}
 use Rattle.alarm_contexts.proofs.Rising.{none, first, only}
 use Rattle.alarm_contexts.proofs.Bounds.{least_none, least_one, least_both, least_same}
 use Rattle.alarm_contexts.proofs.Edges.{edges_added}
@@ -42,10 +45,10 @@ operands_more one other n both new v h new-is v-is =
 abbrev edge : Context → ContextEdge
 edge x = edge_of x.exit
 
-module _ (values : Context → List Values) where
+module _ (values : Context → List Values) (Flawed : Context → ObjectFlaw → Type 0) where
   -- the same contexts
   pub merged_same : (Is Now : Context → Type 0) → ((x : Context) → Is x → Now x) → ((x : Context) → Now x → Is x)
-      → (a : AlarmContexts) → IsMerged values Is a → IsMerged values Now a
+      → (a : AlarmContexts) → IsMerged values Flawed Is a → IsMerged values Flawed Now a
   merged_same Is Now to from a h = record {
     one = h.one;
     is = to h.one h.is;
@@ -62,6 +65,11 @@ module _ (values : Context → List Values) where
         (get_or a.operands.items role no_value) (h.operands role)
         (λ v k. record { one = k.one; is = to k.one k.is; within = k.within; value = k.value })
         (λ v k. record { one = k.one; is = from k.one k.is; within = k.within; value = k.value });
+    ordered = h.ordered;
+    flaws = λ f. (
+      λ c. let k = (h.flaws f).0 c in record { one = k.one; is = to k.one k.is; flaw = k.flaw },
+      λ k. (h.flaws f).1 (record { one = k.one; is = from k.one k.is; flaw = k.flaw }),
+    );
     always = (
       λ t x n. h.always.0 t x (from x n),
       λ all. h.always.1 (λ x i. all x (to x i)),
@@ -69,7 +77,8 @@ module _ (values : Context → List Values) where
   }
 
   module _ (Is Now : Context → Type 0) (this : Context) (more : (x : Context) → Now x ↔ (Is x ⊎ (this ≡ x)))
-      (are : (x : Context) → Now x → (role : ℕ) → IsValues (get_or (values x) role no_value)) where
+      (are : (x : Context) → Now x → (role : ℕ) → IsValues (get_or (values x) role no_value))
+      (wrong : List ObjectFlaw) (wrong-is : (f : ObjectFlaw) → Contains wrong f ↔ Flawed this f) where
     has_this : Now this
     has_this = (more this).1 (inr refl)
 
@@ -102,7 +111,7 @@ module _ (values : Context → List Values) where
 
     -- ## The first
 
-    module _ (a : AlarmContexts) (is : IsAlone this (values this) a) (fresh : (x : Context) → Is x → ⊥) where
+    module _ (a : AlarmContexts) (is : IsAlone this (values this) wrong a) (fresh : (x : Context) → Is x → ⊥) where
       alone_edges : (e : ContextEdge) → Contains a.edges.items e ↔ IsEdgeOf values Now e
       alone_edges e = (
         λ c. record {
@@ -129,7 +138,14 @@ module _ (values : Context → List Values) where
           (least_same (Mine role) (IsValueOf values Now role) (get_or (values this) role no_value) (mine_least role)
           (mine_now role) (λ v k. either (λ o. absurd (fresh k.one o)) (mine_from role v k) ((more k.one).0 k.is)))
 
-      pub alone_merged : IsMerged values Now a
+      alone_flaws : (f : ObjectFlaw) → Contains a.flaws.items f ↔ IsFlawOf Flawed Now f
+      alone_flaws f = (
+        λ c. record { one = this; is = has_this; flaw = (wrong-is f).0 ((is.flaws.same f).0 c) },
+        λ k. either (λ o. absurd (fresh k.one o))
+            (λ s. (is.flaws.same f).1 ((wrong-is f).1 (subst (λ x. Flawed x f) (sym s) k.flaw))) ((more k.one).0 k.is),
+      )
+
+      pub alone_merged : IsMerged values Flawed Now a
       alone_merged = record {
         one = this;
         is = has_this;
@@ -137,6 +153,8 @@ module _ (values : Context → List Values) where
         edges = alone_edges;
         count = alone_count;
         operands = alone_operands;
+        ordered = is.flaws.rising;
+        flaws = alone_flaws;
         always = (
           λ t x n. either (λ o. absurd (fresh x o))
               (λ s. subst (λ (z : Context). z.exit.ends ≡ true) s (sym is.always ∙ t)) ((more x).0 n),
@@ -146,9 +164,9 @@ module _ (values : Context → List Values) where
 
     -- ## One more
 
-    module _ (last : AlarmContexts) (h : IsMerged values Is last)
+    module _ (last : AlarmContexts) (h : IsMerged values Flawed Is last)
         (after : (x : Context) → Is x → IsEdgeBefore (edge x) (edge this) ⊎ (edge x ≡ edge this)) (a : AlarmContexts)
-        (is : IsJoined last this (values this) a) where
+        (is : IsJoined last this (values this) wrong a) where
       most : (f : ContextEdge) → Contains last.edges.items f → IsEdgeBefore f (edge this) ⊎ (f ≡ edge this)
       most f c =
           let k = (h.edges f).0 c in
@@ -201,7 +219,20 @@ module _ (values : Context → List Values) where
             omega (arith, lt, le))))
       ]
 
-      pub joined_merged : IsMerged values Now a
+      joined_flaws : (f : ObjectFlaw) → Contains a.flaws.items f ↔ IsFlawOf Flawed Now f
+      joined_flaws f = (
+        λ c. either
+            (λ o. let k = (h.flaws f).0 o in record { one = k.one; is = has_old k.one k.is; flaw = k.flaw })
+            (λ w. record { one = this; is = has_this; flaw = (wrong-is f).0 w })
+            (Contains-append_cases last.flaws.items wrong f ((is.flaws.same f).0 c)),
+        λ k. (is.flaws.same f).1 (either
+            (λ (o : Is k.one). Contains-append_left last.flaws.items wrong f
+            ((h.flaws f).1 (record { one = k.one; is = o; flaw = k.flaw })))
+            (λ s. Contains-append_right last.flaws.items wrong f
+            ((wrong-is f).1 (subst (λ x. Flawed x f) (sym s) k.flaw))) ((more k.one).0 k.is)),
+      )
+
+      pub joined_merged : IsMerged values Flawed Now a
       joined_merged = record {
         one = this;
         is = has_this;
@@ -209,6 +240,8 @@ module _ (values : Context → List Values) where
         edges = joined_edges;
         count = joined_count;
         operands = joined_operands;
+        ordered = is.flaws.rising;
+        flaws = joined_flaws;
         always = (
           λ t x n.
               let both = and_parts last.always this.exit.ends (sym is.always ∙ t) in

@@ -26,9 +26,11 @@ use Rattle.program_reports.specs.Reports.{copy_in, operation_in}
 use Rattle.program_reports.specs.reading.Found.{operation_at}
 use Rattle.alarm_contexts.specs.declared.exits.Exit.{Exit}
 use Rattle.alarm_contexts.specs.declared.exits.Context.{Context}
+use Rattle.alarm_contexts.specs.declared.flaws.ObjectFlaw.{ObjectFlaw}
+use Rattle.alarm_contexts.specs.Flaws.{HasFlaw}
 use Rattle.alarm_contexts.specs.Contexts.{IsContext}
 use Rattle.alarm_contexts.specs.reading.Found.{context_at, exit_at, IsContextUpTo}
-use Rattle.alarm_contexts.specs.reading.Operands.{values_in, operands_at, operands_of}
+use Rattle.alarm_contexts.specs.reading.Operands.{values_in, operands_at, operands_of, IsFlawed}
 
 -- ## Control
 
@@ -160,3 +162,19 @@ module _ (p : ProgramBodies) (tables : ℕ → NodeTable State) (store : Interfe
           let count = operand_count in
           subst IsValues (sym (get_or_past (operands_of p tables x) role no_value (omega (arith, le, count)))) none_is
     ]
+
+    -- ## Pointers
+
+    flawed_is : (f : ObjectFlaw) → IsFlawed p tables x f ≡ (let operation = operation_in p t k in
+        HasFlaw p.laid operation (map (value_of s) (used operation)) f)
+    flawed_is f =
+        (λ i. HasFlaw p.laid (operation_at (body_at p (like.body i)) (like.copy i)) (operands_of p tables x) f)
+        ∙ (λ i. HasFlaw p.laid (operation_in p t k) (operands_are i) f)
+
+    pub flawed_as : (f : ObjectFlaw) → IsFlawed p tables x f → (let operation = operation_in p t k in
+        HasFlaw p.laid operation (map (value_of s) (used operation)) f)
+    flawed_as f h = subst (λ A. A) (flawed_is f) h
+
+    pub as_flawed : (f : ObjectFlaw) → (let operation = operation_in p t k in
+        HasFlaw p.laid operation (map (value_of s) (used operation)) f) → IsFlawed p tables x f
+    as_flawed f h = subst (λ A. A) (sym (flawed_is f)) h

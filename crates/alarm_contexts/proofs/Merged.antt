@@ -11,6 +11,7 @@ use Rattle.interfere_set.specs.pointer_dom.Values.{Values, IsValues, no_value}
 use Rattle.access_races.proofs.Joins.{either}
 use Rattle.alarm_contexts.specs.declared.alarm_context.AlarmContexts.{AlarmContexts}
 use Rattle.alarm_contexts.specs.declared.exits.Context.{Context}
+use Rattle.alarm_contexts.specs.declared.flaws.ObjectFlaw.{ObjectFlaw}
 use Rattle.alarm_contexts.specs.Order.{AreRising}
 use Rattle.alarm_contexts.specs.Contexts.{alarm_of}
 use Rattle.alarm_contexts.specs.reading.Merging.{Precedes, IsAlone, IsJoined, IsAdded, IsMerged, IsGiven}
@@ -23,9 +24,10 @@ use Rattle.alarm_contexts.proofs.Joined.{merged_same, alone_merged, joined_merge
 abbrev Before : AlarmContexts → AlarmContexts → Type 0
 Before a b = AlarmBefore (alarm_of a) (alarm_of b)
 
-module _ (values : Context → List Values) (old now : List Context) (this : Context)
+module _ (values : Context → List Values) (Flawed : Context → ObjectFlaw → Type 0) (old now : List Context) (this : Context)
     (more : (x : Context) → Contains now x ↔ (Contains old x ⊎ (this ≡ x)))
-    (are : (x : Context) → Contains now x → (role : ℕ) → IsValues (get_or (values x) role no_value)) where
+    (are : (x : Context) → Contains now x → (role : ℕ) → IsValues (get_or (values x) role no_value))
+    (wrong : List ObjectFlaw) (wrong-is : (f : ObjectFlaw) → Contains wrong f ↔ Flawed this f) where
   given_more : (alarm : Alarm) → this.alarm ≡ alarm → (x : Context)
       → IsGiven now alarm x ↔ (IsGiven old alarm x ⊎ (this ≡ x))
   given_more alarm e x = (
@@ -35,30 +37,30 @@ module _ (values : Context → List Values) (old now : List Context) (this : Con
   )
 
   -- another alarm has the contexts that it had
-  kept : (a : AlarmContexts) → IsMerged values (IsGiven old (alarm_of a)) a → (alarm_of a ≡ this.alarm → ⊥)
-      → IsMerged values (IsGiven now (alarm_of a)) a
+  kept : (a : AlarmContexts) → IsMerged values Flawed (IsGiven old (alarm_of a)) a → (alarm_of a ≡ this.alarm → ⊥)
+      → IsMerged values Flawed (IsGiven now (alarm_of a)) a
   kept a h differs =
-      merged_same values (IsGiven old (alarm_of a)) (IsGiven now (alarm_of a))
+      merged_same values Flawed (IsGiven old (alarm_of a)) (IsGiven now (alarm_of a))
       (λ x g. record { has = (more x).1 (inl g.has); alike = g.alike })
       (λ x g. either (λ (o : Contains old x). record { has = o; alike = g.alike })
       (λ s. absurd (differs (sym g.alike ∙ ap (λ (z : Context). z.alarm) (sym s)))) ((more x).0 g.has)) a h
 
   -- the first one of its alarm
-  alone : (a : AlarmContexts) → IsAlone this (values this) a
-      → ((x : Context) → Contains old x → x.alarm ≡ this.alarm → ⊥) → IsMerged values (IsGiven now (alarm_of a)) a
+  alone : (a : AlarmContexts) → IsAlone this (values this) wrong a
+      → ((x : Context) → Contains old x → x.alarm ≡ this.alarm → ⊥) → IsMerged values Flawed (IsGiven now (alarm_of a)) a
   alone a is fresh =
-      alone_merged values (IsGiven old (alarm_of a)) (IsGiven now (alarm_of a)) this
-      (given_more (alarm_of a) (sym is.alarm)) (λ x g. are x g.has) a is (λ x g. fresh x g.has (g.alike ∙ is.alarm))
+      alone_merged values Flawed (IsGiven old (alarm_of a)) (IsGiven now (alarm_of a)) this
+      (given_more (alarm_of a) (sym is.alarm)) (λ x g. are x g.has) wrong wrong-is a is (λ x g. fresh x g.has (g.alike ∙ is.alarm))
 
-  module _ (list : List AlarmContexts) (h : AreMerged values old list)
+  module _ (list : List AlarmContexts) (h : AreMerged values Flawed old list)
       (after : (x : Context) → Contains old x → Precedes x this) where
-    begun : (a : AlarmContexts) → list ≡ [] → IsAlone this (values this) a → AreMerged values now (a ∷ [])
+    begun : (a : AlarmContexts) → list ≡ [] → IsAlone this (values this) wrong a → AreMerged values Flawed now (a ∷ [])
     begun a empty is =
         let fresh : (x : Context) → Contains old x → ⊥ = λ x o. (let f = h.all x o in
         none f.0 (subst (λ l. Contains l f.0) empty f.1)) in record {
           rising = (λ y c. absurd (none y c), tt);
           each = λ b c. either
-              (λ s. subst (λ z. IsMerged values (IsGiven now (alarm_of z)) z) s (alone a is (λ x o same. fresh x o)))
+              (λ s. subst (λ z. IsMerged values Flawed (IsGiven now (alarm_of z)) z) s (alone a is (λ x o same. fresh x o)))
               (λ k. absurd (none b k)) (cases a b [] c);
           all = λ x c. either (λ o. absurd (fresh x o))
               (λ s. (a, first a [], is.alarm ∙ ap (λ (z : Context). z.alarm) s)) ((more x).0 c);
@@ -71,7 +73,7 @@ module _ (values : Context → List Values) (old now : List Context) (this : Con
       rises : AreRising Before both
       rises = subst (AreRising Before) list-is h.rising
 
-      listed : (a : AlarmContexts) → Contains both a → IsMerged values (IsGiven old (alarm_of a)) a
+      listed : (a : AlarmContexts) → Contains both a → IsMerged values Flawed (IsGiven old (alarm_of a)) a
       listed a c = h.each a (subst (λ l. Contains l a) (sym list-is) c)
 
       in_front : (a : AlarmContexts) → Contains front a → Contains both a
@@ -83,25 +85,25 @@ module _ (values : Context → List Values) (old now : List Context) (this : Con
       before_last : (a : AlarmContexts) → Contains front a → Before a last
       before_last a c = rising_last Before front last rises a c
 
-      module _ (a : AlarmContexts) (same : alarm_of last ≡ this.alarm) (is : IsJoined last this (values this) a) where
-        merged_last : IsMerged values (IsGiven now (alarm_of a)) a
+      module _ (a : AlarmContexts) (same : alarm_of last ≡ this.alarm) (is : IsJoined last this (values this) wrong a) where
+        merged_last : IsMerged values Flawed (IsGiven now (alarm_of a)) a
         merged_last =
-            subst (λ alarm. IsMerged values (IsGiven now alarm) a) (sym is.alarm)
-            (joined_merged values (IsGiven old (alarm_of last)) (IsGiven now (alarm_of last)) this
-            (given_more (alarm_of last) (sym same)) (λ x g. are x g.has) last (listed last (Contains-push front last))
+            subst (λ alarm. IsMerged values Flawed (IsGiven now alarm) a) (sym is.alarm)
+            (joined_merged values Flawed (IsGiven old (alarm_of last)) (IsGiven now (alarm_of last)) this
+            (given_more (alarm_of last) (sym same)) (λ x g. are x g.has) wrong wrong-is last (listed last (Contains-push front last))
             (λ x g. edge_after x this (after x g.has) (g.alike ∙ same)) a is)
 
         in_new : Contains (front ++ a ∷ []) a
         in_new = Contains-push front a
 
-        joined_last : AreMerged values now (front ++ a ∷ [])
+        joined_last : AreMerged values Flawed now (front ++ a ∷ [])
         joined_last = record {
           rising = rising_push Before front a (rising_front Before front last rises)
               (λ x c. subst (AlarmBefore (alarm_of x)) (sym is.alarm) (before_last x c));
           each = λ b c. either
               (λ o. kept b (listed b (in_front b o)) (λ s. alarm_never (alarm_of last)
               (subst (λ alarm. AlarmBefore alarm (alarm_of last)) (s ∙ sym same) (before_last b o))))
-              (λ s. subst (λ z. IsMerged values (IsGiven now (alarm_of z)) z) s merged_last)
+              (λ s. subst (λ z. IsMerged values Flawed (IsGiven now (alarm_of z)) z) s merged_last)
               (Contains-push_cases front a b c);
           all = λ x c. either
               (λ o. let f = found x o in either
@@ -110,7 +112,7 @@ module _ (values : Context → List Values) (old now : List Context) (this : Con
               (λ s. (a, in_new, is.alarm ∙ same ∙ ap (λ (z : Context). z.alarm) s)) ((more x).0 c);
         }
 
-      module _ (a : AlarmContexts) (differs : alarm_of last ≡ this.alarm → ⊥) (is : IsAlone this (values this) a) where
+      module _ (a : AlarmContexts) (differs : alarm_of last ≡ this.alarm → ⊥) (is : IsAlone this (values this) wrong a) where
         last_before : AlarmBefore (alarm_of last) this.alarm
         last_before =
             let l = listed last (Contains-push front last) in
@@ -127,26 +129,26 @@ module _ (values : Context → List Values) (old now : List Context) (this : Con
             let f = found x o in
             alarm_never this.alarm (subst (λ alarm. AlarmBefore alarm this.alarm) (f.2 ∙ same) (before f.0 f.1))
 
-        following : AreMerged values now (both ++ a ∷ [])
+        following : AreMerged values Flawed now (both ++ a ∷ [])
         following = record {
           rising = rising_push Before both a rises
               (λ b c. subst (AlarmBefore (alarm_of b)) (sym is.alarm) (before b c));
           each = λ b c. either
               (λ o. kept b (listed b o) (λ s. alarm_never this.alarm
               (subst (λ alarm. AlarmBefore alarm this.alarm) s (before b o))))
-              (λ s. subst (λ z. IsMerged values (IsGiven now (alarm_of z)) z) s (alone a is fresh))
+              (λ s. subst (λ z. IsMerged values Flawed (IsGiven now (alarm_of z)) z) s (alone a is fresh))
               (Contains-push_cases both a b c);
           all = λ x c. either
               (λ o. let f = found x o in (f.0, Contains-append_left both (a ∷ []) f.0 f.1, f.2))
               (λ s. (a, Contains-push both a, is.alarm ∙ ap (λ (z : Context). z.alarm) s)) ((more x).0 c);
         }
 
-    pub merged_more : (new : List AlarmContexts) → IsAdded list this (values this) new → AreMerged values now new
-    merged_more new (begins a list-is is new-is) = subst (AreMerged values now) (sym new-is) (begun a list-is is)
+    pub merged_more : (new : List AlarmContexts) → IsAdded list this (values this) wrong new → AreMerged values Flawed now new
+    merged_more new (begins a list-is is new-is) = subst (AreMerged values Flawed now) (sym new-is) (begun a list-is is)
     merged_more new (joins front last a list-is same is new-is) =
-        subst (AreMerged values now) (sym new-is) (joined_last front last list-is a same is)
+        subst (AreMerged values Flawed now) (sym new-is) (joined_last front last list-is a same is)
     merged_more new (behind front last a list-is differs is new-is) =
-        subst (AreMerged values now) (sym new-is) (following front last list-is a differs is)
+        subst (AreMerged values Flawed now) (sym new-is) (following front last list-is a differs is)
 
 -- ## All of them
 
@@ -157,8 +159,8 @@ no_context = record {
   exit = record { body = 0; edge = 0; copy = 0; ends = false };
 }
 
-pub merged_none : (values : Context → List Values) (list : List AlarmContexts) → list ≡ [] → AreMerged values [] list
-merged_none values list e = subst (AreMerged values []) (sym e) (record {
+pub merged_none : (values : Context → List Values) (Flawed : Context → ObjectFlaw → Type 0) (list : List AlarmContexts) → list ≡ [] → AreMerged values Flawed [] list
+merged_none values Flawed list e = subst (AreMerged values Flawed []) (sym e) (record {
   rising = tt;
   each = λ x c. absurd (none x c);
   all = λ x c. absurd (none x c);
@@ -176,12 +178,12 @@ after_front (a ∷ xs) (suc i) d lt r x h =
     (λ more. after_front xs i d within r.1 x more) (cases a x (take i xs) h)
 
 -- the same ones
-pub merged_all : (values : Context → List Values) (given ranked : List Context) (list : List AlarmContexts)
-    → ((x : Context) → Contains ranked x ↔ Contains given x) → AreMerged values ranked list
-    → AreMerged values given list
-merged_all values given ranked list same h = record {
+pub merged_all : (values : Context → List Values) (Flawed : Context → ObjectFlaw → Type 0) (given ranked : List Context) (list : List AlarmContexts)
+    → ((x : Context) → Contains ranked x ↔ Contains given x) → AreMerged values Flawed ranked list
+    → AreMerged values Flawed given list
+merged_all values Flawed given ranked list same h = record {
   rising = h.rising;
-  each = λ a c. merged_same values (IsGiven ranked (alarm_of a)) (IsGiven given (alarm_of a))
+  each = λ a c. merged_same values Flawed (IsGiven ranked (alarm_of a)) (IsGiven given (alarm_of a))
       (λ x g. record { has = (same x).0 g.has; alike = g.alike })
       (λ x g. record { has = (same x).1 g.has; alike = g.alike }) a (h.each a c);
   all = λ x c. h.all x ((same x).1 c);

@@ -25,13 +25,14 @@ use Rattle.program_reports.specs.Reports.{IsAlarm, IsReport, copy_in}
 use Rattle.program_reports.specs.Reports.IsAlarm.{faulty, racing}
 use Rattle.alarm_contexts.specs.declared.alarm_context.ContextEdge.{ContextEdge}
 use Rattle.alarm_contexts.specs.declared.alarm_context.AlarmContexts.{AlarmContexts}
-use Rattle.alarm_contexts.specs.Order.{AreRising, IsEdgeBefore}
+use Rattle.alarm_contexts.specs.declared.flaws.ObjectFlaw.{ObjectFlaw}
+use Rattle.alarm_contexts.specs.Order.{AreRising, IsEdgeBefore, IsFlawBefore}
 use Rattle.alarm_contexts.specs.Bounds.{IsLeastAbove}
-use Rattle.alarm_contexts.specs.Contexts.{HasContext, IsEdge, HasOperand, IsOperand, IsAlways, IsContextOf, alarm_of}
-use Rattle.alarm_contexts.specs.Contexts.{HasAlarm, AreContexts, Content, content, contents}
+use Rattle.alarm_contexts.specs.Contexts.{HasContext, IsEdge, HasOperand, IsOperand, IsFlaw, IsAlways, IsContextOf}
+use Rattle.alarm_contexts.specs.Contexts.{alarm_of, HasAlarm, AreContexts, Content, content, contents}
 use Rattle.alarm_contexts.proofs.Rising.{none, first, later, cases, equal_lists}
 use Rattle.alarm_contexts.proofs.Bounds.{one_least}
-use Rattle.alarm_contexts.proofs.Sorting.{alarm_trans, alarm_never, edge_trans, edge_never}
+use Rattle.alarm_contexts.proofs.Sorting.{alarm_trans, alarm_never, edge_trans, edge_never, flaw_trans, flaw_never}
 
 -- ## Alarms
 
@@ -120,6 +121,8 @@ module _ (p : ProgramBodies) (tables : ℕ → NodeTable State) where
     pub count : (role : ℕ) → (role < length a.operands.items) ↔ HasOperand p tables alarm.place alarm.class role
     pub operands : (role : ℕ)
         → IsLeastAbove (IsOperand p tables alarm.place alarm.class role) (get_or a.operands.items role no_value)
+    pub ordered : AreRising IsFlawBefore a.flaws.items
+    pub flaws : (f : ObjectFlaw) → Contains a.flaws.items f ↔ IsFlaw p tables alarm.place alarm.class f
     pub always : (a.always ≡ true) ↔ IsAlways p tables alarm.place alarm.class
 
   told : (a : AlarmContexts) → IsContextOf p tables a → Told (alarm_of a) a
@@ -128,6 +131,8 @@ module _ (p : ProgramBodies) (tables : ℕ → NodeTable State) where
     edges = h.edges;
     count = h.count;
     operands = h.operands;
+    ordered = h.ordered;
+    flaws = h.flaws;
     always = h.always;
   }
 
@@ -145,6 +150,11 @@ module _ (p : ProgramBodies) (tables : ℕ → NodeTable State) where
         (λ role lt. one_least (IsOperand p tables alarm.place alarm.class role) (get_or a.operands.items role no_value)
         (get_or b.operands.items role no_value) (h.operands role) (k.operands role))
 
+    flaws_same : a.flaws.items ≡ b.flaws.items
+    flaws_same =
+        equal_lists IsFlawBefore flaw_trans flaw_never a.flaws.items b.flaws.items h.ordered k.ordered
+        (λ f c. (k.flaws f).1 ((h.flaws f).0 c)) (λ f c. (h.flaws f).1 ((k.flaws f).0 c))
+
     always_same : a.always ≡ b.always
     always_same =
         same_truth a.always b.always (λ t. k.always.1 (h.always.0 t)) (λ t. h.always.1 (k.always.0 t))
@@ -156,8 +166,9 @@ module _ (p : ProgramBodies) (tables : ℕ → NodeTable State) where
       let of_b = subst (λ alarm. Told alarm b) (sym same) (told b k) in
       let edges = edges_same (alarm_of a) a b of_a of_b in
       let operands = operands_same (alarm_of a) a b of_a of_b in
+      let flaws = flaws_same (alarm_of a) a b of_a of_b in
       let always = always_same (alarm_of a) a b of_a of_b in
-      λ i. (same i, edges i, operands i, always i)
+      λ i. (same i, edges i, operands i, flaws i, always i)
 
   -- ## Lists
 

@@ -1,4 +1,4 @@
--- The order of contexts.
+-- The order of contexts, and of what they are made of.
 use Rattle.std.proofs.Common.{◌≡◌, ◌⊎◌, ℕ, suc, ◌+◌, ◌<◌, refl, ap, sym, subst, ◌∙◌, inl, inr, false, List, [], ◌∷◌}
 use Rattle.std.proofs.Common.{length, get_or, arith}
 use Rattle.std.specs.Prelude.{Contains}
@@ -16,7 +16,8 @@ use Rattle.access_races.proofs.Sorting.{is_before, is_same}
 use Rattle.alarm_contexts.specs.declared.alarm_context.ContextEdge.{ContextEdge}
 use Rattle.alarm_contexts.specs.declared.exits.Context.{Context}
 use Rattle.alarm_contexts.specs.contracts.exits.ContextOrd.TheImpl.{cmp-value}
-use Rattle.alarm_contexts.specs.Order.{AreRising, IsEdgeBefore}
+use Rattle.alarm_contexts.specs.declared.flaws.ObjectFlaw.{ObjectFlaw}
+use Rattle.alarm_contexts.specs.Order.{AreRising, IsEdgeBefore, IsFlawBefore}
 use Rattle.alarm_contexts.specs.reading.Merging.{edge_of, IsBefore, Precedes}
 use Rattle.alarm_contexts.proofs.Rising.{none, cases}
 
@@ -47,6 +48,18 @@ edge_trans a b c (inr (e, l)) (inr (f, m)) = inr (e ∙ f, omega (arith, l, m))
 pub edge_never : (a : ContextEdge) → IsEdgeBefore a a → ⊥
 edge_never a (inl l) = absurd (omega (arith, l))
 edge_never a (inr (e, l)) = absurd (omega (arith, l))
+
+-- ## The order of flaws
+
+pub flaw_trans : (a b c : ObjectFlaw) → IsFlawBefore a b → IsFlawBefore b c → IsFlawBefore a c
+flaw_trans a b c (inl l) (inl m) = inl (omega (arith, l, m))
+flaw_trans a b c (inl l) (inr m) = inl (let e = m.0 in omega (arith, l, e))
+flaw_trans a b c (inr l) (inl m) = inl (let e = l.0 in omega (arith, m, e))
+flaw_trans a b c (inr (e, l)) (inr (f, m)) = inr (e ∙ f, omega (arith, l, m))
+
+pub flaw_never : (a : ObjectFlaw) → IsFlawBefore a a → ⊥
+flaw_never a (inl l) = absurd (omega (arith, l))
+flaw_never a (inr (e, l)) = absurd (omega (arith, l))
 
 -- ## The order of contexts
 

@@ -7,7 +7,7 @@
 -- the operation at 2:22 has three edges in the body of a, one for each call. The alarm of DIV there has two of them,
 -- those of the first and the last call. Its operands are 8, and 0 to 3; with the edge of the second call they would be
 -- the same, but were the last call not there, they would be 8 and 0 alone. Behind the last one control goes on, so the
--- alarm is not one of always.
+-- alarm is not one of always. It has no pointers, with which something could be wrong.
 use Rattle.std.specs.Prelude.{◌≡◌, ◌↔◌, ℕ, ◌<◌, Bool, true, List, length, get_or, map, Contains, Some, None}
 use Rattle.tm_cint.specs.declared.Class.{Class}
 use Rattle.tm_terms.specs.declared.alarms.Alarm.{Alarm}
@@ -25,8 +25,10 @@ use Rattle.post_recheck.specs.program_equations.Programs.{ProgramBodies, body_at
 use Rattle.program_reports.specs.Reports.{place_of, copy_in, operation_in, IsReachedIn}
 use Rattle.alarm_contexts.specs.declared.alarm_context.ContextEdge.{ContextEdge}
 use Rattle.alarm_contexts.specs.declared.alarm_context.AlarmContexts.{AlarmContexts}
-use Rattle.alarm_contexts.specs.Order.{AreRising, IsEdgeBefore}
+use Rattle.alarm_contexts.specs.declared.flaws.ObjectFlaw.{ObjectFlaw}
+use Rattle.alarm_contexts.specs.Order.{AreRising, IsEdgeBefore, IsFlawBefore}
 use Rattle.alarm_contexts.specs.Bounds.{IsLeastAbove}
+use Rattle.alarm_contexts.specs.Flaws.{HasFlaw}
 
 module _ (p : ProgramBodies) (tables : ℕ → NodeTable State) (place : Place) (class : Class) where
   -- ## Contexts
@@ -74,6 +76,17 @@ module _ (p : ProgramBodies) (tables : ℕ → NodeTable State) (place : Place) 
     pub within : role < length (used (operation_in p body copy))
     pub value : v ≡ value_of state (get_or (used (operation_in p body copy)) role 0)
 
+  -- ## Pointers
+
+  -- in a context this is wrong with the pointers to an object that the operation follows or moves
+  pub record IsFlaw (f : ObjectFlaw) : Type 0 where
+    pub body : ℕ
+    pub copy : ℕ
+    pub state : State
+    pub context : IsContext body copy state
+    pub flaw : (let operation = operation_in p body copy in
+        HasFlaw p.laid operation (map (value_of state) (used operation)) f)
+
   -- ## Control
 
   -- in each context control does not go on, whatever other tasks store
@@ -85,8 +98,8 @@ module _ (p : ProgramBodies) (tables : ℕ → NodeTable State) (place : Place) 
 module _ (p : ProgramBodies) (tables : ℕ → NodeTable State) where
   -- There is a context. The edges are exactly those of contexts, in order and each once; there is an operand for each
   -- temporary that the operation uses in a context, with all values that it has in contexts and as few others as can
-  -- be: an operation that uses fewer temporaries adds nothing to operands that it has not; and it is told whether
-  -- control ever goes on.
+  -- be: an operation that uses fewer temporaries adds nothing to operands that it has not; the flaws are exactly those
+  -- of contexts, in order and each once; and it is told whether control ever goes on.
   pub record IsContextOf (a : AlarmContexts) : Type 0 where
     pub some : HasContext p tables a.place a.class
     pub rising : AreRising IsEdgeBefore a.edges.items
@@ -94,6 +107,8 @@ module _ (p : ProgramBodies) (tables : ℕ → NodeTable State) where
     pub count : (role : ℕ) → (role < length a.operands.items) ↔ HasOperand p tables a.place a.class role
     pub operands : (role : ℕ)
         → IsLeastAbove (IsOperand p tables a.place a.class role) (get_or a.operands.items role no_value)
+    pub ordered : AreRising IsFlawBefore a.flaws.items
+    pub flaws : (f : ObjectFlaw) → Contains a.flaws.items f ↔ IsFlaw p tables a.place a.class f
     pub always : (a.always ≡ true) ↔ IsAlways p tables a.place a.class
 
 -- the alarm by itself
@@ -114,12 +129,12 @@ pub record AreContexts (p : ProgramBodies) (tables : ℕ → NodeTable State) (a
 
 -- ## What is told
 
--- the alarm, its edges, its operands, and whether control ever goes on
+-- the alarm, its edges, its operands, what is wrong with pointers, and whether control ever goes on
 abbrev pub Content : Type 0
-Content = Alarm × List ContextEdge × List Values × Bool
+Content = Alarm × List ContextEdge × List Values × List ObjectFlaw × Bool
 
 abbrev pub content : AlarmContexts → Content
-content a = (alarm_of a, a.edges.items, a.operands.items, a.always)
+content a = (alarm_of a, a.edges.items, a.operands.items, a.flaws.items, a.always)
 
 abbrev pub contents : List AlarmContexts → List Content
 contents alarms = map content alarms

@@ -1,6 +1,9 @@
--- Lists that rise, and the order of edges.
-use Rattle.std.specs.Prelude.{◌≡◌, ◌⊎◌, ◌<◌, List, [], ◌∷◌, Contains}
+-- Lists that rise, the order of edges, and that of flaws.
+use Rattle.std.specs.Prelude.{◌≡◌, ◌⊎◌, ℕ, ◌<◌, List, [], ◌∷◌, Contains}
 use Rattle.alarm_contexts.specs.declared.alarm_context.ContextEdge.{ContextEdge}
+use Rattle.alarm_contexts.specs.declared.flaws.Flaw.{Flaw}
+use Rattle.alarm_contexts.specs.declared.flaws.Flaw.TheVariants.{Gone, Offset, Before, Behind}
+use Rattle.alarm_contexts.specs.declared.flaws.ObjectFlaw.{ObjectFlaw}
 
 -- each comes before all behind it
 abbrev pub AreRising : {X : Type 0} → (X → X → Type 0) → List X → Type 0
@@ -10,3 +13,14 @@ AreRising {X} Before (x ∷ xs) = ((y : X) → Contains xs y → Before x y) × 
 -- by bodies, then by numbers
 abbrev pub IsEdgeBefore : ContextEdge → ContextEdge → Type 0
 IsEdgeBefore e f = (e.body < f.body) ⊎ ((e.body ≡ f.body) × (e.edge < f.edge))
+
+-- what may be wrong, in order
+abbrev pub flaw_number : Flaw → ℕ
+flaw_number Gone = 0
+flaw_number Offset = 1
+flaw_number Before = 2
+flaw_number Behind = 3
+
+-- by objects, then by what is wrong
+abbrev pub IsFlawBefore : ObjectFlaw → ObjectFlaw → Type 0
+IsFlawBefore f g = (f.object < g.object) ⊎ ((f.object ≡ g.object) × (flaw_number f.flaw < flaw_number g.flaw))

@@ -1,4 +1,5 @@
 //! What is told of an alarm.
+use crate::flaws::ObjectFlaw;
 use pointer_dom::AbsValue;
 use tm_cint::Class;
 use tm_terms::Place;
@@ -21,6 +22,8 @@ pub struct AlarmContexts {
     pub edges: Vec<ContextEdge>,
     /// The values of each temporary that the operation uses, over all these edges, in the order in which it uses them.
     pub operands: Vec<AbsValue>,
+    /// What is wrong with the pointers that it follows or moves, over all these edges, by rising numbers of objects.
+    pub flaws: Vec<ObjectFlaw>,
     /// Whether control goes on behind none of these edges.
     pub always: bool,
 }

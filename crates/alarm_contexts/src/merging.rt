@@ -1,5 +1,5 @@
 //! Contexts of one alarm as one.
-ghost use Rattle.std.specs.Prelude.{◌≡◌, ◌↔◌, length, Contains, IfOk, OnOk, IsTrue};
+ghost use Rattle.std.specs.Prelude.{◌≡◌, ◌↔◌, ◌++◌, length, Contains, IfOk, OnOk, IsTrue};
 ghost use Rattle.post_recheck.specs.program_equations.Solutions.{tables_of};
 ghost use Rattle.post_recheck.specs.program_systems.Analysable.{IsAnalysable};
 ghost use Rattle.post_recheck.specs.program_systems.ProgramFacts.{AreProgramFacts, program_with};
@@ -7,16 +7,16 @@ ghost use Rattle.post_recheck.specs.Pairs.{FitsPair, lists_of, pair_of};
 ghost use Rattle.alarm_contexts.specs.declared.exits.Context.{Context as AContext};
 ghost use Rattle.alarm_contexts.specs.Contexts.{alarm_of};
 ghost use Rattle.alarm_contexts.specs.reading.Found.{IsContextUpTo};
-ghost use Rattle.alarm_contexts.specs.reading.Operands.{operands_of};
+ghost use Rattle.alarm_contexts.specs.reading.Operands.{operands_of, IsFlawed};
 ghost use Rattle.alarm_contexts.specs.reading.Merging.{edge_of, IsSorting, IsLast, IsEdgeAdded, IsAlone, IsJoined};
-ghost use Rattle.alarm_contexts.specs.reading.Merging.{IsAdded, AreMerged};
+ghost use Rattle.alarm_contexts.specs.reading.Merging.{IsAdded, AreMerged, AreOrdered};
 
 use crate::alarm_context::{AlarmContexts, ContextEdge};
 use crate::exits::{Context, Exit};
-use crate::operands::{joined_operands, operands_of};
+use crate::flaws::ObjectFlaw;
+use crate::operands::{Used, joined_operands, used_of};
 use interfere_set::Store;
 use mutex_configs::Program;
-use pointer_dom::AbsValue;
 use post_recheck::{ProgramFacts, Table};
 use std::alloc::Global;
 use tm_lattice::NoMemory;
@@ -50,13 +50,29 @@ fn add_edge(edges: &mut Vec<ContextEdge>, edge: ContextEdge) -> Result<(), NoMem
     Ok(())
 }
 
+// The same flaws in order, each once.
+fn ordered(mut flaws: Vec<ObjectFlaw>) -> Result<Vec<ObjectFlaw>, NoMemory>
+    ensures { IfOk result (λ list. AreOrdered flaws.items list.items) }
+{
+    flaws.sort()?;
+    flaws.dedup();
+    Ok(flaws)
+}
+
+// The flaws of both.
+fn joined_flaws(
+    mut one: Vec<ObjectFlaw>,
+    other: &[ObjectFlaw],
+) -> Result<Vec<ObjectFlaw>, NoMemory>
+    ensures { IfOk result (λ list. AreOrdered (one.items ++ other.now) list.items) }
+{
+    one.extend_from_slice(other)?;
+    ordered(one)
+}
+
 // A context by itself.
-fn alone(
-    alloc: Global,
-    context: Context,
-    operands: Vec<AbsValue>,
-) -> Result<AlarmContexts, NoMemory>
-    ensures { IfOk result (λ a. IsAlone context operands.items a) }
+fn alone(alloc: Global, context: Context, used: Used) -> Result<AlarmContexts, NoMemory>
+    ensures { IfOk result (λ a. IsAlone context used.operands.items used.flaws.items a) }
 {
     let mut edges = Vec::new(alloc);
     edges.push(edge_of(context.exit))?;
@@ -64,7 +80,8 @@ fn alone(
         place: context.alarm.place,
         class: context.alarm.class,
         edges,
-        operands,
+        operands: used.operands,
+        flaws: ordered(used.flaws)?,
         always: context.exit.ends,
     })
 }
@@ -74,9 +91,10 @@ fn joined(
     alloc: Global,
     last: AlarmContexts,
     context: Context,
-    operands: &[AbsValue],
+    used: &Used,
 ) -> Result<AlarmContexts, NoMemory>
-    ensures { IfOk result (λ a. IsJoined last context operands.now a) }
+    ensures { IfOk result
+        (λ a. IsJoined last context used.now.operands.items used.now.flaws.items a) }
 {
     let mut edges = last.edges;
     add_edge(&mut edges, edge_of(context.exit))?;
@@ -84,7 +102,8 @@ fn joined(
         place: last.place,
         class: last.class,
         edges,
-        operands: joined_operands(alloc, &last.operands, operands)?,
+        operands: joined_operands(alloc, &last.operands, &used.operands)?,
+        flaws: joined_flaws(last.flaws, &used.flaws)?,
         always: last.always && context.exit.ends,
     })
 }
@@ -101,20 +120,20 @@ fn add(
     alloc: Global,
     merged: &mut Vec<AlarmContexts>,
     context: Context,
-    operands: Vec<AbsValue>,
+    used: Used,
 ) -> Result<(), NoMemory>
-    ensures { OnOk result (IsAdded merged.old.items context operands.items merged.new.items) }
+    ensures { OnOk result (IsAdded merged.old.items context used.operands.items used.flaws.items merged.new.items) }
 {
     let Some(last) = merged.pop() else {
-        merged.push(alone(alloc, context, operands)?)?;
+        merged.push(alone(alloc, context, used)?)?;
         return Ok(());
     };
     if is_of(&last, context.alarm) {
-        merged.push(joined(alloc, last, context, &operands)?)?;
+        merged.push(joined(alloc, last, context, &used)?)?;
         return Ok(());
     }
     merged.push(last)?;
-    merged.push(alone(alloc, context, operands)?)?;
+    merged.push(alone(alloc, context, used)?)?;
     Ok(())
 }
 
@@ -141,13 +160,14 @@ pub(crate) fn merged(
     requires found { (x : AContext) → Contains contexts.items x → IsContextUpTo (program_with program.now facts.now)
         store.now (tables_of (lists_of tables.now)) (length (program_with program.now facts.now).bodies) x }
     ensures { IfOk result (λ list. AreMerged (operands_of (program_with program.now facts.now)
+        (tables_of (lists_of tables.now))) (IsFlawed (program_with program.now facts.now)
         (tables_of (lists_of tables.now))) contexts.items list.items) }
 {
     let ranked = sorted(contexts)?;
     let mut merged = Vec::new(alloc);
     for context in ranked.iter() {
-        let operands = operands_of(alloc, program, facts, tables, store, *context)?;
-        add(alloc, &mut merged, *context, operands)?;
+        let used = used_of(alloc, program, facts, tables, store, *context)?;
+        add(alloc, &mut merged, *context, used)?;
     }
     Ok(merged)
 }

@@ -1,6 +1,10 @@
-//! The operands of contexts.
-ghost use Rattle.std.specs.Prelude.{◌≡◌, ◌<◌, ◌++◌, map, max, length, option_to_list, unwrap_or, IfOk, OnOk};
+//! The operands of contexts, and what is wrong with the pointers among them.
+ghost use Rattle.std.specs.Prelude.{◌≡◌, ◌↔◌, ◌<◌, ◌≤◌, ◌++◌, map, max, length, option_to_list, unwrap_or, Contains};
+ghost use Rattle.std.specs.Prelude.{IfOk, OnOk};
 ghost use Rattle.std.specs.Option.{option_copied};
+ghost use Rattle.tm_laid.specs.tm_typed.TypedFiles.{typed_file_tree};
+ghost use Rattle.tm_laid.specs.Layable.{IsLayable};
+ghost use Rattle.tm_laid.specs.Layouts.{laid_tree};
 ghost use Rattle.graph_facts.specs.Uses.{listed};
 ghost use Rattle.interfere_set.specs.pointer_dom.Values.{joined_values, no_value};
 ghost use Rattle.post_recheck.specs.transfer_rows.StateForms.{value_of};
@@ -11,11 +15,16 @@ ghost use Rattle.post_recheck.specs.body_systems.Systems.{body_of};
 ghost use Rattle.post_recheck.specs.program_systems.Analysable.{IsAnalysable};
 ghost use Rattle.post_recheck.specs.program_systems.ProgramFacts.{AreProgramFacts, program_with};
 ghost use Rattle.post_recheck.specs.Pairs.{FitsPair, lists_of, pair_of};
+ghost use Rattle.program_reports.specs.reading.Found.{operation_at};
 ghost use Rattle.program_reports.specs.reading.Parts.{ArePartsOf, FitsTable};
-ghost use Rattle.alarm_contexts.specs.reading.Operands.{operands_at, operands_of, AreJoined};
+ghost use Rattle.alarm_contexts.specs.declared.flaws.ObjectFlaw.{ObjectFlaw as AFlaw};
+ghost use Rattle.alarm_contexts.specs.Flaws.{HasFlaw};
+ghost use Rattle.alarm_contexts.specs.reading.Operands.{operands_at, operands_of, IsFlawed, AreJoined};
 
 use crate::copies::operation_of;
 use crate::exits::Context;
+use crate::flaws::ObjectFlaw;
+use crate::pointers::flaws_of;
 use calculations::value_of;
 use cell_env::State;
 use graph_facts::{UsedTemporaries, used};
@@ -26,6 +35,7 @@ use post_recheck::{BodyState, ProgramFacts, Table, body_over_store};
 use program_reports::BodyParts;
 use std::alloc::Global;
 use strided_dom::Strided;
+use tm_laid::Laid;
 use tm_lattice::{Lattice, NoMemory};
 
 // Adds the value of a temporary.
@@ -77,23 +87,56 @@ fn operands_at(
     }
 }
 
-/// Those of a copy of an edge.
-pub(crate) fn operands_of<'a>(
+/// The operands of an operation, and what is wrong with the pointers among them.
+#[derive(Drop)]
+pub(crate) struct Used {
+    pub(crate) operands: Vec<AbsValue>,
+    pub(crate) flaws: Vec<ObjectFlaw>,
+}
+
+// What the operation of a copy uses, at the node that it leaves.
+fn used_at(
+    alloc: Global,
+    laid: &Laid,
+    parts: BodyParts<'_>,
+    table: &[Option<BodyState>],
+    copy: usize,
+) -> Result<Used, NoMemory>
+    requires layable { IsLayable (typed_file_tree laid.now.file) laid.now.file.order.items }
+    requires few { length laid.now.cells.items ≤ 65536 }
+    requires parts { ArePartsOf (body_of parts.body.now) parts }
+    requires table { FitsTable (body_of parts.body.now) table.now }
+    requires copy { copy < length parts.copies.now }
+    ensures operands { IfOk result (λ used. used.operands.items
+        ≡ operands_at (body_of parts.entry.body.now) (at table.now) copy) }
+    ensures flaws { IfOk result (λ used. (f : AFlaw) → Contains used.flaws.items f
+        ↔ HasFlaw (laid_tree laid.now) (operation_at (body_of parts.entry.body.now) copy)
+        (operands_at (body_of parts.entry.body.now) (at table.now) copy) f) }
+{
+    let operands = operands_at(alloc, parts, table, copy)?;
+    let flaws = flaws_of(alloc, laid, operation_of(parts, copy), &operands)?;
+    Ok(Used { operands, flaws })
+}
+
+/// What the operation of a context uses.
+pub(crate) fn used_of<'a>(
     alloc: Global,
     program: &'a Program,
     facts: &'a ProgramFacts,
     tables: &[Table],
     store: &'a Store,
     context: Context,
-) -> Result<Vec<AbsValue>, NoMemory>
+) -> Result<Used, NoMemory>
     requires analysable { IsAnalysable program.now }
     requires facts { AreProgramFacts program.now facts.now }
     requires fits { FitsPair (program_with program.now facts.now) (pair_of tables.now store.now) }
     requires number { context.exit.body < length (program_with program.now facts.now).bodies }
     requires copy { context.exit.copy
         < length (body_at (program_with program.now facts.now) context.exit.body).copies }
-    ensures { IfOk result (λ values. values.items ≡ operands_of (program_with program.now facts.now)
+    ensures operands { IfOk result (λ used. used.operands.items ≡ operands_of (program_with program.now facts.now)
         (tables_of (lists_of tables.now)) context) }
+    ensures flaws { IfOk result (λ used. (f : AFlaw) → Contains used.flaws.items f
+        ↔ IsFlawed (program_with program.now facts.now) (tables_of (lists_of tables.now)) context f) }
 {
     let number = context.exit.body;
     let body = body_over_store(program, facts, number, None, store);
@@ -107,7 +150,7 @@ pub(crate) fn operands_of<'a>(
         priority: facts.priorities()[number as usize],
         is_task: (number as usize) < program.laid.file.tasks.len(),
     };
-    operands_at(alloc, parts, &tables[number as usize], context.exit.copy)
+    used_at(alloc, &program.laid, parts, &tables[number as usize], context.exit.copy)
 }
 
 // The operands with one number joined, of which each may be none.

@@ -12,7 +12,7 @@ use Rattle.alarm_contexts.specs.declared.alarm_context.AlarmContexts.{AlarmConte
 use Rattle.source_notes.specs.declared.names.ObjectName.{ObjectName}
 use Rattle.source_notes.specs.Names.{place_head}
 use Rattle.source_notes.specs.OperationWords.{operation_text, role_at}
-use Rattle.source_notes.specs.OperandTexts.{word_if, operand_text}
+use Rattle.source_notes.specs.OperandTexts.{word_if, operand_text, flaw_lines}
 
 -- ## Tasks
 
@@ -99,10 +99,10 @@ count_line count = line_of (codes "alarms " ++ decimal count)
 
 module _ (bytes : List ℕ) (objects : List ObjectName) (tasks : List Name) (priorities : List ℕ)
     (mutexes : List Name) where
-  -- its first line, and its operands
+  -- its first line, its operands, and what is wrong with the pointers among these
   abbrev pub alarm_text : AlarmContexts → Operation → List ℕ
   alarm_text a operation = alarm_head bytes tasks priorities mutexes a operation
-      ++ operands_below bytes objects a operation (length a.operands.items)
+      ++ (operands_below bytes objects a operation (length a.operands.items) ++ flaw_lines bytes objects a.flaws.items)
 
   -- the text of each alarm, whose operation is found so, and then their number
   abbrev pub alarms_text : (AlarmContexts → Operation) → List AlarmContexts → List ℕ

@@ -1,4 +1,5 @@
--- The texts of operands: the values that they may have, and the objects to which they may point.
+-- The texts of operands: the values that they may have, and the objects to which they may point; and what is wrong
+-- with pointers to these.
 use Rattle.std.specs.Prelude.{ℕ, pos, Bool, cond, List, [], ◌++◌, codes, decimal}
 use Rattle.std.specs.FinMap.{entries}
 use Rattle.std.specs.Fmt.{signed_decimal}
@@ -10,6 +11,9 @@ use Rattle.pointer_dom.specs.Values.{Values}
 use Rattle.tm_terms.specs.declared.places.Place.{Place}
 use Rattle.tm_terms.specs.Spelling.{text_of}
 use Rattle.tm_terms.specs.Texts.{line_of}
+use Rattle.alarm_contexts.specs.declared.flaws.Flaw.{Flaw}
+use Rattle.alarm_contexts.specs.declared.flaws.Flaw.TheVariants as Flaws
+use Rattle.alarm_contexts.specs.declared.flaws.ObjectFlaw.{ObjectFlaw}
 use Rattle.source_notes.specs.declared.names.ObjectName.{ObjectName}
 use Rattle.source_notes.specs.Names.{place_head}
 use Rattle.source_notes.specs.RaceTexts.{object_at}
@@ -46,6 +50,13 @@ operand_line place role v =
 abbrev pub size_text : ℕ → List ℕ
 size_text size = codes " of " ++ (decimal size ++ codes " at")
 
+-- what is wrong with a pointer
+abbrev pub flaw_text : Flaw → List ℕ
+flaw_text Flaws.Gone = codes "gone"
+flaw_text Flaws.Offset = codes "offset"
+flaw_text Flaws.Before = codes "before"
+flaw_text Flaws.Behind = codes "behind"
+
 module _ (bytes : List ℕ) (objects : List ObjectName) where
   -- LINE:COL NAME of SIZE at LEAST GREATEST STRIDE: an object where it is declared first, the number of its cells, and
   -- the offsets of the pointers to it
@@ -56,6 +67,15 @@ module _ (bytes : List ℕ) (objects : List ObjectName) where
   -- those of the objects to which pointers lead, by rising numbers
   abbrev pub object_lines : Pointers → List ℕ
   object_lines p = flat_map object_line (entries p.objects)
+
+  -- LINE:COL NAME bad FLAW: an object where it is declared first, and what is wrong with a pointer to it
+  abbrev pub flaw_line : ObjectFlaw → List ℕ
+  flaw_line f = (let o = object_at objects f.object in line_of (place_head o.place ++ (text_of bytes o.name
+      ++ (codes " bad " ++ flaw_text f.flaw))))
+
+  -- those of some flaws
+  abbrev pub flaw_lines : List ObjectFlaw → List ℕ
+  flaw_lines flaws = flat_map flaw_line flaws
 
   -- the line of an operand, and then those of its objects
   abbrev pub operand_text : Place → List ℕ → Values → List ℕ

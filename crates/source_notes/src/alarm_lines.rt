@@ -5,7 +5,7 @@ ghost use Rattle.source_notes.specs.AlarmTexts.{tasks_below, edges_text, head_fr
 ghost use Rattle.source_notes.specs.AlarmTexts.{operand_at, operands_below, alarm_text, count_line};
 
 use crate::names::Names;
-use crate::operand_lines::{push_operand, word_if};
+use crate::operand_lines::{push_flaws, push_operand, word_if};
 use crate::operation_words::{push_operation, role_at};
 use crate::spelling::{place_head, push_bytes, text_of};
 use alarm_contexts::{AlarmContexts, ContextEdge};
@@ -233,6 +233,7 @@ pub(crate) fn push_alarm(
 {
     push_head(alloc, text, bytes, names, alarm, operation)?;
     push_operands(alloc, text, bytes, names, alarm, operation)?;
+    push_flaws(alloc, text, bytes, names, &alarm.flaws)?;
     Ok(())
 }
 

@@ -1,12 +1,14 @@
-//! The lines of operands and of the objects of their pointers.
+//! The lines of operands, of the objects of their pointers, and of what is wrong with these.
 ghost use Rattle.std.specs.Prelude.{◌≡◌, ◌≢◌, ◌++◌, IfOk, OnOk, string_bytes};
 ghost use Rattle.strided_dom.specs.Progression.{empty};
 ghost use Rattle.source_notes.specs.OperandTexts.{word_if, some_numbers_text, numbers_text, pointers_text};
 ghost use Rattle.source_notes.specs.OperandTexts.{operand_line, size_text, object_line, object_lines, operand_text};
+ghost use Rattle.source_notes.specs.OperandTexts.{flaw_text, flaw_line, flaw_lines};
 
 use crate::names::Names;
 use crate::race_lines::object_at;
 use crate::spelling::{place_head, push_bytes, text_of};
+use alarm_contexts::{Flaw, ObjectFlaw};
 use pointer_dom::{AbsValue, Offsets, PointerSet};
 use std::alloc::Global;
 use strided_dom::Strided;
@@ -148,6 +150,55 @@ fn push_value_objects(
         None => Ok(()),
         Some(pointers) => push_objects(alloc, text, bytes, names, pointers),
     }
+}
+
+/// What is wrong with a pointer.
+fn flaw_text(flaw: Flaw) -> &'static [u8]
+    ensures { result.now ≡ flaw_text flaw }
+{
+    match flaw {
+        Flaw::Gone => b"gone",
+        Flaw::Offset => b"offset",
+        Flaw::Before => b"before",
+        Flaw::Behind => b"behind",
+    }
+}
+
+/// Appends the line of what is wrong with a pointer to an object.
+fn push_flaw(
+    alloc: Global,
+    text: &mut Vec<u8>,
+    bytes: &[u8],
+    names: &Names,
+    flaw: ObjectFlaw,
+) -> Result<(), NoMemory>
+    ensures { OnOk result (text.new.items ≡ text.old.items ++ flaw_line bytes.now names.now.objects.items flaw) }
+{
+    let declared = object_at(names, flaw.object);
+    let head = place_head(alloc, declared.place)?;
+    push_bytes(text, head.as_bytes())?;
+    push_bytes(text, text_of(bytes, declared.name))?;
+    push_bytes(text, b" bad ")?;
+    push_bytes(text, flaw_text(flaw.flaw))?;
+    push_bytes(text, b"\n")?;
+    Ok(())
+}
+
+/// Appends the lines of what is wrong with pointers.
+pub(crate) fn push_flaws(
+    alloc: Global,
+    text: &mut Vec<u8>,
+    bytes: &[u8],
+    names: &Names,
+    flaws: &[ObjectFlaw],
+) -> Result<(), NoMemory>
+    ensures { OnOk result (text.new.items ≡ text.old.items
+        ++ flaw_lines bytes.now names.now.objects.items flaws.now) }
+{
+    for flaw in flaws {
+        push_flaw(alloc, text, bytes, names, *flaw)?;
+    }
+    Ok(())
 }
 
 /// Appends the text of an operand.

@@ -8,7 +8,8 @@ use Rattle.alarm_contexts.specs.declared.alarm_context.ContextEdge.{ContextEdge}
 use Rattle.alarm_contexts.specs.declared.alarm_context.AlarmContexts.{AlarmContexts}
 use Rattle.alarm_contexts.specs.declared.exits.Exit.{Exit}
 use Rattle.alarm_contexts.specs.declared.exits.Context.{Context}
-use Rattle.alarm_contexts.specs.Order.{AreRising, IsEdgeBefore}
+use Rattle.alarm_contexts.specs.declared.flaws.ObjectFlaw.{ObjectFlaw}
+use Rattle.alarm_contexts.specs.Order.{AreRising, IsEdgeBefore, IsFlawBefore}
 use Rattle.alarm_contexts.specs.Bounds.{IsLeastAbove}
 use Rattle.alarm_contexts.specs.Contexts.{alarm_of}
 use Rattle.alarm_contexts.specs.reading.Operands.{AreJoined}
@@ -32,6 +33,13 @@ pub record IsSorting (given list : List Context) : Type 0 where
   pub same : (x : Context) → Contains list x ↔ Contains given x
   pub rising : AreRising Precedes list
 
+-- ## Flaws
+
+-- the same ones in order, each once
+pub record AreOrdered (given list : List ObjectFlaw) : Type 0 where
+  pub rising : AreRising IsFlawBefore list
+  pub same : (f : ObjectFlaw) → Contains list f ↔ Contains given f
+
 -- ## One more
 
 -- the edge is the last one
@@ -44,29 +52,32 @@ pub data IsEdgeAdded (old : List ContextEdge) (e : ContextEdge) (new : List Cont
   follows : (IsLast old e → ⊥) → new ≡ old ++ e ∷ [] → IsEdgeAdded old e new
 
 -- a context by itself
-pub record IsAlone (x : Context) (values : List Values) (a : AlarmContexts) : Type 0 where
+pub record IsAlone (x : Context) (values : List Values) (wrong : List ObjectFlaw) (a : AlarmContexts) : Type 0 where
   pub alarm : alarm_of a ≡ x.alarm
   pub edges : a.edges.items ≡ edge_of x.exit ∷ []
   pub operands : a.operands.items ≡ values
+  pub flaws : AreOrdered wrong a.flaws.items
   pub always : a.always ≡ x.exit.ends
 
 -- one more of the same alarm
-pub record IsJoined (last : AlarmContexts) (x : Context) (values : List Values) (a : AlarmContexts) : Type 0 where
+pub record IsJoined (last : AlarmContexts) (x : Context) (values : List Values) (wrong : List ObjectFlaw)
+    (a : AlarmContexts) : Type 0 where
   pub alarm : alarm_of a ≡ alarm_of last
   pub edges : IsEdgeAdded last.edges.items (edge_of x.exit) a.edges.items
   pub operands : AreJoined last.operands.items values (max (length last.operands.items) (length values))
       a.operands.items
+  pub flaws : AreOrdered (last.flaws.items ++ wrong) a.flaws.items
   pub always : a.always ≡ (last.always && x.exit.ends)
 
 -- one more is joined with the last, where they are of one alarm, or stands behind it
-pub data IsAdded (old : List AlarmContexts) (x : Context) (values : List Values) (new : List AlarmContexts) : Type 0
-  where
-    begins : (a : AlarmContexts) → old ≡ [] → IsAlone x values a → new ≡ a ∷ [] → IsAdded old x values new
-    joins : (front : List AlarmContexts) (last a : AlarmContexts) → old ≡ front ++ last ∷ [] → alarm_of last ≡ x.alarm
-        → IsJoined last x values a → new ≡ front ++ a ∷ [] → IsAdded old x values new
-    behind : (front : List AlarmContexts) (last a : AlarmContexts) → old ≡ front ++ last ∷ []
-        → (alarm_of last ≡ x.alarm → ⊥) → IsAlone x values a → new ≡ (front ++ last ∷ []) ++ a ∷ []
-        → IsAdded old x values new
+pub data IsAdded (old : List AlarmContexts) (x : Context) (values : List Values) (wrong : List ObjectFlaw)
+    (new : List AlarmContexts) : Type 0 where
+  begins : (a : AlarmContexts) → old ≡ [] → IsAlone x values wrong a → new ≡ a ∷ [] → IsAdded old x values wrong new
+  joins : (front : List AlarmContexts) (last a : AlarmContexts) → old ≡ front ++ last ∷ [] → alarm_of last ≡ x.alarm
+      → IsJoined last x values wrong a → new ≡ front ++ a ∷ [] → IsAdded old x values wrong new
+  behind : (front : List AlarmContexts) (last a : AlarmContexts) → old ≡ front ++ last ∷ []
+      → (alarm_of last ≡ x.alarm → ⊥) → IsAlone x values wrong a → new ≡ (front ++ last ∷ []) ++ a ∷ []
+      → IsAdded old x values wrong new
 
 -- ## All of them
 
@@ -87,14 +98,23 @@ module _ (values : Context → List Values) (Is : Context → Type 0) where
     pub within : role < length (values one)
     pub value : v ≡ get_or (values one) role no_value
 
+module _ (Flawed : Context → ObjectFlaw → Type 0) (Is : Context → Type 0) where
+  pub record IsFlawOf (f : ObjectFlaw) : Type 0 where
+    pub one : Context
+    pub is : Is one
+    pub flaw : Flawed one f
+
+module _ (values : Context → List Values) (Flawed : Context → ObjectFlaw → Type 0) (Is : Context → Type 0) where
   -- some contexts of an alarm as one
   pub record IsMerged (a : AlarmContexts) : Type 0 where
     pub one : Context
     pub is : Is one
     pub rising : AreRising IsEdgeBefore a.edges.items
-    pub edges : (e : ContextEdge) → Contains a.edges.items e ↔ IsEdgeOf e
-    pub count : (role : ℕ) → (role < length a.operands.items) ↔ HasValue role
-    pub operands : (role : ℕ) → IsLeastAbove (IsValueOf role) (get_or a.operands.items role no_value)
+    pub edges : (e : ContextEdge) → Contains a.edges.items e ↔ IsEdgeOf values Is e
+    pub count : (role : ℕ) → (role < length a.operands.items) ↔ HasValue values Is role
+    pub operands : (role : ℕ) → IsLeastAbove (IsValueOf values Is role) (get_or a.operands.items role no_value)
+    pub ordered : AreRising IsFlawBefore a.flaws.items
+    pub flaws : (f : ObjectFlaw) → Contains a.flaws.items f ↔ IsFlawOf Flawed Is f
     pub always : (a.always ≡ true) ↔ ((x : Context) → Is x → x.exit.ends ≡ true)
 
 -- a context of the alarm that was given
@@ -103,8 +123,9 @@ pub record IsGiven (given : List Context) (alarm : Alarm) (x : Context) : Type 0
   pub alike : x.alarm ≡ alarm
 
 -- all that were given, merged and in order
-pub record AreMerged (values : Context → List Values) (given : List Context) (list : List AlarmContexts) : Type 0 where
+pub record AreMerged (values : Context → List Values) (Flawed : Context → ObjectFlaw → Type 0) (given : List Context)
+    (list : List AlarmContexts) : Type 0 where
   pub rising : AreRising (λ (a b : AlarmContexts). AlarmBefore (alarm_of a) (alarm_of b)) list
-  pub each : (a : AlarmContexts) → Contains list a → IsMerged values (IsGiven given (alarm_of a)) a
+  pub each : (a : AlarmContexts) → Contains list a → IsMerged values Flawed (IsGiven given (alarm_of a)) a
   pub all : (x : Context) → Contains given x
       → (a : AlarmContexts) × Contains list a × (alarm_of a ≡ x.alarm)

@@ -1,4 +1,4 @@
--- The operands of a copy of an edge.
+-- The operands of a copy of an edge, and what is wrong with the pointers among them.
 use Rattle.std.specs.Prelude.{◌≡◌, ℕ, ◌<◌, List, [], length, map, get_or, Option, Some, None}
 use Rattle.flow_graph.specs.Operations.{used}
 use Rattle.interfere_set.specs.pointer_dom.Values.{Values, joined_values, no_value}
@@ -8,6 +8,8 @@ use Rattle.post_recheck.specs.task_equations.Bodies.{Body, copy_at}
 use Rattle.post_recheck.specs.program_equations.Programs.{ProgramBodies, body_at}
 use Rattle.program_reports.specs.reading.Found.{operation_at}
 use Rattle.alarm_contexts.specs.declared.exits.Context.{Context}
+use Rattle.alarm_contexts.specs.declared.flaws.ObjectFlaw.{ObjectFlaw}
+use Rattle.alarm_contexts.specs.Flaws.{HasFlaw}
 
 -- the values of temporaries; none where there is no state
 abbrev pub values_in : Option State → List ℕ → List Values
@@ -21,6 +23,9 @@ operands_at b table k = (let c = copy_at b k in values_in (table c.from) (used (
 module _ (p : ProgramBodies) (tables : ℕ → NodeTable State) where
   abbrev pub operands_of : Context → List Values
   operands_of x = operands_at (body_at p x.exit.body) (tables x.exit.body) x.exit.copy
+
+  abbrev pub IsFlawed : Context → ObjectFlaw → Type 0
+  IsFlawed x f = HasFlaw p.laid (operation_at (body_at p x.exit.body) x.exit.copy) (operands_of x) f
 
 -- operands joined, where there is none as nothing
 pub record AreJoined (one other : List Values) (n : ℕ) (both : List Values) : Type 0 where

@@ -1,6 +1,5 @@
-use Rattle.std.proofs.Common.{ap, sym, subst, ◌∙◌, [], ◌∷◌, ◌++◌, rules}
+use Rattle.std.proofs.Common.{ap, sym, ◌∙◌, [], ◌∷◌, ◌++◌, rules}
 use Rattle.std.proofs.lemmas.Bool.{true≢false}
-use Rattle.alarm_contexts.specs.reading.Merging.{IsJoined}
 use Rattle.alarm_contexts.specs.reading.Merging.IsAdded.{begins, joins, behind}
 use Rattle.alarm_contexts.proofs.merging.add.Goals as goal
 
@@ -12,8 +11,7 @@ pub returns-then-is_of : goal.returns-then-is_of
 returns-then-is_of c =
     let front = c.pop.new.self.items in
     joins front c.in-Some.last c.in_ok-joined.field-0 c.in-Some.ensures.items (c.is_of.ensures.0 c.if-is_of.true)
-    (subst (λ vs. IsJoined c.in-Some.last c.args.context vs c.in_ok-joined.field-0) c.deref.ensures.value
-    c.in_ok-joined.ensures) c.in_ok-push-2.ensures.items
+    c.in_ok-joined.ensures c.in_ok-push-2.ensures.items
 
 pub returns : goal.returns
 returns c =

@@ -2,10 +2,11 @@ use Rattle.std.proofs.Common.{take}
 use Rattle.post_recheck.specs.program_equations.Solutions.{tables_of}
 use Rattle.post_recheck.specs.program_systems.ProgramFacts.{program_with}
 use Rattle.post_recheck.specs.Pairs.{lists_of}
-use Rattle.alarm_contexts.specs.reading.Operands.{operands_of}
+use Rattle.alarm_contexts.specs.reading.Operands.{operands_of, IsFlawed}
 use Rattle.alarm_contexts.specs.reading.Merging.{AreMerged}
 use Rattle.alarm_contexts.proofs.merging.merged.Given as goal
 
 abbrev pub invariant-loop-context : goal.invariant-loop-context
 invariant-loop-context l = AreMerged (operands_of (program_with l.program l.facts) (tables_of (lists_of l.tables)))
-    (take l.context-index l.context-items) l.merged.items
+    (IsFlawed (program_with l.program l.facts) (tables_of (lists_of l.tables))) (take l.context-index l.context-items)
+    l.merged.items
