@@ -1,16 +1,17 @@
 -- What is wrong with the pointers to one object, and with those to all objects of a table.
 use Rattle.std.proofs.Common.{◌≡◌, ◌≢◌, ◌↔◌, ◌⊎◌, ℕ, ◌+◌, ◌<◌, ◌^◌, ◌≤◌, ℤ, pos, negsuc, neg_ℤ, ◌-ℤ◌, ◌+ℤ◌, ◌*ℤ◌, ◌<ℤ◌}
 use Rattle.std.proofs.Common.{◌≤ℤ◌, refl, ap, sym, subst, ◌∙◌, inl, inr, Bool, true, false, List, [], ◌∷◌, ◌++◌, T}
-use Rattle.std.proofs.Common.{Option, Some, None, not, arith}
-use Rattle.std.specs.Prelude.{Contains}
+use Rattle.std.proofs.Common.{to_z, of_z, FitsSigned, IsTrue, Option, Some, None, not, length, take, get_or, arith}
+use Rattle.std.specs.Prelude.{Contains, int_lt}
 use Rattle.std.specs.Int.{w128, saturate_signed}
 use Rattle.std.specs.FinMap as map
 use Rattle.std.specs.FinMap.{find, is_sorted, get-entries}
 use Rattle.std.specs.Ordering.{nat_cmp}
-use Rattle.std.proofs.lemmas.Bool.{cases_eq}
-use Rattle.std.proofs.lemmas.Int.{ints, clamps, by_lt_z}
+use Rattle.std.proofs.lemmas.Bool.{cases_eq, false≢true}
+use Rattle.std.proofs.lemmas.List.{take_more}
+use Rattle.std.proofs.lemmas.Int.{ints, clamps, by_lt_z, to_z-of_z}
 use Rattle.std.proofs.lemmas.List.Elements.{Contains-append_left, Contains-push, Contains-push_cases}
-use Rattle.access_races.proofs.Joins.{either}
+use Rattle.access_races.proofs.Joins.{either, grown}
 use Rattle.alarm_contexts.proofs.Rising.{none, first, later, cases}
 use Rattle.strided_dom.specs.Progression.{Progression, empty, Has, IsLeastNumber, IsGreatestNumber}
 use Rattle.strided_dom.specs.Combinations.{IsProduct}
@@ -32,15 +33,106 @@ use Rattle.alarm_contexts.specs.reading.Noted.{IsNotedFlaw}
 
 -- ## Products that saturate
 
-sat_less : (v b : ℤ) → neg_ℤ (pos (2 ^ 32)) ≤ℤ b → b ≤ℤ pos (2 ^ 32)
+sat_less : (v b : ℤ) → neg_ℤ (pos (2 ^ 127)) <ℤ b → b <ℤ pos (2 ^ 127)
     → ((saturate_signed w128 v) <ℤ b) ↔ (v <ℤ b)
 sat_less (pos n) b low high = (λ h. omega (arith, ints, h, low, high), λ h. omega (arith, ints, h, low, high))
 sat_less (negsuc n) b low high = (λ h. omega (arith, ints, h, low, high), λ h. omega (arith, ints, h, low, high))
 
-sat_more : (v b : ℤ) → neg_ℤ (pos (2 ^ 32)) ≤ℤ b → b ≤ℤ pos (2 ^ 32)
+sat_more : (v b : ℤ) → neg_ℤ (pos (2 ^ 127)) <ℤ b → b <ℤ pos (2 ^ 126)
     → (b <ℤ (saturate_signed w128 v)) ↔ (b <ℤ v)
 sat_more (pos n) b low high = (λ h. omega (arith, ints, h, low, high), λ h. omega (arith, ints, h, low, high))
 sat_more (negsuc n) b low high = (λ h. omega (arith, ints, h, low, high), λ h. omega (arith, ints, h, low, high))
+
+sat_fits : (v : ℤ) → FitsSigned w128 (saturate_signed w128 v)
+sat_fits (pos n) = omega (arith, ints)
+sat_fits (negsuc n) = omega (arith, ints)
+
+-- a product that saturates is read back as it was written
+pub sat_read : (x v : ℤ) → x ≡ saturate_signed w128 v → to_z w128 (of_z w128 x) ≡ x
+sat_read x v e = to_z-of_z w128 x (subst (FitsSigned w128) (sym e) (sat_fits v))
+
+pub directed_read : (b : Bool) (cells : ℕ) (x : ℤ) → cells < 2 ^ 32 → x ≡ directed b cells
+    → to_z w128 (of_z w128 x) ≡ directed b cells
+directed_read true cells x lt e =
+    let fits : FitsSigned w128 (pos cells) = omega (arith, ints, lt) in
+    to_z-of_z w128 x (subst (FitsSigned w128) (sym e) fits) ∙ e
+directed_read false cells x lt e =
+    let fits : FitsSigned w128 (neg_ℤ (pos cells)) = omega (arith, ints, lt) in
+    to_z-of_z w128 x (subst (FitsSigned w128) (sym e) fits) ∙ e
+
+pub negative_read : (first : ℕ) (from : ℤ) → first < 2 ^ 127 → from ≡ pos first
+    → to_z w128 (of_z w128 (pos 0 -ℤ to_z w128 (of_z w128 from))) ≡ neg_ℤ (pos first)
+negative_read first from lt e =
+    let fits : FitsSigned w128 (pos first) = omega (arith, ints, lt) in
+    let back = to_z-of_z w128 from (subst (FitsSigned w128) (sym e) fits) ∙ e in
+    let less : FitsSigned w128 (pos 0 -ℤ pos first) = omega (arith, ints, lt) in
+    let same : pos 0 -ℤ pos first ≡ neg_ℤ (pos first) = omega (arith, ints) in
+    (λ i. to_z w128 (of_z w128 (pos 0 -ℤ back i))) ∙ to_z-of_z w128 (pos 0 -ℤ pos first) less ∙ same
+
+pub distance_read : (size last : ℕ) (a b : ℤ) → size < 2 ^ 32 → last < 2 ^ 127 → a ≡ pos size → b ≡ pos last
+    → to_z w128 (of_z w128 (to_z w128 (of_z w128 a) -ℤ to_z w128 (of_z w128 b))) ≡ pos size -ℤ pos last
+distance_read size last a b lt less e g =
+    let fits : FitsSigned w128 (pos size) = omega (arith, ints, lt) in
+    let fit : FitsSigned w128 (pos last) = omega (arith, ints, less) in
+    let one = to_z-of_z w128 a (subst (FitsSigned w128) (sym e) fits) ∙ e in
+    let other = to_z-of_z w128 b (subst (FitsSigned w128) (sym g) fit) ∙ g in
+    let all : FitsSigned w128 (pos size -ℤ pos last) = omega (arith, ints, lt, less) in
+    (λ i. to_z w128 (of_z w128 (one i -ℤ other i))) ∙ to_z-of_z w128 (pos size -ℤ pos last) all
+
+-- ## Tests
+
+lt_true : (a b : ℤ) → a <ℤ b → int_lt a b ≡ true
+lt_true a b h = by (int_lt a b) refl
+  where
+    by : (t : Bool) → int_lt a b ≡ t → int_lt a b ≡ true
+    by true e = e
+    by false e = absurd (omega (arith, ints, e, h))
+
+true_lt : (a b : ℤ) → int_lt a b ≡ true → a <ℤ b
+true_lt a b e = omega (arith, ints, e)
+
+-- of two numbers one is less than a bound, as the code tests it
+module _ (one other bound x y b : ℤ) (H : Type 0) (is : ((x <ℤ b) ⊎ (y <ℤ b)) ↔ H)
+    (one-is : (one <ℤ bound) ↔ (x <ℤ b)) (other-is : (other <ℤ bound) ↔ (y <ℤ b)) where
+  pub first_less : int_lt one bound ≡ true → (IsTrue (int_lt one bound) ↔ H)
+  first_less t = (λ u. is.0 (inl (one-is.0 (true_lt one bound t))), λ h. t)
+
+  pub second_less : int_lt one bound ≡ false → (IsTrue (int_lt other bound) ↔ H)
+  second_less t = (
+    λ u. is.0 (inr (other-is.0 (true_lt other bound u))),
+    λ h. either (λ l. absurd (false≢true (sym t ∙ lt_true one bound (one-is.1 l))))
+        (λ l. lt_true other bound (other-is.1 l)) (is.1 h),
+  )
+
+-- or greater than one
+module _ (one other bound x y b : ℤ) (H : Type 0) (is : ((b <ℤ x) ⊎ (b <ℤ y)) ↔ H)
+    (one-is : (bound <ℤ one) ↔ (b <ℤ x)) (other-is : (bound <ℤ other) ↔ (b <ℤ y)) where
+  pub first_greater : int_lt bound one ≡ true → (IsTrue (int_lt bound one) ↔ H)
+  first_greater t = (λ u. is.0 (inl (one-is.0 (true_lt bound one t))), λ h. t)
+
+  pub second_greater : int_lt bound one ≡ false → (IsTrue (int_lt bound other) ↔ H)
+  second_greater t = (
+    λ u. is.0 (inr (other-is.0 (true_lt bound other u))),
+    λ h. either (λ l. absurd (false≢true (sym t ∙ lt_true bound one (one-is.1 l))))
+        (λ l. lt_true bound other (other-is.1 l)) (is.1 h),
+  )
+
+-- what a test compares
+pub less_read : (one bound v b : ℤ) (x : ℤ) → x ≡ saturate_signed w128 v → one ≡ x → bound ≡ b
+    → neg_ℤ (pos (2 ^ 127)) <ℤ b → b <ℤ pos (2 ^ 127) → (one <ℤ bound) ↔ (v <ℤ b)
+less_read one bound v b x x-is one-is bound-is low high =
+    let s = sat_less v b low high in (
+      λ h. s.0 (subst (λ z. z <ℤ b) (one-is ∙ x-is) (subst (λ z. one <ℤ z) bound-is h)),
+      λ h. subst (λ z. one <ℤ z) (sym bound-is) (subst (λ z. z <ℤ b) (sym (one-is ∙ x-is)) (s.1 h)),
+    )
+
+pub more_read : (one bound v b : ℤ) (x : ℤ) → x ≡ saturate_signed w128 v → one ≡ x → bound ≡ b
+    → neg_ℤ (pos (2 ^ 127)) <ℤ b → b <ℤ pos (2 ^ 126) → (bound <ℤ one) ↔ (b <ℤ v)
+more_read one bound v b x x-is one-is bound-is low high =
+    let s = sat_more v b low high in (
+      λ h. s.0 (subst (λ z. b <ℤ z) (one-is ∙ x-is) (subst (λ z. z <ℤ one) bound-is h)),
+      λ h. subst (λ z. z <ℤ one) (sym bound-is) (subst (λ z. b <ℤ z) (sym (one-is ∙ x-is)) (s.1 h)),
+    )
 
 -- ## The ends of offsets
 
@@ -122,6 +214,18 @@ module _ (o : OffsetSet) (first last : ℕ) (ends : AreEnds o first last) where
           by_lt_z (pos size -ℤ pos last) (lo *ℤ cells) (λ l. inl l)
           (λ le. inr (omega (arith, ints, clamps, to, above, sum, is, step, le))),
     )
+
+-- the object is not alive
+pub dead_is : (o : OffsetSet) (first last : ℕ) → AreEnds o first last → (alive found : Bool) → found ≡ alive
+    → (not found ≡ true) ↔ HasOffset (λ offset. alive ≡ false) o
+dead_is o first last ends true found e = (
+  λ n. absurd (false≢true (ap not (sym e) ∙ n)),
+  λ h. absurd (false≢true (sym h.has)),
+)
+dead_is o first last ends false found e = (
+  λ n. (some_offset o first last ends (false ≡ false)).1 refl,
+  λ h. ap not e,
+)
 
 -- ## Where there is nothing
 
@@ -229,6 +333,15 @@ module _ (W : ℕ → OffsetSet → Flaw → Type 0) where
           wrong = subst (λ n. W n e.1 f.flaw) (sym w.0) w.1;
         }) h,
   )
+
+  -- with one entry more
+  pub among_grown : (items : List (ℕ × OffsetSet)) (i : ℕ) (e : ℕ × OffsetSet) → i < length items
+      → e ≡ get_or items i e → (f : ObjectFlaw) → {N O : Type 0} → (O ↔ IsWrongAmong (take i items) f)
+      → (N ↔ (O ⊎ ((f.object ≡ e.0) × W e.0 e.1 f.flaw))) → (N ↔ IsWrongAmong (take (i + 1) items) f)
+  among_grown items i e lt is f {N} {O} before step =
+      subst (λ es. N ↔ IsWrongAmong es f)
+      (sym (take_more items i e lt ∙ ap (λ x. take i items ++ x ∷ []) (sym is)))
+      (grown step before (among_more (take i items) e f))
 
 -- ## Look-ups
 

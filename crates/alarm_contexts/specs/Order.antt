@@ -2,7 +2,7 @@
 use Rattle.std.specs.Prelude.{◌≡◌, ◌⊎◌, ℕ, ◌<◌, List, [], ◌∷◌, Contains}
 use Rattle.alarm_contexts.specs.declared.alarm_context.ContextEdge.{ContextEdge}
 use Rattle.alarm_contexts.specs.declared.flaws.Flaw.{Flaw}
-use Rattle.alarm_contexts.specs.declared.flaws.Flaw.TheVariants.{Gone, Offset, Before, Behind}
+use Rattle.alarm_contexts.specs.declared.flaws.Flaw.TheVariants as Flaws
 use Rattle.alarm_contexts.specs.declared.flaws.ObjectFlaw.{ObjectFlaw}
 
 -- each comes before all behind it
@@ -16,10 +16,10 @@ IsEdgeBefore e f = (e.body < f.body) ⊎ ((e.body ≡ f.body) × (e.edge < f.edg
 
 -- what may be wrong, in order
 abbrev pub flaw_number : Flaw → ℕ
-flaw_number Gone = 0
-flaw_number Offset = 1
-flaw_number Before = 2
-flaw_number Behind = 3
+flaw_number Flaws.Gone = 0
+flaw_number Flaws.Offset = 1
+flaw_number Flaws.Before = 2
+flaw_number Flaws.Behind = 3
 
 -- by objects, then by what is wrong
 abbrev pub IsFlawBefore : ObjectFlaw → ObjectFlaw → Type 0

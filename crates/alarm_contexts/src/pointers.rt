@@ -62,27 +62,30 @@ fn signed_cells(cells: u32, minus: bool) -> i128
 }
 
 // Whether one of the pointers comes to stand before the object, where each is moved by each of these counts, times so
-// many cells.
-fn goes_before(offsets: &Offsets, ends: Ends, counts: &Strided, cells: i128) -> bool
+// many cells. A product that is too great for the type is as good as the greatest number.
+fn goes_before(offsets: &Offsets, ends: Ends, counts: &Strided, cells: u32, minus: bool) -> bool
     requires ends { AreEnds offsets.now ends.first ends.last }
     requires some { counts.now ≢ empty }
-    ensures { IsTrue result ↔ HasAdvanced (λ v. v <ℤ pos 0) (IsProduct counts.now cells) offsets.now }
+    ensures { IsTrue result
+        ↔ HasAdvanced (λ v. v <ℤ pos 0) (IsProduct counts.now (directed (not minus) cells)) offsets.now }
 {
-    let one = counts.lo().saturating_mul(cells);
-    let other = counts.hi().saturating_mul(cells);
+    let signed = signed_cells(cells, minus);
+    let one = counts.lo().saturating_mul(signed);
+    let other = counts.hi().saturating_mul(signed);
     let to_first = -i128::from(ends.first);
     one < to_first || other < to_first
 }
 
 // Whether one of them comes to stand behind the end of the object.
-fn goes_behind(offsets: &Offsets, ends: Ends, counts: &Strided, cells: i128) -> bool
+fn goes_behind(offsets: &Offsets, ends: Ends, counts: &Strided, cells: u32, minus: bool) -> bool
     requires ends { AreEnds offsets.now ends.first ends.last }
     requires some { counts.now ≢ empty }
-    ensures { (let o = offsets.now in
-        IsTrue result ↔ HasAdvanced (λ v. pos o.size <ℤ v) (IsProduct counts.now cells) o) }
+    ensures { (let o = offsets.now in IsTrue result
+        ↔ HasAdvanced (λ v. pos o.size <ℤ v) (IsProduct counts.now (directed (not minus) cells)) o) }
 {
-    let one = counts.lo().saturating_mul(cells);
-    let other = counts.hi().saturating_mul(cells);
+    let signed = signed_cells(cells, minus);
+    let one = counts.lo().saturating_mul(signed);
+    let other = counts.hi().saturating_mul(signed);
     let to_end = i128::from(offsets.size()) - i128::from(ends.last);
     to_end < one || to_end < other
 }
@@ -130,14 +133,15 @@ fn add_followed(
 // Adds what is wrong with pointers to an object that are moved.
 fn add_moved(
     counts: &Strided,
-    cells: i128,
+    cells: u32,
+    minus: bool,
     object: u32,
     offsets: &Offsets,
     flaws: &mut Vec<ObjectFlaw>,
 ) -> Result<(), NoMemory>
     ensures { OnOk result ((f : AFlaw) → Contains flaws.new.items f
         ↔ (Contains flaws.old.items f ⊎ ((f.object ≡ object)
-        × IsWrongToMove (IsProduct counts.now cells) offsets.now f.flaw))) }
+        × IsWrongToMove (IsProduct counts.now (directed (not minus) cells)) offsets.now f.flaw))) }
 {
     let Some(ends) = offsets.ends() else {
         return Ok(());
@@ -145,8 +149,8 @@ fn add_moved(
     if counts.is_empty() {
         return Ok(());
     }
-    let before = goes_before(offsets, ends, counts, cells);
-    let behind = goes_behind(offsets, ends, counts, cells);
+    let before = goes_before(offsets, ends, counts, cells, minus);
+    let behind = goes_behind(offsets, ends, counts, cells, minus);
     add_if(flaws, object, Flaw::Before, before)?;
     add_if(flaws, object, Flaw::Behind, behind)
 }
@@ -171,7 +175,7 @@ fn add_wrong(
             add_followed(laid, path, target, object, offsets, flaws)
         }
         Operation::Move { cells, minus, .. } => {
-            add_moved(counts, signed_cells(cells, minus), object, offsets, flaws)
+            add_moved(counts, cells, minus, object, offsets, flaws)
         }
         _ => Ok(()),
     }

@@ -1,4 +1,4 @@
-use Rattle.alarm_contexts.proofs.Ordered.{are_ordered}
+use Rattle.alarm_contexts.proofs.FlawOrder.{are_ordered}
 use Rattle.alarm_contexts.proofs.merging.ordered.Goals as goal
 
 pub returns : goal.returns
