@@ -1,5 +1,5 @@
 -- Flaws that are sorted and of which repeats are dropped.
-use Rattle.std.proofs.Common.{◌≡◌, ◌↔◌, ◌⊎◌, suc, ◌<◌, ◌==◌, refl, sym, subst, ◌∙◌, inl, inr, Bool, true, ◌&&◌}
+use Rattle.std.proofs.Common.{◌≡◌, suc, ◌<◌, ◌==◌, refl, sym, subst, inl, inr, true}
 use Rattle.std.proofs.Common.{List, [], ◌∷◌, arith}
 use Rattle.std.specs.Prelude.{Contains}
 use Rattle.std.specs.List.{dedup}

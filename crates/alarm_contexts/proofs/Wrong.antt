@@ -1,5 +1,5 @@
 -- What is wrong with the pointers to one object, and with those to all objects of a table.
-use Rattle.std.proofs.Common.{◌≡◌, ◌≢◌, ◌↔◌, ◌⊎◌, ℕ, ◌+◌, ◌<◌, ◌^◌, ◌≤◌, ℤ, pos, negsuc, neg_ℤ, ◌-ℤ◌, ◌+ℤ◌, ◌*ℤ◌, ◌<ℤ◌}
+use Rattle.std.proofs.Common.{◌≡◌, ◌↔◌, ◌⊎◌, ℕ, ◌+◌, ◌<◌, ◌^◌, ℤ, pos, negsuc, neg_ℤ, ◌-ℤ◌, ◌+ℤ◌, ◌*ℤ◌, ◌<ℤ◌}
 use Rattle.std.proofs.Common.{◌≤ℤ◌, refl, ap, sym, subst, ◌∙◌, inl, inr, Bool, true, false, List, [], ◌∷◌, ◌++◌, T}
 use Rattle.std.proofs.Common.{to_z, of_z, FitsSigned, IsTrue, Option, Some, None, not, length, take, get_or, arith}
 use Rattle.std.specs.Prelude.{Contains, int_lt}
@@ -276,10 +276,14 @@ module _ (W : Flaw → Type 0) (one other : Flaw)
   two_added {O} {N} {M} first second = (
     λ m. either
         (λ n. either (λ o. inl o)
-        (λ (x : IsNotedFlaw object one a f). inr (ap (λ (g : ObjectFlaw). g.object) x.is,
-        subst W (sym (ap (λ (g : ObjectFlaw). g.flaw) x.is)) (a-is.0 x.noted_it))) (first.0 n))
-        (λ (x : IsNotedFlaw object other b f). inr (ap (λ (g : ObjectFlaw). g.object) x.is,
-        subst W (sym (ap (λ (g : ObjectFlaw). g.flaw) x.is)) (b-is.0 x.noted_it))) (second.0 m),
+        (λ (x : IsNotedFlaw object one a f). inr (
+          ap (λ (g : ObjectFlaw). g.object) x.is,
+          subst W (sym (ap (λ (g : ObjectFlaw). g.flaw) x.is)) (a-is.0 x.noted_it),
+        )) (first.0 n))
+        (λ (x : IsNotedFlaw object other b f). inr (
+          ap (λ (g : ObjectFlaw). g.object) x.is,
+          subst W (sym (ap (λ (g : ObjectFlaw). g.flaw) x.is)) (b-is.0 x.noted_it),
+        )) (second.0 m),
     λ h. either (λ o. second.1 (inl (first.1 (inl o))))
         (λ w. either
         (λ e. second.1 (inl (first.1 (inr (record { noted_it = a-is.1 (subst W e w.1); is = noted one w.0 e })))))
@@ -318,8 +322,10 @@ module _ (W : ℕ → OffsetSet → Flaw → Type 0) where
   among_more es e f = (
     λ h. either
         (λ o. inl (record { offsets = h.offsets; has = o; wrong = h.wrong }))
-        (λ s. inr (ap (λ (x : ℕ × OffsetSet). x.0) (sym s),
-        subst (λ (x : ℕ × OffsetSet). W x.0 x.1 f.flaw) (sym s) h.wrong))
+        (λ s. inr (
+          ap (λ (x : ℕ × OffsetSet). x.0) (sym s),
+          subst (λ (x : ℕ × OffsetSet). W x.0 x.1 f.flaw) (sym s) h.wrong,
+        ))
         (Contains-push_cases es e (f.object, h.offsets) h.has),
     λ h. either
         (λ (o : IsWrongAmong es f). record {
@@ -375,9 +381,9 @@ module _ (key : ℕ) (o : OffsetSet) where
       (λ s. find-here key x es (ap (λ (y : ℕ × OffsetSet). y.0) (sym s))
       ∙ ap (λ (y : ℕ × OffsetSet). Some y.1) s)
       (λ more.
-          let less = above x.0 es (AllAbove-rest x es sorted) more in
-          find-there key x es (λ same. let e : key ≡ x.0 = same in omega (arith, less, e))
-          ∙ found_has es (is_sorted-rest x es sorted) more)
+      let less = above x.0 es (AllAbove-rest x es sorted) more in
+      find-there key x es (λ same. let e : key ≡ x.0 = same in omega (arith, less, e))
+      ∙ found_has es (is_sorted-rest x es sorted) more)
       (cases x (key, o) es h)
 
 module _ (W : ℕ → OffsetSet → Flaw → Type 0)

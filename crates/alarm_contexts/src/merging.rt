@@ -60,10 +60,7 @@ fn ordered(mut flaws: Vec<ObjectFlaw>) -> Result<Vec<ObjectFlaw>, NoMemory>
 }
 
 // The flaws of both.
-fn joined_flaws(
-    mut one: Vec<ObjectFlaw>,
-    other: &[ObjectFlaw],
-) -> Result<Vec<ObjectFlaw>, NoMemory>
+fn joined_flaws(mut one: Vec<ObjectFlaw>, other: &[ObjectFlaw]) -> Result<Vec<ObjectFlaw>, NoMemory>
     ensures { IfOk result (λ list. AreOrdered (one.items ++ other.now) list.items) }
 {
     one.extend_from_slice(other)?;

@@ -150,7 +150,13 @@ pub(crate) fn used_of<'a>(
         priority: facts.priorities()[number as usize],
         is_task: (number as usize) < program.laid.file.tasks.len(),
     };
-    used_at(alloc, &program.laid, parts, &tables[number as usize], context.exit.copy)
+    used_at(
+        alloc,
+        &program.laid,
+        parts,
+        &tables[number as usize],
+        context.exit.copy,
+    )
 }
 
 // The operands with one number joined, of which each may be none.

@@ -91,12 +91,7 @@ fn goes_behind(offsets: &Offsets, ends: Ends, counts: &Strided, cells: u32, minu
 }
 
 // Adds what is wrong with pointers to an object, if it is.
-fn add_if(
-    flaws: &mut Vec<ObjectFlaw>,
-    object: u32,
-    flaw: Flaw,
-    noted: bool,
-) -> Result<(), NoMemory>
+fn add_if(flaws: &mut Vec<ObjectFlaw>, object: u32, flaw: Flaw, noted: bool) -> Result<(), NoMemory>
     ensures { OnOk result ((f : AFlaw) → Contains flaws.new.items f
         ↔ (Contains flaws.old.items f ⊎ IsNotedFlaw object flaw noted f)) }
 {
@@ -212,11 +207,7 @@ fn numbers_at(operands: &[AbsValue], role: usize) -> Strided
 }
 
 // The pointers of an operand, in the place of which `none` stands where there is none.
-fn pointers_at<'a>(
-    operands: &'a [AbsValue],
-    role: usize,
-    none: &'a PointerSet,
-) -> &'a PointerSet
+fn pointers_at<'a>(operands: &'a [AbsValue], role: usize, none: &'a PointerSet) -> &'a PointerSet
     requires { none.now ≡ no_pointer }
     ensures { result.now ≡ (get_or operands.now role no_value).pointers }
 {

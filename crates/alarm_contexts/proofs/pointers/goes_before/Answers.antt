@@ -1,4 +1,4 @@
-use Rattle.std.proofs.Common.{◌≡◌, ◌<◌, ◌^◌, ℤ, pos, neg_ℤ, ◌-ℤ◌, ◌*ℤ◌, ◌<ℤ◌, to_z, of_z, not, ◌∙◌, arith}
+use Rattle.std.proofs.Common.{◌≡◌, ◌<◌, ◌^◌, pos, neg_ℤ, ◌-ℤ◌, ◌*ℤ◌, ◌<ℤ◌, to_z, of_z, not, ◌∙◌, arith}
 use Rattle.std.specs.Int.{w128, saturate_signed}
 use Rattle.std.proofs.lemmas.Int.{ints}
 use Rattle.strided_dom.specs.Combinations.{IsProduct}
