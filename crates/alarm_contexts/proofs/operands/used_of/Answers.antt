@@ -59,6 +59,9 @@ used_at-requires-clause-copy c =
     c.requires.copy in
     subst (λ n. c.args.context.exit.copy < n) (sym count) there
 
+pub used_at-requires-clause-layable : goal.used_at-requires-clause-layable
+used_at-requires-clause-layable c = c.requires.analysable.layable
+
 pub used_at-requires-clause-few : goal.used_at-requires-clause-few
 used_at-requires-clause-few c =
     (is_program c.args.program.now c.args.facts.now c.requires.analysable c.requires.facts).few_cells
