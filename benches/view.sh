@@ -134,6 +134,10 @@ wanted=$'a.h:9:26 DEREF\na.h:9:26: the pointer may be null\n'
 wanted+=$'a.h:7:5: the pointer may lead to g, which is declared here\na.h:9:26: in t (priority 1)\nalarms 1\nstatus 1'
 same "$wanted" "$(noted 'int g;\nint *f(int k) { if (k == 1) return &g; return 0; }\n__task(1) void t(void) { *f(__input(0, 3)) = 5; }\n')" \
     "why of a pointer"
+wanted=$'a.h:9:32 POINTER\na.h:9:32: 0 to 6 is added to the pointer here, in elements of 1 cell\n'
+wanted+=$'a.h:7:5: the pointer may lead to w, which is declared here and has 4 elements: at its beginning\n'
+wanted+=$'a.h:7:5: the sum may lie behind the end of w\na.h:9:32: in t (priority 1)\nalarms 1\nstatus 1'
+same "$wanted" "$(noted 'int w[4];\nint *p;\n__task(1) void t(void) { p = w + __input(0, 6); }\n')" "why of a sum"
 wanted=$'a.h:8:31 DIV\na.h:8:31: the divisor is 0 here, and the dividend is 1\na.h:8:31: in main (before the tasks run)\n'
 wanted+=$'a.h:8:31: a run that comes here so always ends here: what stands behind is not analysed for such runs\nalarms 1\nstatus 1'
 same "$wanted" "$(noted 'int x, y;\nint main(void) { x = 2; x = 1 / y; return 0; }\n__task(1) void t(void) { y = 1; }\n')" \
