@@ -1,5 +1,5 @@
 -- Cells that are placed on the graph of a system are placed for its states, where roundings leave what is not listed.
-use Rattle.std.specs.Prelude.{◌≡◌, ℕ, ◌<◌, Bool, true, false, List, length}
+use Rattle.std.specs.Prelude.{◌≡◌, ℕ, ◌<◌, true, false, List, length}
 use Rattle.std.proofs.Common.{subst, sym}
 use Rattle.table_covers.specs.tm_lattice.declared.lattices.Lattice as lattice
 use Rattle.table_covers.specs.declared.links.Link.{Link}
