@@ -32,26 +32,29 @@ returns-in-Err-Refused-clause-others g c = (c.tell.ensures.others.1, c.tell.ensu
 
 pub returns-in-Err-Refused-clause-refused : goal.returns-in-Err-Refused-clause-refused
 returns-in-Err-Refused-clause-refused g c =
-    λ e. (record {
-      report = c.read_whole.new.bytes.items;
-      texts = record {
-        name = c.args.asked.name.now;
-        text = c.read_whole-2.new.bytes.items;
-        tables = c.read_whole-3.new.bytes.items;
-        notes = c.read_whole-4.new.bytes.items;
-        lines = c.read_whole-5.new.bytes.items;
-        remarks = c.read_whole-6.new.bytes.items;
-      };
-      read = record {
-        named = refl;
-        report_read = search rules;
-        text_read = search rules;
-        tables_read = search rules;
-        notes_read = search rules;
-        lines_read = search rules;
-        remarks_read = search rules;
-      };
-      cause = c.in-Err-Refused.cause;
-      is = search rules;
-      appended = search (rules, c.tell.ensures.whole e);
-    }, refl)
+    λ e. (
+      record {
+        report = c.read_whole.new.bytes.items;
+        texts = record {
+          name = c.args.asked.name.now;
+          text = c.read_whole-2.new.bytes.items;
+          tables = c.read_whole-3.new.bytes.items;
+          notes = c.read_whole-4.new.bytes.items;
+          lines = c.read_whole-5.new.bytes.items;
+          remarks = c.read_whole-6.new.bytes.items;
+        };
+        read = record {
+          named = refl;
+          report_read = search rules;
+          text_read = search rules;
+          tables_read = search rules;
+          notes_read = search rules;
+          lines_read = search rules;
+          remarks_read = search rules;
+        };
+        cause = c.in-Err-Refused.cause;
+        is = search rules;
+        appended = search (rules, c.tell.ensures.whole e);
+      },
+      refl,
+    )
