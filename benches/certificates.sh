@@ -4,10 +4,11 @@
 #
 #     benches/certificates.sh PROGRAM [N|FILE..]
 #
-# PROGRAM is the built analyser (./analyse --program). Each time is the least of five runs, in processor seconds. A row
-# says the source, its bytes and those of its certificate, seconds and MB of the three commands, and how many times
-# those of `analyse` the other two take. Only a report, a whole certificate and `certified` count: where a run has none,
-# the row says so, and the status is 1. GNU time has to be installed.
+# PROGRAM is the built analyser (./analyse --program). Each time is the least of twelve runs, in processor seconds; the
+# three commands run in turn, so that what else the machine does meets each alike. A row says the source, its bytes and
+# those of its certificate, seconds and MB of the three commands, and how many times those of `analyse` the other two
+# take. Only a report, a whole certificate and `certified` count: where a run has none, the row says so, and the status
+# is 1. GNU time has to be installed.
 set -eu
 [ $# -ge 1 ] || { sed -n 's/^#     /usage: /p' "$0"; exit 2; }
 
@@ -18,17 +19,18 @@ here=$(cd "$(dirname "$0")" && pwd)
 work=$(mktemp -d)
 trap 'rm -rf "$work"' EXIT
 
-# "seconds MB" of a command of the program: the least of five runs, and the memory of one more.
-least() { # COMMAND INPUT
+# Runs a command of the program once, and notes what it took.
+run_once() { # COMMAND INPUT
     local TIMEFORMAT='%3U %3S'
-    {
-        for _ in 1 2 3 4 5; do
-            { time "$program" "$1" <"$2" >"$work/$1" 2>"$work/err" || true; } 2>&1
-        done
-        env time -o "$work/told" -f 'MB %M' "$program" "$1" <"$2" >"$work/$1" 2>"$work/err" || true
-        tail -n 1 "$work/told"
-    } | awk '/^MB/ { most = $2; next } { s = $1 + $2; if (NR == 1 || s < least) least = s }
-        END { printf "%.3f %.0f\n", least, most / 1024 }'
+    { time "$program" "$1" <"$2" >"$work/$1" 2>"$work/err" || true; } 2>>"$work/$1.times"
+}
+
+# "seconds MB" of a command of the program: the least of its runs, and the memory of one more.
+least() { # COMMAND INPUT
+    env time -o "$work/told" -f 'MB %M' "$program" "$1" <"$2" >"$work/$1" 2>"$work/err" || true
+    { cat "$work/$1.times" && tail -n 1 "$work/told"; } |
+        awk '/^MB/ { most = $2; next } { s = $1 + $2; if (NR == 1 || s < least) least = s }
+            END { printf "%.3f %.0f\n", least, most / 1024 }'
 }
 
 status=0
@@ -41,6 +43,12 @@ for it; do
     else
         cp -- "$it" "$work/input"
     fi
+    rm -f "$work"/*.times
+    for _ in 1 2 3 4 5 6 7 8 9 10 11 12; do
+        run_once analyse "$work/input"
+        run_once certify "$work/input"
+        run_once check "$work/certify"
+    done
     analyse=$(least analyse "$work/input")
     certify=$(least certify "$work/input")
     check=$(least check "$work/certify")
