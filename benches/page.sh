@@ -1,6 +1,6 @@
 #!/usr/bin/env bash
 # Opens pages in a browser: benches/page.sh FOLDER [CHROMIUM]. It makes with ./analyse the pages of two examples and of a
-# source that is full of tags, in its comments, its strings and its name, and FOLDER then has them and a picture of each in
+# source that is full of tags, in its comments and its name, and FOLDER then has them and a picture of each in
 # light and dark. Of each it sees that the browser's console says nothing, that the page as the browser has read it has no
 # script and no image, and that nothing was loaded. Then it times a page of some 5,000 lines and 500 alarms and one of
 # 10,000 alarms. CHROMIUM is `chromium`, as Debian has it.
@@ -39,7 +39,7 @@ make_page uart_driver "$top/examples/uart_driver.c"
 hostile="$work/a<b>&\"'<img src=x onerror=alert(1)>.c"
 cat >"$hostile" <<'SOURCE'
 /* </code></div><script>alert(1)</script><img src=x onerror="alert(1)"> */
-char text[] = "</style></title><script>alert('2')</script>"; // <svg onload=alert(3)>
+char text[] = { '<', '"', '>', '&' }; // </style></title><script>alert('2')</script><svg onload=alert(3)>
 int level, shown;
 __task(2) void drain(void) { level = __input(0, 4); /* --><iframe src=//x> */ }
 __task(1) void show(void) { if (level > 0) shown = 100 / level; /* &lt;script&gt; */ }
@@ -47,13 +47,17 @@ SOURCE
 make_page hostile "$hostile"
 for name in tank uart_driver hostile; do look "$name"; done
 
-# A task that divides in each tenth line, and one that divides in each line.
+# Four tasks that divide in each tenth line, and four that divide in each line.
 python3 - "$work" <<'PYTHON'
 import sys
 for name, lines, every in (("long", 5000, 10), ("many", 10000, 1)):
-    body = "\n".join(f"y = 1 / x; /* {at} */" if at % every == 0 else f"/* {at} */" for at in range(lines))
+    tasks = []
+    for task in range(4):
+        part = range(task * lines // 4, (task + 1) * lines // 4)
+        body = "\n".join(f"y = 1 / x; /* {at} */" if at % every == 0 else f"/* {at} */" for at in part)
+        tasks.append(f"__task({task + 1}) void t{task}(void) {{\nint x, y; x = __input(0, 1);\n{body}\n}}\n")
     with open(f"{sys.argv[1]}/{name}.c", "w", encoding="ascii") as it:
-        it.write(f"int x, y;\nvoid f(void) {{\n{body}\n}}\n__task(1) void t(void) {{ x = __input(0, 1); f(); }}\n")
+        it.writelines(tasks)
 PYTHON
 for name in long many; do
     make_page "$name" "$work/$name.c"
