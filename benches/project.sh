@@ -131,6 +131,6 @@ same "status=1" "$(cat "$work/output")" "what it hands on"
 python3 "$here/sarif.py" cedratcleat.sarif
 printf 'int\n=;\n' >display.c
 told "${step[@]}" >"$work/report"
-same $'display.c:1:4:error:Syntax' "$(matched "$work/report" | sed 's/:[0-9]*:[0-9]*:/:1:4:/')" "a refusal in the job"
+same $'display.c:1:4:error:Syntax' "$(matched "$work/err" | sed 's/:[0-9]*:[0-9]*:/:1:4:/')" "a refusal in the job"
 same "status 2" "$(tail -n 1 "$work/report")" "its status"
 echo "all as wanted"

@@ -261,7 +261,7 @@ for row in "refused.c:Syntax a%20b.h 1 8" "marks.c:Syntax" "long.c:Limit source 
     "function.c:Mismatch $work/function.c 21 15 1"; do
     told "$top/analyse" --preprocessed --sarif "$work/${row%%:*}" >"$work/log"
     same "status 2" "$(tail -n 1 "$work/log")" "the status of the log of a refusal, ${row%%:*}"
-    grep -q '^analyse: .*: error: ' "$work/err"
+    grep -q '^[^ ].*: error: .* \[' "$work/err"
     sed -i '$d' "$work/log"
     python3 "$here/sarif.py" "$work/log"
     same "1 ${row#*:} 0" "$(notified "$work/log")" "the log of a refusal, ${row%%:*}"
