@@ -4,6 +4,8 @@
 #
 #     benches/refusals.sh ANALYSER HINTER [CASES]
 #
+# And whether tools/refusals.py tells nothing that is not so: an example with one wrong word has no further refusal.
+#
 # ANALYSER and HINTER are the programs analyse_main and refusal_hint. CASES is a file of refused sources, each a line of
 # JSON with `stdin` and `stdout`: the kinds and what is told are counted. Status 1 where something else is told.
 set -eu
@@ -37,6 +39,32 @@ while IFS=$'\t' read -r wanted source; do
     fi
 done <"$top/vectors/refusals.txt"
 echo "sources: $right told as wanted"
+
+python3 - "$top" "$analyser" "$folder/text" <<'END' || status=1
+import glob, random, re, subprocess, sys
+top, analyser, path = sys.argv[1:]
+random.seed(1)
+tried = wrong = 0
+for example in sorted(glob.glob(top + '/examples/*.c')):
+    text = re.sub(r'/\*.*?\*/', lambda it: re.sub(r'[^\n]', ' ', it[0]), open(example).read(), flags=re.DOTALL)
+    places = list(re.finditer(r'[A-Za-z_]\w*|\d+|[-+*/<;=]', text))
+    for it in random.sample(places, min(12, len(places))):
+        word = random.choice(['1.5', 'no_such_name', '@', 'goto', '"text"', '?: 1', '= ='])
+        changed = text[:it.start()] + word + text[it.end():]
+        open(path, 'w').write(changed)
+        answer = subprocess.run([analyser, 'replay'], input=changed.encode(), stdout=subprocess.PIPE, check=False).stdout
+        place = re.fullmatch(r'(\d+):(\d+) refused ([A-Za-z]+)\n', answer.decode())
+        if not place:
+            continue
+        tried += 1
+        words = [sys.executable, top + '/tools/refusals.py', analyser, path, *place.groups()]
+        told = subprocess.run(words, stdout=subprocess.PIPE, check=True).stdout.decode()
+        if not re.fullmatch(r'end \d+\n', told):
+            wrong += 1
+            print(f'{example}: {it[0]} is {word}: {place[0]}{told}')
+print(f'examples with one wrong word: {tried}, {wrong} with a further refusal')
+sys.exit(wrong > 0 or tried < 50)
+END
 
 if [ -n "$cases" ]; then
     python3 - "$cases" "$hinter" <<'END'

@@ -73,6 +73,44 @@ for compiler in gcc clang; do
 done
 unset CC
 
+# Columns are those of the file: of a token that stands there, too, before a macro, between two, or behind the last, and else
+# where the macro stands, in one line and in several; of a project, too; and the text's where the file is not at hand.
+mkdir -p "$work/columns"
+cat >"$work/columns/macros.h" <<'SOURCE'
+#define SCALE 100
+#define RATIO(a, b) (((a) * SCALE) / (b))
+SOURCE
+cat >"$work/columns/a.c" <<'SOURCE'
+#include "macros.h"
+int share;
+__task(1) void show(void)
+{
+    share = RATIO(1, __input(0, 4));
+	share  =   100 / __input(0, 4); /* a comment */
+    share = SCALE / __input(0, 4);
+    share = /* a comment */ SCALE + 3 / __input(0, 4);
+    share = RATIO(1,
+                  __input(0, 4)) + 7 / __input(0, 4);
+    if (SCALE > 3) { share = 7 / __input(0, 4); share = RATIO(2, __input(0, 4)); }
+}
+SOURCE
+printf 'static int rate;\n#define ONE(x) (1 / (x))\n%s\n' \
+    '__task(1) void b(void) { rate = 1 / __input(0, 9); rate = ONE(__input(0, 9)); }' >"$work/columns/b.c"
+printf 'static int rate;\n__task(1) void c(void) { rate = 1 / rate; }\n' >"$work/columns/c.c"
+divided() { sed -n 's/: warning: the divisor.*//p; $p'; }
+for compiler in gcc clang; do
+    cd "$work/columns"
+    # (clang keeps what stands behind a macro of several lines in the first of them)
+    behind=a.c:10:38
+    [ "$compiler" = gcc ] || behind=a.c:9:13
+    same $'a.c:5:13\na.c:6:17\na.c:7:19\na.c:8:39\na.c:9:13\n'"$behind"$'\na.c:11:32\na.c:11:57\nstatus 1' \
+        "$(CC=$compiler told "$top/analyse" a.c | divided)" "columns of a file, by $compiler"
+    same $'b.c:3:35\nb.c:3:59\nc.c:2:35\nstatus 1' \
+        "$(CC=$compiler told "$top/analyse" b.c c.c | divided)" "columns of a project, by $compiler"
+    "$compiler" -E -std=c99 a.c | sed 's/"a\.c"/"none.c"/' >"$work/none.c"
+    same "none.c:5:26" "$(told "$top/analyse" --preprocessed "$work/none.c" | divided | head -n 1)" "columns of no file"
+done
+
 # Each example has the report that stands beside it.
 for source in "$top"/examples/*.c; do
     same "$(cat "${source%.c}.report")" "$(told "$top/analyse" --plain --preprocessed "$source" | sed '$d')" \
@@ -331,6 +369,38 @@ for body in 'if (n) turns();' 'do { n = 0; } while (n);' 'while (1) { if (n) bre
     if grep -E 'at most once|for ever' "$work/err"; then exit 1; fi
 done
 echo "what does not run is told where it is sure"
+
+# The further refusals of a source are told as guesses, in the order of their lines, and none that comes of another one:
+# neither of a type that is refused nor of a name that is told of once. What an accepted source has is as ever.
+cat >"$work/all.c" <<'SOURCE'
+#define LIMIT 10
+typedef struct { unsigned ready : 1; } flags_t;
+flags_t flags;
+int level, share;
+void work(int n)
+{
+    for (int i = 0; i < n; i++) {
+        if (i > LIMIT) goto out;
+        flags.ready = 1;
+        share = n ?: level;
+    }
+    level = missing + 1;
+    level = missing + 2;
+}
+__task(1) void t(void) { work(3); __asm__("nop"); level = level / share; }
+SOURCE
+wanted=$'15:43: error: [Lexical]\n2:33: note: a guess: a bit-field [Syntax]\n8:24: note: a guess: `goto` [Unsupported]\n'
+wanted+=$'10:20: note: a guess: `?:` without its middle [Syntax]\n12:13: note: a guess: [Undeclared]\nstatus 2'
+same "$wanted" "$(told "$top/analyse" --all-refusals "$work/all.c" | sed "s|^$work/all.c:||" |
+    sed -E 's/(error|guess): [^:[]*(: ([^:]|:[^ ])*)?(: .*)? (\[[A-Za-z]+\])$/\1\2 \5/; s/(error|guess) \[/\1: [/')" "all refusals"
+same "$(told "$top/analyse" "$work/all.c" | head -n 1)"$'\nstatus 2' \
+    "$(sed '/^int level/s/;/; }/' "$work/all.c" >"$work/brackets.c" &&
+        told "$top/analyse" --all-refusals "$work/brackets.c" | sed 's/brackets/all/')" "no guess where brackets do not match"
+grep -q '^analyse: no further refusals can be told' "$work/err"
+same $'alarms 0\nstatus 0' "$(told "$top/analyse" --all-refusals "$work/none.c")" "all refusals of an accepted source"
+for word in --plain --sarif --check; do
+    same "status 3" "$(told "$top/analyse" --all-refusals "$word" "$work/all.c")" "all refusals with $word"
+done
 
 # Words that are no command: what may be wrong with them is told.
 same "status 3" "$(told "$top/analyse" "$work/refused.c" --sarif)" "an option behind the file"
