@@ -3,7 +3,8 @@
 # source that is full of tags, in its comments and its name, and FOLDER then has them and a picture of each in
 # light and dark. Of each it sees that the browser's console says nothing, that the page as the browser has read it has no
 # script and no image, and that nothing was loaded. Then it times a page of some 5,000 lines and 500 alarms and one of
-# 10,000 alarms. CHROMIUM is `chromium`, as Debian has it.
+# 10,000 alarms: how long each takes to make beside the lines alone, and to open beside an empty page. CHROMIUM is
+# `chromium`, as Debian has it.
 set -eu
 top=$(readlink -f -- "$(dirname -- "${BASH_SOURCE[0]}")/..")
 mkdir -p -- "$1"
@@ -59,9 +60,18 @@ for name, lines, every in (("long", 5000, 10), ("many", 10000, 1)):
     with open(f"{sys.argv[1]}/{name}.c", "w", encoding="ascii") as it:
         it.writelines(tasks)
 PYTHON
+# Seconds by the clock: the least of three runs.
+least() { # COMMAND..
+    local TIMEFORMAT=%R
+    for _ in 1 2 3; do { time "$@" >"$work/out" 2>/dev/null || true; } 2>&1; done | sort -n | head -n 1
+}
+
+echo '<!doctype html><title>empty</title>' >"$work/empty.html"
 for name in long many; do
-    make_page "$name" "$work/$name.c"
-    bash -c "time $(printf '%q ' "$chromium") --headless --no-sandbox --user-data-dir=$work/profile --dump-dom \
-        file://$folder/$name.html >/dev/null 2>&1" 2>&1 | grep real
-    echo "$name: $(wc -c <"$folder/$name.html") bytes"
+    lines=$(least "$top/analyse" "$work/$name.c")
+    made=$(least make_page "$name" "$work/$name.c")
+    empty=$(least browse --dump-dom "file://$work/empty.html")
+    opens=$(least browse --dump-dom "file://$folder/$name.html")
+    echo "$name: $(wc -c <"$folder/$name.html") bytes, made in $made seconds beside $lines for the lines alone," \
+        "opens in $opens beside $empty for an empty page"
 done

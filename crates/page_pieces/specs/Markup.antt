@@ -4,8 +4,8 @@ use Rattle.std.specs.Prelude.{if◌then◌else◌}
 use Rattle.tm_terms.specs.Texts.{line_of}
 use Rattle.page_pieces.specs.declared.markup.Markup.{Markup}
 use Rattle.page_pieces.specs.declared.markup.Markup.TheVariants.{Head, Title, Count, Navigation, Alarms, Alarm}
-use Rattle.page_pieces.specs.declared.markup.Markup.TheVariants.{Rule, Sentence, AlarmEnd, Sources, Line, Number}
-use Rattle.page_pieces.specs.declared.markup.Markup.TheVariants.{Code, LineEnd, Hidden, HiddenEnd, End, Heading}
+use Rattle.page_pieces.specs.declared.markup.Markup.TheVariants.{Rule, Sentence, AlarmEnd, Sources, Line, Noted}
+use Rattle.page_pieces.specs.declared.markup.Markup.TheVariants.{Unreached, Number, Code, LineEnd, Hidden, HiddenEnd, End, Heading}
 use Rattle.page_pieces.specs.declared.markup.Markup.TheVariants.{HeadingEnd, Dead, Group, SummaryEnd, GroupEnd}
 use Rattle.page_pieces.specs.declared.markup.Markup.TheVariants.{Table, Column, HeadEnd, Row, Cell, RowEnd}
 use Rattle.page_pieces.specs.declared.markup.Markup.TheVariants.{TableEnd, Link, Linked, LinkEnd, Note, NoteEnd}
@@ -34,21 +34,22 @@ head_text =
     ++ (codes "th{color:var(--quiet)}b{color:var(--alarm);font:600 12px/1.5 ui-monospace,monospace}"
     ++ (codes "summary{cursor:pointer;padding:.3rem .6rem;background:var(--soft);"
     ++ (codes "border:1px solid var(--rule);overflow-wrap:anywhere}"
+    ++ (codes "section{content-visibility:auto;contain-intrinsic-height:auto 60rem;overflow-clip-margin:6px}"
     ++ (codes "details{margin:.5rem 0}.scroll{overflow-x:auto}.line{display:flex;min-width:max-content}"
-    ++ (codes ".line:has(+.note),.line:target,:target+.line{background:var(--mark)}"
+    ++ (codes ".noted,.line:target,:target+.line{background:var(--mark)}"
     ++ (codes ".number{flex:none;width:4.5em;padding-right:1em;text-align:right;color:var(--quiet);"
     ++ (codes "user-select:none}"
     ++ (codes ".line code,.number{font:13px/1.5 ui-monospace,Menlo,Consolas,monospace;white-space:pre;"
     ++ (codes "tab-size:4}"
-    ++ (codes ".line:has(+.dead) code{color:var(--dead)}.line:has(+.dead) .number{"
-    ++ (codes "border-right:3px double var(--dead)}"
+    ++ (codes ".unreached code{color:var(--dead)}.unreached .number{border-right:3px double var(--dead)}"
     ++ (codes ".note,.dead{margin:.1rem 0;color:var(--quiet);font-size:13.5px}"
     ++ (codes ".scroll .note,.scroll .dead{padding:.05rem .6rem .05rem 5.2em;background:var(--soft)}"
     ++ (codes ".scroll .note+.note{border:0}.dead{font-style:italic}"
-    ++ (codes "@media print{nav{display:none}a{color:inherit}.line{min-width:0}.line code{"
+    ++ (codes "@media print{nav{display:none}section{content-visibility:visible}a{color:inherit}"
+    ++ (codes ".line{min-width:0}.line code{"
     ++ (codes "white-space:pre-wrap}summary{list-style:none}}"
     ++ (codes "@media (max-width:40rem){.number{width:3em}.scroll .note,.scroll .dead{padding-left:1rem}}"
-    ++ (codes "</style><title>")))))))))))))))))))))))))))))))))))
+    ++ (codes "</style><title>"))))))))))))))))))))))))))))))))))))
 
 unfoldable pub markup_text : Markup → List ℕ
 markup_text Head = head_text
@@ -71,6 +72,8 @@ markup_text Sources =
     ++ (codes "<div class='scroll'>"
     ++ (codes "<details open><summary>"))
 markup_text Line = codes "<div class='line' id='L"
+markup_text Noted = codes "<div class='line noted' id='L"
+markup_text Unreached = codes "<div class='line unreached' id='L"
 markup_text Number = codes "'><span class='number'>"
 markup_text Code = codes "</span><code>"
 markup_text LineEnd = line_of (codes "</code></div>")

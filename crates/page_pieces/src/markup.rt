@@ -28,6 +28,10 @@ pub enum Markup {
     Sources,
     /// Before the number of a line of the text whose line of the file is shown.
     Line,
+    /// The same, of a line that has a note.
+    Noted,
+    /// The same, of a line with a place that no run reaches.
+    Unreached,
     /// From there to the number of the line of the file.
     Number,
     /// From there to the line of the file.
@@ -144,18 +148,19 @@ fn head() -> &'static str
             th{color:var(--quiet)}b{color:var(--alarm);font:600 12px/1.5 ui-monospace,monospace}\
             summary{cursor:pointer;padding:.3rem .6rem;background:var(--soft);\
             border:1px solid var(--rule);overflow-wrap:anywhere}\
+            section{content-visibility:auto;contain-intrinsic-height:auto 60rem;overflow-clip-margin:6px}\
             details{margin:.5rem 0}.scroll{overflow-x:auto}.line{display:flex;min-width:max-content}\
-            .line:has(+.note),.line:target,:target+.line{background:var(--mark)}\
+            .noted,.line:target,:target+.line{background:var(--mark)}\
             .number{flex:none;width:4.5em;padding-right:1em;text-align:right;color:var(--quiet);\
             user-select:none}\
             .line code,.number{font:13px/1.5 ui-monospace,Menlo,Consolas,monospace;white-space:pre;\
             tab-size:4}\
-            .line:has(+.dead) code{color:var(--dead)}.line:has(+.dead) .number{\
-            border-right:3px double var(--dead)}\
+            .unreached code{color:var(--dead)}.unreached .number{border-right:3px double var(--dead)}\
             .note,.dead{margin:.1rem 0;color:var(--quiet);font-size:13.5px}\
             .scroll .note,.scroll .dead{padding:.05rem .6rem .05rem 5.2em;background:var(--soft)}\
             .scroll .note+.note{border:0}.dead{font-style:italic}\
-            @media print{nav{display:none}a{color:inherit}.line{min-width:0}.line code{\
+            @media print{nav{display:none}section{content-visibility:visible}a{color:inherit}\
+            .line{min-width:0}.line code{\
             white-space:pre-wrap}summary{list-style:none}}\
             @media (max-width:40rem){.number{width:3em}.scroll .note,.scroll .dead{padding-left:1rem}}\
             </style><title>"
@@ -187,6 +192,8 @@ pub fn markup_text(markup: Markup) -> &'static str
             <div class='scroll'>\
             <details open><summary>",
         Markup::Line => "<div class='line' id='L",
+        Markup::Noted => "<div class='line noted' id='L",
+        Markup::Unreached => "<div class='line unreached' id='L",
         Markup::Number => "'><span class='number'>",
         Markup::Code => "</span><code>",
         Markup::LineEnd => "</code></div>\n",

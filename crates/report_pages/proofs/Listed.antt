@@ -6,14 +6,15 @@ use Rattle.page_pieces.specs.Composed.{composed, composed_piece, piece_for}
 use Rattle.page_pieces.specs.Markup.{composed_markup}
 use Rattle.page_pieces.specs.Pieces.{Piece, fixed, said}
 use Rattle.page_pieces.specs.declared.markup.Markup.{Markup}
-use Rattle.page_pieces.specs.declared.markup.Markup.TheVariants.{AlarmEnd, Line, Number, Code, LineEnd, Hidden, HiddenEnd, End}
+use Rattle.page_pieces.specs.declared.markup.Markup.TheVariants.{AlarmEnd, Line, Noted, Unreached}
+use Rattle.page_pieces.specs.declared.markup.Markup.TheVariants.{Number, Code, LineEnd, Hidden, HiddenEnd, End}
 use Rattle.source_marks.specs.Marks.{Origin, lines_of}
 use Rattle.report_views.specs.Spots.{Spot}
 use Rattle.report_views.specs.declared.spots.Finding.{Finding}
 use Rattle.report_pages.specs.Laws.{AllListed, is_row, rows_in}
 use Rattle.report_pages.specs.Pages.{Texts, source_pieces}
 use Rattle.report_pages.specs.Rows.{alarm_row, alarm_rows, first_of, rest_of}
-use Rattle.report_pages.specs.Sources.{line_pieces, line_rows}
+use Rattle.report_pages.specs.Sources.{line_pieces, line_rows, line_start}
 use Rattle.report_pages.proofs.Found.{as_many_spots}
 
 -- some of these begin a row
@@ -68,24 +69,27 @@ rows_all (finding ∷ findings) (spot ∷ spots) notes rest same =
     ap rows_in (append_assoc (alarm_row finding.place.line spot (first_of notes))
     (alarm_rows findings spots (rest_of notes)) rest) ∙ one ∙ (omega arith)
 
-line_none : (number line : ℕ) (shown : List ℕ) (is_shown : Bool) (rest : List Piece)
+line_none : (number line : ℕ) (shown : List ℕ) (unreached noted is_shown : Bool) (rest : List Piece)
     → rows_in (cond is_shown
-    (fixed Line ∷ said (decimal number) ∷ fixed Number ∷ said (decimal line) ∷ fixed Code ∷ said (drop 1 shown)
-    ∷ fixed LineEnd ∷ []) (fixed Hidden ∷ said (decimal number) ∷ fixed HiddenEnd ∷ []) ++ rest) ≡ rows_in rest
-line_none number line shown true rest = refl
-line_none number line shown false rest = refl
+    (fixed (cond unreached Unreached (cond noted Noted Line)) ∷ said (decimal number) ∷ fixed Number ∷ said (decimal line)
+    ∷ fixed Code ∷ said (drop 1 shown) ∷ fixed LineEnd ∷ []) (fixed Hidden ∷ said (decimal number) ∷ fixed HiddenEnd ∷ []) ++ rest) ≡ rows_in rest
+line_none number line shown true noted true rest = refl
+line_none number line shown false true true rest = refl
+line_none number line shown false false true rest = refl
+line_none number line shown unreached noted false rest = refl
 
 lines_none : (number : ℕ) (origins : List Origin) (lines remarks : List (List ℕ)) (rest : List Piece)
     → rows_in (line_rows number origins lines remarks ++ rest) ≡ rows_in rest
 lines_none number [] lines remarks rest = refl
 lines_none number (origin ∷ origins) lines remarks rest =
-    let shown = line_pieces number origin.line (first_of lines) in
+    let remark = first_of remarks in
+    let shown = line_pieces (line_start remark) number origin.line (first_of lines) in
     let behind = line_rows (number + 1) origins (rest_of lines) (rest_of remarks) in
-    ap rows_in (append_assoc (shown ++ composed (first_of remarks)) behind rest
-    ∙ append_assoc shown (composed (first_of remarks)) (behind ++ rest))
-    ∙ line_none number origin.line (first_of lines) (slice_index (first_of lines) 0 == 43)
-    (composed (first_of remarks) ++ (behind ++ rest))
-    ∙ composed_none (first_of remarks) (behind ++ rest)
+    ap rows_in (append_assoc (shown ++ composed remark) behind rest
+    ∙ append_assoc shown (composed remark) (behind ++ rest))
+    ∙ line_none number origin.line (first_of lines) (slice_index remark 0 == 16) (slice_index remark 0 == 30)
+    (slice_index (first_of lines) 0 == 43) (composed remark ++ (behind ++ rest))
+    ∙ composed_none remark (behind ++ rest)
     ∙ lines_none (number + 1) origins (rest_of lines) (rest_of remarks) rest
 
 sources_none : (texts : Texts) (origins : List Origin) → rows_in (source_pieces texts origins) ≡ 0

@@ -9,7 +9,7 @@ use Rattle.page_pieces.specs.Pieces.{Piece, page_text, piece_text}
 use Rattle.report_views.specs.Spots.{Spot}
 use Rattle.report_views.specs.declared.spots.Finding.{Finding}
 use Rattle.report_pages.specs.Rows.{alarm_row, alarm_rows, first_of, rest_of}
-use Rattle.report_pages.specs.Sources.{line_pieces, line_rows}
+use Rattle.report_pages.specs.Sources.{line_pieces, line_rows, line_start}
 
 pub next : {A : Type 0} (xs : List A) (i : ℕ) (d : A) → i < length xs → drop i xs ≡ get_or xs i d ∷ drop (i + 1) xs
 next xs i d h = rw (add-one, drop-cons xs i d)
@@ -67,19 +67,22 @@ pub source_more : (origins : List Origin) (lines remarks : List (List ℕ)) (i :
     (shown remark whole page page' : List ℕ)
     → drop i origins ≡ origin ∷ drop (i + 1) origins → shown ≡ first_of (drop i lines) → remark ≡ first_of (drop i remarks)
     → whole ≡ page ++ page_text (line_rows (i + 1) (drop i origins) (drop i lines) (drop i remarks))
-    → page' ≡ page ++ page_text (line_pieces (i + 1) origin.line shown ++ composed remark)
+    → page' ≡ page ++ page_text (line_pieces (line_start remark) (i + 1) origin.line shown ++ composed remark)
     → whole ≡ page' ++ page_text (line_rows (i + 1 + 1) (drop (i + 1) origins) (drop (i + 1) lines) (drop (i + 1) remarks))
 source_more origins lines remarks i origin shown remark whole page page' one is_shown is_remark so_far pushed =
-    pieces_more whole page page' (line_pieces (i + 1) origin.line shown ++ composed remark)
+    pieces_more whole page page' (line_pieces (line_start remark) (i + 1) origin.line shown ++ composed remark)
     (line_rows (i + 1 + 1) (drop (i + 1) origins) (drop (i + 1) lines) (drop (i + 1) remarks))
     (so_far
     ∙ ap (λ o. page ++ page_text (line_rows (i + 1) o (drop i lines) (drop i remarks))) one
-    ∙ ap (λ l. page ++ page_text ((line_pieces (i + 1) origin.line (first_of (drop i lines)) ++ composed (first_of (drop i remarks)))
+    ∙ ap (λ l. page ++ page_text ((line_pieces (line_start (first_of (drop i remarks))) (i + 1) origin.line (first_of (drop i lines))
+    ++ composed (first_of (drop i remarks)))
     ++ line_rows (i + 1 + 1) (drop (i + 1) origins) l (rest_of (drop i remarks)))) (rest_at lines i)
-    ∙ ap (λ r. page ++ page_text ((line_pieces (i + 1) origin.line (first_of (drop i lines)) ++ composed (first_of (drop i remarks)))
+    ∙ ap (λ r. page ++ page_text ((line_pieces (line_start (first_of (drop i remarks))) (i + 1) origin.line (first_of (drop i lines))
+    ++ composed (first_of (drop i remarks)))
     ++ line_rows (i + 1 + 1) (drop (i + 1) origins) (drop (i + 1) lines) r)) (rest_at remarks i)
-    ∙ ap (λ s. page ++ page_text ((line_pieces (i + 1) origin.line s ++ composed (first_of (drop i remarks)))
+    ∙ ap (λ s. page ++ page_text ((line_pieces (line_start (first_of (drop i remarks))) (i + 1) origin.line s
+    ++ composed (first_of (drop i remarks)))
     ++ line_rows (i + 1 + 1) (drop (i + 1) origins) (drop (i + 1) lines) (drop (i + 1) remarks))) (sym is_shown)
-    ∙ ap (λ r. page ++ page_text ((line_pieces (i + 1) origin.line shown ++ composed r)
+    ∙ ap (λ r. page ++ page_text ((line_pieces (line_start r) (i + 1) origin.line shown ++ composed r)
     ++ line_rows (i + 1 + 1) (drop (i + 1) origins) (drop (i + 1) lines) (drop (i + 1) remarks))) (sym is_remark))
     pushed

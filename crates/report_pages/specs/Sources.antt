@@ -3,15 +3,24 @@ use Rattle.std.specs.Prelude.{ℕ, ◌+◌, ◌==◌, List, [], ◌∷◌, ◌++
 use Rattle.source_marks.specs.Marks.{Origin}
 use Rattle.page_pieces.specs.Composed.{composed}
 use Rattle.page_pieces.specs.Pieces.{Piece, fixed, said}
-use Rattle.page_pieces.specs.declared.markup.Markup.TheVariants.{Line, Number, Code, LineEnd, Hidden, HiddenEnd}
+use Rattle.page_pieces.specs.declared.markup.Markup.{Markup}
+use Rattle.page_pieces.specs.declared.markup.Markup.TheVariants.{Line, Noted, Unreached, Number, Code}
+use Rattle.page_pieces.specs.declared.markup.Markup.TheVariants.{LineEnd, Hidden, HiddenEnd}
 use Rattle.report_pages.specs.Rows.{first_of, rest_of}
+
+-- how a line begins whose remarks are these: marked where the first of them says that no run reaches a place, byte 16, or
+-- is a note, byte 30
+abbrev pub line_start : List ℕ → Markup
+line_start remark =
+    if slice_index remark 0 == 16 then Unreached
+    else (if slice_index remark 0 == 30 then Noted else Line)
 
 -- a line of the text whose line of the file is shown behind `+`, byte 43, or that is not shown, as a line mark is not;
 -- either is there to be led to
-abbrev pub line_pieces : ℕ → ℕ → List ℕ → List Piece
-line_pieces number line shown =
+abbrev pub line_pieces : Markup → ℕ → ℕ → List ℕ → List Piece
+line_pieces start number line shown =
     if slice_index shown 0 == 43
-    then fixed Line ∷ said (decimal number) ∷ fixed Number ∷ said (decimal line) ∷ fixed Code ∷ said (drop 1 shown)
+    then fixed start ∷ said (decimal number) ∷ fixed Number ∷ said (decimal line) ∷ fixed Code ∷ said (drop 1 shown)
     ∷ fixed LineEnd ∷ []
     else fixed Hidden ∷ said (decimal number) ∷ fixed HiddenEnd ∷ []
 
@@ -19,5 +28,5 @@ line_pieces number line shown =
 abbrev pub line_rows : ℕ → List Origin → List (List ℕ) → List (List ℕ) → List Piece
 line_rows number [] lines remarks = []
 line_rows number (origin ∷ origins) lines remarks =
-    (line_pieces number origin.line (first_of lines) ++ composed (first_of remarks))
+    (line_pieces (line_start (first_of remarks)) number origin.line (first_of lines) ++ composed (first_of remarks))
     ++ line_rows (number + 1) origins (rest_of lines) (rest_of remarks)

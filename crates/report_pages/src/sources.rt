@@ -4,7 +4,7 @@ ghost use Rattle.std.specs.Prelude.{◌≡◌, ◌++◌, map, OnOk};
 ghost use Rattle.page_pieces.specs.Composed.{composed};
 ghost use Rattle.page_pieces.specs.Pieces.{page_text};
 ghost use Rattle.source_marks.specs.reading.Seen.{origin_seen};
-ghost use Rattle.report_pages.specs.Sources.{line_pieces, line_rows};
+ghost use Rattle.report_pages.specs.Sources.{line_pieces, line_rows, line_start};
 ghost use Rattle.report_pages.specs.reading.Seen.{bytes_seen};
 
 use crate::lines::line_at;
@@ -12,22 +12,46 @@ use page_pieces::{Markup, push_composed, push_markup, push_number, push_said};
 use source_marks::Origin;
 use std::alloc::{AllocError, Global};
 
-/// Appends a line of the text.
+/// The byte that stands for the mark of a line with a place that no run reaches.
+const UNREACHED: u8 = 16;
+
+/// The byte that stands for the begin of a note.
+const NOTE: u8 = 30;
+
+/// How a line begins whose remarks are these.
+fn line_start(remark: &[u8]) -> Markup
+    ensures { result ≡ line_start remark.now }
+{
+    if remark.is_empty() {
+        return Markup::Line;
+    }
+    if remark[0] == UNREACHED {
+        return Markup::Unreached;
+    }
+    if remark[0] == NOTE {
+        Markup::Noted
+    } else {
+        Markup::Line
+    }
+}
+
+/// Appends a line of the text, which begins so where it is shown.
 fn push_line(
     alloc: Global,
     page: &mut Vec<u8>,
+    start: Markup,
     number: u64,
     line: u64,
     shown: &[u8],
 ) -> Result<(), AllocError>
-    ensures { OnOk result (page.new.items ≡ page.old.items ++ page_text (line_pieces number line shown.now)) }
+    ensures { OnOk result (page.new.items ≡ page.old.items ++ page_text (line_pieces start number line shown.now)) }
 {
     if shown.is_empty() || shown[0] != b'+' {
         push_markup(page, Markup::Hidden)?;
         push_number(alloc, page, number)?;
         return push_markup(page, Markup::HiddenEnd);
     }
-    push_markup(page, Markup::Line)?;
+    push_markup(page, start)?;
     push_number(alloc, page, number)?;
     push_markup(page, Markup::Number)?;
     push_number(alloc, page, line)?;
@@ -46,9 +70,9 @@ fn push_row(
     remark: &[u8],
 ) -> Result<(), AllocError>
     ensures { OnOk result (page.new.items ≡ page.old.items
-        ++ page_text (line_pieces number origin.entry.line shown.now ++ composed remark.now)) }
+        ++ page_text (line_pieces (line_start remark.now) number origin.entry.line shown.now ++ composed remark.now)) }
 {
-    push_line(alloc, page, number, origin.line, shown)?;
+    push_line(alloc, page, line_start(remark), number, origin.line, shown)?;
     push_composed(page, remark)
 }
 
