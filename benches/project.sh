@@ -129,6 +129,22 @@ step=(env GITHUB_OUTPUT="$work/output" PATH="$work/bin:$PATH" bash --noprofile -
 same "status 1" "$(told "${step[@]}")" "the job of a build server"
 same "status=1" "$(cat "$work/output")" "what it hands on"
 python3 "$here/sarif.py" cedratcleat.sarif
+
+# The step of the job with a baseline: it passes where nothing is new, also in a line that moved, and fails where
+# something is; its log is the next baseline.
+sed -n '/^        run: |$/,/^$/p' ci/baseline.yml | sed '1d; s/^          //' >"$work/compare.sh"
+compare=(env GITHUB_OUTPUT="$work/output" PATH="$work/bin:$PATH" bash --noprofile --norc -eo pipefail "$work/compare.sh")
+: >"$work/output"
+sed -i '1i /* a line more */' display.c
+same "status 0" "$(told "${compare[@]}" | tail -n 1)" "the job with a baseline"
+same "status=0" "$(cat "$work/output")" "what it hands on"
+python3 "$here/sarif.py" new.sarif
+printf '__task(9) void more(void) { pressure = 1 / __input(0, 1); }\nint pressure;\n' >>display.c
+sed -i 's/^__task(9)/int pressure;\n&/' display.c
+same "status 1" "$(told "${compare[@]}" | tail -n 1)" "the job where an alarm is new"
+mv new.sarif cedratcleat.sarif
+same "status 0" "$(told "${compare[@]}" | tail -n 1)" "the job where it is known"
+
 printf 'int\n=;\n' >display.c
 told "${step[@]}" >"$work/report"
 same $'display.c:1:4:error:Syntax' "$(matched "$work/err" | sed 's/:[0-9]*:[0-9]*:/:1:4:/')" "a refusal in the job"

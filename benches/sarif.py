@@ -6,7 +6,7 @@ it: which properties an object must have and which it may, of which types, that 
 once, that lines and columns count from 1 and regions are not empty, that each result names a rule by its word and by its
 position, and that each uri is a reference. Where a uri is a file's, that file must be there, and have the heading that the
 fragment names. It tells also where a log is not what this project writes: the rules are those of RULES, each with its one
-level, and the results come in three parts, alarms, waits and dead places; each has a fingerprint, and no two have one; and
+level, and the results come in three parts, alarms, waits and dead places, and behind them those that are absent; each has a fingerprint, and no two have one; and
 the exit status is 1 where something is to be mended."""
 import json
 import os
@@ -191,10 +191,36 @@ def invocation(run):
     return status, places
 
 
+def suppression(value):
+    """A suppression (3.35), which says why."""
+    where = "a suppression"
+    only(value, where, "kind", "justification", "status")
+    if part(value, where, "kind", str) not in ("inSource", "external"):
+        raise Wrong(f"{where} is of another kind")
+    if not part(value, where, "justification", str):
+        raise Wrong(f"{where} does not say why")
+    if value.get("status", "accepted") not in ("accepted", "underReview", "rejected"):
+        raise Wrong(f"{where} has another status")
+
+
+def compared(values):
+    """Whether results have states (3.27.24), and which are absent: all have one or none has, and so of suppressions."""
+    for name in ("baselineState", "suppressions"):
+        if len({name in value for value in values}) > 1:
+            raise Wrong(f"some results have {name} and others not")
+    for value in values:
+        for it in part(value, "a result", "suppressions", list) if "suppressions" in value else []:
+            suppression(it)
+        if value.get("baselineState", "new") not in ("new", "unchanged", "absent"):
+            raise Wrong("a result has another state")
+    return [value.get("baselineState") == "absent" for value in values]
+
+
 def result(value, rules):
     """A result (3.27)."""
     where = "a result"
-    only(value, where, "ruleId", "ruleIndex", "level", "message", "locations", "partialFingerprints")
+    only(value, where, "ruleId", "ruleIndex", "level", "message", "locations", "partialFingerprints", "baselineState",
+         "suppressions")
     word = part(value, where, "ruleId", str)
     if rules[part(value, where, "ruleIndex", int)] != word:
         raise Wrong(f"the rule of a result is not {word}")
@@ -213,16 +239,18 @@ def result(value, rules):
 
 
 def results(run, rules):
-    """The results of a run, each with its place and its word."""
-    found, marks, last = [], [], 0
-    for value in part(run, "a run", "results", list):
+    """The results of a run that were found, each with its place and its word. Behind them stand those that were not."""
+    found, marks, last = [], [], (False, 0)
+    values = part(run, "a run", "results", list)
+    for value, absent in zip(values, compared(values)):
         word, mark, here = result(value, rules)
-        number = PARTS.index(word) if word in PARTS else 0
+        number = (absent, PARTS.index(word) if word in PARTS else 0)
         if number < last:
-            raise Wrong(f"a result of {word} stands behind one of {PARTS[last]}")
+            raise Wrong(f"a result of {word} stands behind one of {PARTS[last[1]]}")
         last = number
         marks.append(mark)
-        found.append((*here, word))
+        if not absent:
+            found.append((*here, word))
     distinct(marks, "the fingerprints")
     return found
 

@@ -49,7 +49,7 @@ STATIONS = {
     "Replays": "replay_lines replay_runs source_replays",
     "Commands": "big_source analyser analyse_main alarm_notes",
     "Views of reports": "place_details report_reading report_views report_logs report_view page_pieces report_pages"
-    " report_page refusal_hints refusal_hint",
+    " report_page log_baselines report_baseline refusal_hints refusal_hint",
     "Tests": "held_passes engine_tests words_tests source_tests transfer_tests pass_tests program_tests",
 }
 

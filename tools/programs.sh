@@ -10,9 +10,9 @@
 
 # The programs, by the names of their crates: the analyser, the one that shows a report in its files, the one that joins
 # the units of a project, the one that tells of a refusal what stands there, the one that tells rings and races by object,
-# and the one that writes pages. `program`, `viewer`, `joiner`, `hinter`, `noter` and `pager` are their paths, once they
-# are found.
-programs=(analyse_main report_view join_units refusal_hint alarm_notes report_page)
+# the one that writes pages, and the one that compares logs. `program`, `viewer`, `joiner`, `hinter`, `noter`, `pager` and
+# `comparer` are their paths, once they are found.
+programs=(analyse_main report_view join_units refusal_hint alarm_notes report_page report_baseline)
 
 # What `--prove` takes, as README.md has it, measured on a busy machine: processor minutes in all, and minutes for the
 # longest chain of crates, each of which stands on the one before.
@@ -106,6 +106,7 @@ use() { # KIND STAMP PROGRAM..
     hinter=$6
     noter=$7
     pager=$8
+    comparer=$9
 }
 
 # Sets `sum`, the sum of the sources: where the programs were installed without them, the one of which their stamp

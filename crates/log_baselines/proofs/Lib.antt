@@ -1,0 +1,7 @@
+pub mod Flaws
+pub mod FoundSteps
+pub mod KeyCounts
+pub mod KeyPlaces
+pub mod Listed
+pub mod Outcomes
+pub mod PartCounts

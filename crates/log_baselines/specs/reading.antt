@@ -1,0 +1,2 @@
+-- What the code computes: no clause of a public call names it.
+pub mod Seen
