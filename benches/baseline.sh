@@ -160,9 +160,11 @@ log = json.load(open(sys.argv[1]))
 results = log["runs"][0]["results"]
 log["runs"][0]["results"] = [results[0]] * 20000 + results[1:]
 print(json.dumps(log))' "$work/first" >"$work/old"
-start=$(date +%s)
-same $'new 0, unchanged 4, absent 19999, suppressed 0\nstatus 0' "$(told --baseline "$work/old" pump.c | tail -n 2)" \
-    "20,000 equal fingerprints"
-took=$(($(date +%s) - start))
-[ "$took" -le 20 ] || { echo "it took $took seconds" && exit 1; }
+TIMEFORMAT=%U
+{
+    time same $'new 0, unchanged 4, absent 19999, suppressed 0\nstatus 0' \
+        "$(told --baseline "$work/old" pump.c | tail -n 2)" "20,000 equal fingerprints"
+} 2>"$work/took"
+# (processor seconds, and not the clock's)
+[ "$(sed 's/[.,].*//; $!d' "$work/took")" -le 20 ] || { cat "$work/took" && exit 1; }
 echo "all as wanted"
