@@ -1,0 +1,5 @@
+pub mod Lists
+pub mod Laying
+pub mod Flowing
+pub mod Noting
+pub mod Whole
