@@ -38,8 +38,8 @@ STATIONS = {
     " edge_effects edge_filters memory_effects transfer_mem state_fits",
     "Equations and passes": "table_covers edge_contributions least_tables task_equations program_equations store_limits"
     " body_systems entry_states program_systems program_equality program_laws thread_pass post_recheck"
-    " program_solutions sparse_tables cell_placings sparse_rows sparse_bodies least_assignments"
-    " front_constraints slot_numbers body_fronts",
+    " program_solutions sparse_tables cell_placings sparse_rows sparse_bodies row_checks cell_touches"
+    " least_assignments front_constraints slot_numbers body_fronts body_slots",
     "Workers": "store_core thread_workers shared_programs shared_analyses worker_solutions history_lines",
     "Reports": "place_lists access_races request_circles program_reports value_ranges lock_waits access_groups"
     " alarm_contexts report_json solution_lines source_findings source_notes",
