@@ -30,7 +30,7 @@ use Rattle.task_equations.specs.laws.Extents.{node_typed}
 use Rattle.program_equations.specs.Systems.{FitsBody}
 use Rattle.program_equations.specs.laws.ReadAlike.{action_read}
 use Rattle.body_systems.specs.Systems.{SystemOf, body_of, contributed_by, IsSystemOf}
-use Rattle.body_systems.specs.reading.Views.{IsViewOf}
+use Rattle.body_systems.specs.Views.{IsViewOf}
 use Rattle.body_systems.specs.laws.Applicable.{place_operable}
 
 module _ (v : SystemOf) (c : EdgeCopy) (view : EdgeView) (is : IsViewOf v c view) where
@@ -38,13 +38,13 @@ module _ (v : SystemOf) (c : EdgeCopy) (view : EdgeView) (is : IsViewOf v c view
   body = body_of v
 
   -- the action over the whole layout is that over what is read of it
-  shown_action : action_at view ≡ action_along body c
+  pub shown_action : action_at view ≡ action_along body c
   shown_action =
       let e = edge_of body c in
       (λ i. action_of (laid_tree (is.laid i)) (is.task i) (is.tests i) (is.answer i) (is.operation i))
       ∙ sym (action_read (laid_tree v.laid) v.task (tests_pointer body.pointers e.op) c.answer e.op)
 
-  shown_around : around_of view ≡ around_along body c
+  pub shown_around : around_of view ≡ around_along body c
   shown_around = λ i. record {
     reader = reader_of (is.task i) (is.held i) (is.found i) (is.priorities i);
     is_shared = is_shared_cell (laid_tree (is.laid i));

@@ -1,4 +1,5 @@
--- The facts of a body (Facts), its equations as the code holds them (Systems), and what the code keeps (reading).
+-- The facts of a body (Facts), its equations as the code holds them (Systems), copies of edges as edges at a node
+-- (Views), and what the code keeps (reading).
 -- The crates below, passed on to those above.
 pub use Rattle.transfer_mem.specs.edge_filters
 pub use Rattle.table_covers.specs as table_covers
@@ -10,5 +11,6 @@ pub use Rattle.temporary_types.specs as temporary_types
 pub use Rattle.task_equations.specs.typed_values
 pub mod Facts
 pub mod Systems
+pub mod Views
 pub mod reading
 pub mod laws

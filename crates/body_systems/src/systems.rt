@@ -1,12 +1,13 @@
 //! The equations of a body over a store.
 ghost use Rattle.std.specs.Prelude.{◌≡◌, ◌<◌, length, option_map, IfOk};
+ghost use Rattle.edge_actions.specs.Edges.{action_at, around_of};
 ghost use Rattle.edge_effects.specs.Effects.{IsAfter};
 ghost use Rattle.task_equations.specs.Bodies.{copy_at};
 ghost use Rattle.task_equations.specs.Equations.{cells_at, around_along, action_along};
 ghost use Rattle.task_equations.specs.Premises.{IsCopyOf};
 ghost use Rattle.program_equations.specs.Systems.{FitsBody};
 ghost use Rattle.body_systems.specs.Systems.{SystemOf, system_with, body_of, IsSystemOf};
-ghost use Rattle.body_systems.specs.reading.Views.{IsViewOf};
+ghost use Rattle.body_systems.specs.Views.{IsViewOf};
 
 use crate::facts::BodyFacts;
 use crate::states::BodyState;
@@ -117,8 +118,69 @@ impl<'a> BodyOverStore<'a> {
         )
     }
 
-    // The abstract cells that are rounded at a node.
-    fn cells_at(&self, node: usize) -> Option<&[u32]>
+    /// The layout.
+    pub fn laid(&self) -> &Laid
+        ensures { result.now ≡ self.now.laid }
+    {
+        self.laid
+    }
+
+    /// The number of the body, by which the store and the priorities know it.
+    pub fn task(&self) -> u32
+        ensures { result ≡ self.now.task }
+    {
+        self.task
+    }
+
+    /// The thresholds.
+    pub fn marks(&self) -> &Marks
+        ensures { result.now ≡ self.now.marks }
+    {
+        self.marks
+    }
+
+    /// The configured graph: its nodes, and the copies of edges.
+    pub fn configured(&self) -> &ConfiguredGraph
+        ensures { result.now ≡ self.now.configured }
+    {
+        self.configured
+    }
+
+    /// What is computed once of the body.
+    pub fn facts(&self) -> &BodyFacts
+        ensures { result.now ≡ self.now.facts }
+    {
+        self.facts
+    }
+
+    /// The state in which the body begins; none where it does not.
+    pub fn entry(&self) -> Option<&State<AbsValue>>
+        ensures { option_map (λ s. s.now) result ≡ self.now.entry }
+    {
+        self.entry
+    }
+
+    /// The store that the equations read, which keep what they ask.
+    pub fn store(&self) -> &Store
+        ensures system { IsSystemOf self.now }
+        ensures store { result.now ≡ self.now.store }
+    {
+        self.store
+    }
+
+    /// A copy of an edge, by its number, as an edge with the mutexes held and found free at the node that it leaves.
+    /// Condition: there is such a copy.
+    pub fn view_of(&self, copy: usize) -> EdgeView<'_>
+        requires { copy < length self.now.configured.copies.items }
+        ensures view { (let b = body_of self.now in IsViewOf self.now (copy_at b copy) result) }
+        ensures around { (let b = body_of self.now in around_of result ≡ around_along b (copy_at b copy)) }
+        ensures action { (let b = body_of self.now in action_at result ≡ action_along b (copy_at b copy)) }
+    {
+        self.view(self.configured.copies[copy])
+    }
+
+    /// The abstract cells that are rounded at a node; none where it is no head. Condition: there is such a node.
+    pub fn cells_at(&self, node: usize) -> Option<&[u32]>
         requires { node < length self.now.configured.nodes.keys }
         ensures { option_map (λ cells. cells.now) result ≡ cells_at (body_of self.now) node }
     {

@@ -15,9 +15,9 @@ use Rattle.sparse_rows.specs.StateParts.{states}
 
 module _ (around : Around) (touch looks : ℕ → Bool) (copies : ℕ → ℕ → Bool) (fresh : ℕ → Bool) (pending : ℕ → ℕ) where
   -- What code has to check where it applies an operation: loads look at their targets, and may make copies of them;
-  -- stores touch their targets, and may make them fresh and the mutexes held pending there; cells of which a tested temporary may be a copy are touched,
-  -- and so are those of a cleared object, those where a lock or a free mutex brings something, those that may be fresh
-  -- where freshness ends, and those where an unlocked mutex may be pending.
+  -- stores touch their targets, and may make them fresh and the mutexes held pending there; cells of which a tested
+  -- temporary may be a copy are touched, and so are those of a cleared object, those where a lock or a free mutex
+  -- brings something, those that may be fresh where freshness ends, and those where an unlocked mutex may be pending.
   unfoldable pub IsChecked : Action → State → Interferences → Type 0
   IsChecked (loads spots target address) s store =
       (x : ℕ) → is_among (targets_at spots (value_of s address).pointers) x ≡ true

@@ -262,7 +262,8 @@ module _ (copies : ℕ → ℕ → Bool) (fresh : ℕ → Bool) (pending : ℕ �
             let other = bit_at_and p (65535 - 2 ^ m) i in
             one ∙ omega (arith, other)
 
-    effect_traced : (action : Action) (s : State) (store : Interferences) → IsTraced s → Makes copies fresh pending around action s
+    effect_traced : (action : Action) (s : State) (store : Interferences) → IsTraced s
+        → Makes copies fresh pending around action s
         → IfSome (effect around action s store) IsTraced
     unfolding effect Makes
     effect_traced skips s store h makes = h
@@ -326,7 +327,8 @@ module _ (copies : ℕ → ℕ → Bool) (fresh : ℕ → Bool) (pending : ℕ �
       held = h.held;
     }
 
-    pub after_traced : (action : Action) (s : State) (store : Interferences) → IsTraced s → Makes copies fresh pending around action s
+    pub after_traced : (action : Action) (s : State) (store : Interferences) → IsTraced s
+        → Makes copies fresh pending around action s
         → IfSome (after around action s store) IsTraced
     after_traced action s store h makes =
         arrived_traced (effect around action s store) (effect_traced action s store h makes)
