@@ -1,0 +1,319 @@
+//! What the constraints of a body read, and what they bring.
+ghost use Rattle.std.specs.Prelude.{◌≡◌, ◌<◌, ◌++◌, ◌∷◌, [], ℕ, true, false, length, option_map, replicate};
+ghost use Rattle.std.specs.Prelude.{IfOk, MatchOption, Some, None, slice_index_or, is_some};
+ghost use Rattle.std.specs.FinMap.{get};
+ghost use Rattle.cell_placings.specs.CellLists.{is_in};
+ghost use Rattle.cell_placings.specs.OwnerTrees.{kept_in};
+ghost use Rattle.least_assignments.specs.Constraints.{at, AreFitting};
+ghost use Rattle.front_constraints.specs.Standings.{fronted, holding, cell_in, front_in};
+ghost use Rattle.front_constraints.specs.Systems.{entered, row, flow, slot_at, edges, from};
+ghost use Rattle.front_constraints.specs.Rules.{front_constraints, FitsVariable, AllowsRule, seen, is_ready, small_at};
+ghost use Rattle.slot_numbers.specs.Numberings.{numbers_of};
+ghost use Rattle.body_fronts.specs.FrontForms.{FitsFront, FitsCellAt};
+ghost use Rattle.body_fronts.specs.BodySystems.{table_with};
+ghost use Rattle.body_systems.specs.Systems.{body_of};
+ghost use Rattle.program_equations.specs.Systems.{FitsBody};
+ghost use Rattle.body_slots.specs.Slots.{sparse_of, PassesRow};
+ghost use Rattle.body_slots.specs.Rows.{Values, brought_by, held_in, state_parts_at, row_parts};
+
+use crate::systems::{SlotSystem, SlotValue};
+use cell_env::{CellState, State, TempState};
+use front_constraints::Standing;
+use pointer_dom::AbsValue;
+use row_checks::is_checked;
+use state_tree::Tree;
+use std::alloc::Global;
+use tm_lattice::{Keyed, Lattice, NoMemory};
+
+// ## Parts of states
+
+// What a state has at a cell.
+fn held_at(
+    alloc: Global,
+    state: &State<AbsValue>,
+    cell: usize,
+) -> Result<Option<SlotValue>, NoMemory>
+    requires { cell < 4294967296 }
+    ensures { IfOk result (λ held. held ≡ option_map holding (get state.now.cells cell)) }
+{
+    match state.cell(cell as u32) {
+        None => Ok(None),
+        Some(held) => Ok(Some(Standing {
+            front: None,
+            cell: Some(held.copied(alloc)?),
+        })),
+    }
+}
+
+// With what a state has at some cells, behind what stands before.
+fn with_held(
+    alloc: Global,
+    state: &State<AbsValue>,
+    cells: &[usize],
+    before: Vec<Option<SlotValue>>,
+) -> Result<Vec<Option<SlotValue>>, NoMemory>
+    requires { (j : ℕ) → j < length cells.now → slice_index_or cells.now j 0 < 4294967296 }
+    ensures { IfOk result (λ all. all.items ≡ before.items ++ held_in state.now cells.now) }
+{
+    let mut all = before;
+    for cell in cells {
+        all.push(held_at(alloc, state, *cell)?)?;
+    }
+    Ok(all)
+}
+
+// The front of a state.
+fn front_of(alloc: Global, state: &State<AbsValue>) -> Result<Option<SlotValue>, NoMemory>
+    ensures { IfOk result (λ front. front ≡ Some (fronted state.now.temps)) }
+{
+    Ok(Some(Standing {
+        front: Some(state.temps().copied(alloc)?),
+        cell: None,
+    }))
+}
+
+// As often nothing.
+fn nothing(alloc: Global, count: usize) -> Result<Vec<Option<SlotValue>>, NoMemory>
+    ensures { IfOk result (λ all. all.items ≡ replicate count None) }
+{
+    let mut all = Vec::new(alloc);
+    for _ in 0..count {
+        all.push(None)?;
+    }
+    Ok(all)
+}
+
+// What an edge brings that leads to the state, to its end, to itself, and to the cells that it touches.
+fn led_to(
+    alloc: Global,
+    state: &State<AbsValue>,
+    touched: &[usize],
+) -> Result<Vec<Option<SlotValue>>, NoMemory>
+    requires { (j : ℕ) → j < length touched.now → slice_index_or touched.now j 0 < 4294967296 }
+    ensures { IfOk result (λ all. all.items ≡ state_parts_at state.now touched.now) }
+{
+    let mut first = Vec::new(alloc);
+    first.push(front_of(alloc, state)?)?;
+    first.push(Some(Standing {
+        front: None,
+        cell: None,
+    }))?;
+    with_held(alloc, state, touched, first)
+}
+
+// ## Values of variables
+
+// A copy of what stands at a variable.
+fn copied_at(
+    alloc: Global,
+    values: &[Option<SlotValue>],
+    variable: usize,
+) -> Result<Option<SlotValue>, NoMemory>
+    ensures { IfOk result (λ copied. copied ≡ at values.now variable) }
+{
+    match values.get(variable) {
+        Some(Some(value)) => Ok(Some(value.copied(alloc)?)),
+        _ => Ok(None),
+    }
+}
+
+// Whether anything stands at a variable.
+fn is_there(values: &[Option<SlotValue>], variable: usize) -> bool
+    ensures { result ≡ is_some (at values.now variable) }
+{
+    match values.get(variable) {
+        Some(Some(_)) => true,
+        _ => false,
+    }
+}
+
+// The front that stands at a variable.
+fn front_at(values: &[Option<SlotValue>], variable: usize) -> Option<&Keyed<TempState<AbsValue>>>
+    ensures { option_map (λ front. front.now) result ≡ front_in (at values.now variable) }
+{
+    match values.get(variable) {
+        Some(Some(value)) => value.front.as_ref(),
+        _ => None,
+    }
+}
+
+// What stands at the cell of a variable.
+fn cell_at(values: &[Option<SlotValue>], variable: usize) -> Option<&CellState<AbsValue>>
+    ensures { option_map (λ cell. cell.now) result ≡ cell_in (at values.now variable) }
+{
+    match values.get(variable) {
+        Some(Some(value)) => value.cell.as_ref(),
+        _ => None,
+    }
+}
+
+impl<'a> SlotSystem<'a> {
+    /// What the entry brings: its front to node 0, and what it has at each cell.
+    pub(crate) fn entered(&self, alloc: Global) -> Result<Vec<Option<SlotValue>>, NoMemory>
+        ensures { (a : Values) → IfOk result (λ all. all.items ≡ brought_by self.now entered a) }
+    {
+        let slots = self.slots;
+        let mut first = Vec::new(alloc);
+        first.push(front_of(alloc, self.entry)?)?;
+        with_held(alloc, self.entry, slots.cells.cells(), first)
+    }
+
+    // The number of the slot of a cell where it is kept at a node.
+    fn kept_number(&self, node: usize, cell: usize) -> usize
+        requires node { (let s = self.now.slots in node < s.graph.nodes) }
+        requires cell { (let s = self.now.slots in is_in s.cells cell ≡ true) }
+        ensures { (let s = self.now.slots in
+            let numbers = numbers_of s.numbering in result ≡ numbers.number (slot_at (kept_in s.tree node cell) cell)) }
+    {
+        let slots = self.slots;
+        let keeper = slots.placing.kept_at(node, cell);
+        match slots.numbers.number_of_slot(keeper, cell) {
+            None => 0,
+            Some(number) => number,
+        }
+    }
+
+    // The cells of the entry, with those at which an edge looks as they stand where they are kept. None where one of
+    // these does not stand there.
+    fn seen_cells(
+        &self,
+        alloc: Global,
+        edge: usize,
+        values: &[Option<SlotValue>],
+    ) -> Result<Option<Tree<CellState<AbsValue>>>, NoMemory>
+        requires { edge < edges (sparse_of self.now) }
+        ensures { (let sys = sparse_of self.now in IfOk result (λ seen_cells. MatchOption seen_cells
+            (is_ready sys edge (seen sys edge (at values.now)) ≡ false)
+            (λ cells. (is_ready sys edge (seen sys edge (at values.now)) ≡ true)
+            × (cells ≡ table_with (seen sys edge (at values.now)) sys.cells)))) }
+    {
+        let slots = self.slots;
+        let from = slots.graph.links[edge].from;
+        let looked = slots.graph.looked[edge].cells();
+        let entry = self.entry;
+        let mut cells = entry.cells().shared()?;
+        for cell in looked {
+            let number = self.kept_number(from, *cell);
+            match cell_at(values, number) {
+                None => return Ok(None),
+                Some(held) => cells.put(*cell as u32, held.copied(alloc)?)?,
+            }
+        }
+        Ok(Some(cells))
+    }
+
+    // The state to which the row of an edge is applied. None where the node that it leaves is not reached, or a cell at
+    // which it looks does not stand where it is kept.
+    fn small_state(
+        &self,
+        alloc: Global,
+        edge: usize,
+        values: &[Option<SlotValue>],
+    ) -> Result<Option<State<AbsValue>>, NoMemory>
+        requires { edge < edges (sparse_of self.now) }
+        ensures { IfOk result (λ small. small ≡ small_at (sparse_of self.now) edge (at values.now)) }
+    {
+        let slots = self.slots;
+        match front_at(values, slots.graph.links[edge].from) {
+            None => Ok(None),
+            Some(front) => match self.seen_cells(alloc, edge, values)? {
+                None => Ok(None),
+                Some(cells) => Ok(Some(State::new(front.copied(alloc)?, cells))),
+            },
+        }
+    }
+
+    /// What the row of an edge brings. None where the edge reaches what it may not.
+    pub(crate) fn row(
+        &self,
+        alloc: Global,
+        edge: usize,
+        values: &[Option<SlotValue>],
+    ) -> Result<Option<Vec<Option<SlotValue>>>, NoMemory>
+        requires edge { edge < edges (sparse_of self.now) }
+        requires fits { AreFitting (front_constraints (sparse_of self.now)) (FitsVariable (sparse_of self.now)
+            (FitsFront (body_of self.now.system)) (FitsCellAt (body_of self.now.system))) (at values.now) }
+        ensures { IfOk result (λ brought. MatchOption brought
+            (AllowsRule (sparse_of self.now) (PassesRow self.now) (row edge) (at values.now) → ⊥)
+            (λ all. AllowsRule (sparse_of self.now) (PassesRow self.now) (row edge) (at values.now)
+            × (all.items ≡ brought_by self.now (row edge) (at values.now)))) }
+    {
+        let slots = self.slots;
+        let touched = &slots.graph.touched[edge];
+        match self.small_state(alloc, edge, values)? {
+            None => Ok(Some(nothing(alloc, touched.cells().len() + 2)?)),
+            Some(small) => self.row_from(alloc, edge, &small),
+        }
+    }
+
+    // What the row of an edge brings that is applied to this state. None where the edge reaches what it may not.
+    fn row_from(
+        &self,
+        alloc: Global,
+        edge: usize,
+        small: &State<AbsValue>,
+    ) -> Result<Option<Vec<Option<SlotValue>>>, NoMemory>
+        requires edge { edge < edges (sparse_of self.now) }
+        requires fits { FitsBody (body_of self.now.system) (from (sparse_of self.now) edge) small.now }
+        ensures { IfOk result (λ brought. MatchOption brought (PassesRow self.now edge small.now → ⊥)
+            (λ all. PassesRow self.now edge small.now × (all.items ≡ row_parts self.now edge small.now))) }
+    {
+        let slots = self.slots;
+        let body = self.body;
+        let touched = &slots.graph.touched[edge];
+        let after = body.applied(alloc, edge, small)?;
+        let view = body.view_of(edge);
+        if !is_checked(
+            &view,
+            touched,
+            &slots.graph.looked[edge],
+            &slots.traces,
+            &after,
+            body.store(),
+        ) {
+            return Ok(None);
+        }
+        let leads = body.configured().copies[edge].to.is_some();
+        match &after.state {
+            Some(reached) if leads => Ok(Some(led_to(alloc, reached, touched.cells())?)),
+            _ => Ok(Some(nothing(alloc, touched.cells().len() + 2)?)),
+        }
+    }
+
+    /// What a cell brings along an edge that does not touch it.
+    pub(crate) fn flow(
+        &self,
+        alloc: Global,
+        edge: usize,
+        cell: usize,
+        values: &[Option<SlotValue>],
+    ) -> Result<Vec<Option<SlotValue>>, NoMemory>
+        requires edge { edge < edges (sparse_of self.now) }
+        requires cell { (let s = self.now.slots in is_in s.cells cell ≡ true) }
+        ensures { IfOk result (λ all. all.items ≡ brought_by self.now (flow edge cell) (at values.now)) }
+    {
+        let mut all = Vec::new(alloc);
+        all.push(self.passed(alloc, edge, cell, values)?)?;
+        Ok(all)
+    }
+
+    // What stands at a cell where it is kept for the node that an edge leaves, where the edge is open.
+    fn passed(
+        &self,
+        alloc: Global,
+        edge: usize,
+        cell: usize,
+        values: &[Option<SlotValue>],
+    ) -> Result<Option<SlotValue>, NoMemory>
+        requires edge { edge < edges (sparse_of self.now) }
+        requires cell { (let s = self.now.slots in is_in s.cells cell ≡ true) }
+        ensures { IfOk result (λ at_cell. (at_cell ∷ []) ≡ brought_by self.now (flow edge cell) (at values.now)) }
+    {
+        let slots = self.slots;
+        if !is_there(values, slots.numbers.number_of_open(edge)) {
+            return Ok(None);
+        }
+        let number = self.kept_number(slots.graph.links[edge].from, cell);
+        copied_at(alloc, values, number)
+    }
+}
