@@ -251,7 +251,7 @@ pub fn changed_cells(
             return Ok(after);
         }
         if let Some(changed) = changed_cell(alloc, view, change, cell, entry)? {
-            after.put(cell, changed)?;
+            after = after.with(cell, changed)?;
         }
         from = u64::from(cell) + 1;
     }

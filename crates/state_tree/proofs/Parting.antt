@@ -284,6 +284,29 @@ module _ {V : Type 0} where
       put_written (Ok a) gone some = λ h. together_written t t' key v part parted (replaced_by gone some) (is_written h) ∙ ap (λ u. insert u key v) view
       put_written (Err e) gone some = tt
 
+  -- ## A part that is taken away before another is put in its place
+
+  get-removed_twice : (t : Table (Table V)) (n k : ℕ) → get (remove (remove t n) n) k ≡ get (remove t n) k
+  get-removed_twice t n k = elim (cases_eq k n) [
+    | inl same ↦ get-remove_here (remove t n) n k same ∙ sym (get-remove_here t n k same)
+    | inr differ ↦ get-remove_there (remove t n) n k differ
+  ]
+
+  get-inserted_again : (t : Table (Table V)) (n : ℕ) (part : Table V) (k : ℕ) → get (insert (remove t n) n part) k ≡ get (insert t n part) k
+  get-inserted_again t n part k = elim (cases_eq k n) [
+    | inl same ↦ get-insert_here (remove t n) n part k same ∙ sym (get-insert_here t n part k same)
+    | inr differ ↦ get-insert_there (remove t n) n part k differ ∙ get-remove_there t n k differ ∙ sym (get-insert_there t n part k differ)
+  ]
+
+  pub removed_twice : (t s t' : Table (Table V)) (n q : ℕ) (P : Type 0) → q ≡ n → s ≡ remove t n → (P → t' ≡ remove s q) → P → t' ≡ remove t n
+  removed_twice t s t' n q P same gone again h =
+      again h ∙ ap (remove s) same ∙ ap (λ u. remove u n) gone ∙ same_table _ _ (get-removed_twice t n)
+
+  pub inserted_again : (t s t' : Table (Table V)) (n q : ℕ) (part : Table V) (P : Type 0) → q ≡ n → s ≡ remove t n → (P → t' ≡ insert s q part)
+      → P → t' ≡ insert t n part
+  inserted_again t s t' n q part P same gone again h =
+      again h ∙ ap (λ k. insert s k part) same ∙ ap (λ u. insert u n part) gone ∙ same_table _ _ (get-inserted_again t n part)
+
   -- the same for an entry that is taken away
   module _ (t t' : Table (Table V)) (now : Table V) (key n : ℕ) (old part : Table V) (parted : IsParted t) (view : together t ≡ now)
       (number : n ≡ part_of key) (old-is : old ≡ part_at t key) (removed : part ≡ remove old key) where

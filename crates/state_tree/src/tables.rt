@@ -71,6 +71,11 @@ impl<V: Lattice> SharedTable<V> {
         ensures written { OnOk result ((V.nothing value → ⊥) → self.new ≡ map.insert self.old key value) }
         ensures err { OnErr result (self.new ≡ self.old) }
     {
+        if let Some(entries) = &mut self.entries {
+            if let Some(own) = Arc::get_mut(entries) {
+                return own.put(key, value);
+            }
+        }
         let mut own = self.own_entries()?;
         own.put(key, value)?;
         self.entries = Some(Arc::new(self.alloc, own)?);
@@ -82,6 +87,12 @@ impl<V: Lattice> SharedTable<V> {
         ensures ok { OnOk result (self.new ≡ map.remove self.old key) }
         ensures err { OnErr result (self.new ≡ self.old) }
     {
+        if let Some(entries) = &mut self.entries {
+            if let Some(own) = Arc::get_mut(entries) {
+                own.remove(key);
+                return Ok(());
+            }
+        }
         let mut own = self.own_entries()?;
         own.remove(key);
         self.entries = Some(Arc::new(self.alloc, own)?);

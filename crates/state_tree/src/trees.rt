@@ -119,6 +119,21 @@ impl<V: Lattice> Tree<V> {
         self.parts.put(part_of(key), part)
     }
 
+    /// The table with a value at a key: the key has the value, or is absent where the value is nothing. What no other
+    /// table shares is changed in place.
+    pub fn with(self, key: u32, value: V) -> Result<Self, NoMemory>
+        ensures nothing { IfOk result (λ made. V.nothing value → made ≡ map.remove self key) }
+        ensures written { IfOk result (λ made. (V.nothing value → ⊥) → made ≡ map.insert self key value) }
+    {
+        let Tree { alloc, mut parts } = self;
+        let mut part = part_at(alloc, &parts, key)?;
+        // From here on the part is this table's alone, if no other table has it.
+        parts.remove(part_of(key))?;
+        part.put(key, value)?;
+        parts.put(part_of(key), part)?;
+        Ok(Tree { alloc, parts })
+    }
+
     /// Takes the entry at a key away, if there is one. After want of memory the table is as before.
     pub fn remove(&mut self, key: u32) -> Result<(), NoMemory>
         ensures ok { OnOk result (self.new ≡ map.remove self.old key) }

@@ -3,7 +3,7 @@ use Rattle.std.specs.Option.{MatchOption}
 use Rattle.tm_lattice.specs.Tables.{IsPast, IsNext}
 use Rattle.memory_effects.specs.reading.Changes.{change_of, kept_or}
 use Rattle.memory_effects.proofs.Changing.{IsChangedBelow, below_put, below_skip, below_end, below_all}
-use Rattle.memory_effects.proofs.changes.changed_cells.Goals.{in-Some-2+in_ok-put, in_default-2}
+use Rattle.memory_effects.proofs.changes.changed_cells.Goals.{in-Some-2+in_ok-after-2, in_default-2}
 use Rattle.memory_effects.proofs.changes.changed_cells.Goals as goal
 
 pub returns-then-is_behind : goal.returns-then-is_behind
@@ -24,8 +24,8 @@ loop-after-preserved c =
     let entry = c.in-Some.entry.now in
     let next = subst (λ o. MatchOption o (IsPast before from) (λ e. IsNext before from e.0 e.1.now)) c.in-Some.is c.in_ok-cell.ensures in
     subst (λ n. IsChangedBelow change before (n + 1) more) (sym c.from-from-in-Some.ensures) (elim c.match-branch-5.branch [
-      | in-Some-2+in_ok-put w ↦
-          below_put change before from after c.loop-after.invariant cell entry next more w.in-Some-2.changed (w.after-is ∙ w.in_ok-put.ensures.written (λ e. e))
+      | in-Some-2+in_ok-after-2 w ↦
+          below_put change before from after c.loop-after.invariant cell entry next more w.in-Some-2.changed (w.after-is ∙ w.in_ok-after-2.ensures.written (λ e. e))
           (sym (ap (λ o. kept_or o entry) w.in-Some-2.is) ∙ c.in_ok-changed.ensures)
       | in_default-2 w ↦
           below_skip change before from after c.loop-after.invariant cell entry next more w.after-is
