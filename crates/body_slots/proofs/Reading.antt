@@ -20,7 +20,8 @@ use Rattle.body_systems.specs.Systems.{body_of}
 use Rattle.body_fronts.specs.FrontForms.{is_seen}
 use Rattle.body_fronts.specs.laws.Made.{first_true}
 use Rattle.body_slots.specs.Slots.{Slots, SlotSystemOf, IsSlotSystem, sparse_of}
-use Rattle.body_slots.specs.Rows.{Stand, Values, brought_by, put_over, AreThere}
+use Rattle.body_slots.specs.Rows.{Stand, Values, brought_by}
+use Rattle.body_slots.specs.reading.Small.{put_over, AreThere}
 use Rattle.body_fronts.specs.BodySystems.{with_entry}
 use Rattle.std.specs.FinMap.{get, insert}
 use Rattle.table_covers.specs.tm_lattice.Tables.{Table}

@@ -5,3 +5,4 @@ pub mod Seen
 pub mod Parts
 pub mod Held
 pub mod Codes
+pub mod PartRows

@@ -1,11 +1,12 @@
-//! The least table of a body over a store, found by fronts and slots: a cell stands only at the nodes where something may
-//! happen to it. What edges may look at and touch is given, and checked where an edge is applied; where a check does not
-//! pass there is no table, and the body is to be solved otherwise. How a least assignment is found, what an edge does,
-//! and how cells are placed, this crate does not know.
+//! The least table of a body over a store, found by fronts and slots: a cell stands only at the nodes where something
+//! may happen to it. What edges may look at and touch is given, and checked where an edge is applied; where a check
+//! does not pass there is no table, and the body is to be solved otherwise. An edge is applied to a state of the cells
+//! at which it looks alone. How a least assignment is found, what an edge does, and how cells are placed, this crate
+//! does not know.
 //!
 //! In `int x, y; __task(1) void t(void) { x = 1; y = 2; }` the edge of the first store touches the cell of `x`, and the
-//! second that of `y`. So the cell of `x` has slots at node 0 and behind the first store, and the state at the end of the
-//! body has `x` as it stands there.
+//! second that of `y`. So the cell of `x` has slots at node 0 and behind the first store, and the state at the end of
+//! the body has `x` as it stands there.
 #![tactic(auto)]
 
 mod laws;

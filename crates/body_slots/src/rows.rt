@@ -1,7 +1,8 @@
 //! What the constraints of a body read, and what they bring.
-ghost use Rattle.std.specs.Prelude.{◌≡◌, ◌<◌, ◌++◌, ◌∷◌, [], ℕ, true, false, length, option_map, replicate};
+ghost use Rattle.std.specs.Prelude.{◌≡◌, ◌<◌, ◌++◌, ◌∷◌, ◌⊎◌, [], ℕ, true, false, length, option_map, replicate};
 ghost use Rattle.std.specs.Prelude.{IfOk, MatchOption, Some, None, slice_index_or, is_some};
-ghost use Rattle.std.specs.FinMap.{get};
+ghost use Rattle.std.specs.Option.{option_copied};
+ghost use Rattle.std.specs.FinMap.{get, empty};
 ghost use Rattle.cell_placings.specs.CellLists.{is_in};
 ghost use Rattle.cell_placings.specs.OwnerTrees.{kept_in};
 ghost use Rattle.least_assignments.specs.Constraints.{at, AreFitting};
@@ -10,17 +11,16 @@ ghost use Rattle.front_constraints.specs.Systems.{entered, row, flow, slot_at, e
 ghost use Rattle.front_constraints.specs.Rules.{front_constraints, FitsVariable, AllowsRule, seen, is_ready, small_at};
 ghost use Rattle.slot_numbers.specs.Numberings.{numbers_of};
 ghost use Rattle.body_fronts.specs.FrontForms.{FitsFront, FitsCellAt};
-ghost use Rattle.body_fronts.specs.BodySystems.{table_with};
-ghost use Rattle.body_systems.specs.Systems.{body_of};
-ghost use Rattle.program_equations.specs.Systems.{FitsBody};
+ghost use Rattle.body_systems.specs.Systems.{body_of, FitsTemps};
 ghost use Rattle.body_slots.specs.Slots.{sparse_of, PassesRow};
 ghost use Rattle.body_slots.specs.Rows.{Values, brought_by, held_in, state_parts_at, row_parts};
+ghost use Rattle.body_slots.specs.reading.Small.{HasTraced, IsSeenOver, IsPart};
 
 use crate::systems::{SlotSystem, SlotValue};
 use cell_env::{CellState, State, TempState};
 use front_constraints::Standing;
 use pointer_dom::AbsValue;
-use row_checks::is_checked;
+use row_checks::{is_checked, is_traced};
 use state_tree::Tree;
 use std::alloc::Global;
 use tm_lattice::{Keyed, Lattice, NoMemory};
@@ -127,9 +127,12 @@ fn is_there(values: &[Option<SlotValue>], variable: usize) -> bool
     }
 }
 
-// The front that stands at a variable.
-fn front_at(values: &[Option<SlotValue>], variable: usize) -> Option<&Keyed<TempState<AbsValue>>>
-    ensures { option_map (λ front. front.now) result ≡ front_in (at values.now variable) }
+/// The front that stands at a variable.
+pub(crate) fn front_at(
+    values: &[Option<SlotValue>],
+    variable: usize,
+) -> Option<&Keyed<TempState<AbsValue>>>
+    ensures { option_copied result ≡ front_in (at values.now variable) }
 {
     match values.get(variable) {
         Some(Some(value)) => value.front.as_ref(),
@@ -137,9 +140,9 @@ fn front_at(values: &[Option<SlotValue>], variable: usize) -> Option<&Keyed<Temp
     }
 }
 
-// What stands at the cell of a variable.
-fn cell_at(values: &[Option<SlotValue>], variable: usize) -> Option<&CellState<AbsValue>>
-    ensures { option_map (λ cell. cell.now) result ≡ cell_in (at values.now variable) }
+/// What stands at the cell of a variable.
+pub(crate) fn cell_at(values: &[Option<SlotValue>], variable: usize) -> Option<&CellState<AbsValue>>
+    ensures { option_copied result ≡ cell_in (at values.now variable) }
 {
     match values.get(variable) {
         Some(Some(value)) => value.cell.as_ref(),
@@ -173,53 +176,76 @@ impl<'a> SlotSystem<'a> {
         }
     }
 
-    // The cells of the entry, with those at which an edge looks as they stand where they are kept. None where one of
-    // these does not stand there.
-    fn seen_cells(
+    // The cells, with what stands at those at which an edge looks, where they are kept, put over them. None where one
+    // of these does not stand there.
+    fn with_seen(
         &self,
         alloc: Global,
         edge: usize,
         values: &[Option<SlotValue>],
+        before: Tree<CellState<AbsValue>>,
     ) -> Result<Option<Tree<CellState<AbsValue>>>, NoMemory>
         requires { edge < edges (sparse_of self.now) }
-        ensures { (let sys = sparse_of self.now in IfOk result (λ seen_cells. MatchOption seen_cells
+        ensures { (let sys = sparse_of self.now in IfOk result (λ over. MatchOption over
             (is_ready sys edge (seen sys edge (at values.now)) ≡ false)
-            (λ cells. (is_ready sys edge (seen sys edge (at values.now)) ≡ true)
-            × (cells ≡ table_with (seen sys edge (at values.now)) sys.cells)))) }
+            (IsSeenOver self.now edge (at values.now) before))) }
     {
         let slots = self.slots;
         let from = slots.graph.links[edge].from;
         let looked = slots.graph.looked[edge].cells();
-        let entry = self.entry;
-        let mut cells = entry.cells().shared()?;
+        let mut cells = before;
         for cell in looked {
             let number = self.kept_number(from, *cell);
             match cell_at(values, number) {
                 None => return Ok(None),
-                Some(held) => cells.put(*cell as u32, held.copied(alloc)?)?,
+                Some(held) => cells = cells.with(*cell as u32, held.copied(alloc)?)?,
             }
         }
         Ok(Some(cells))
     }
 
-    // The state to which the row of an edge is applied. None where the node that it leaves is not reached, or a cell at
-    // which it looks does not stand where it is kept.
-    fn small_state(
+    // The cells over which those at which an edge looks are put: none where the temporaries are copies of no cells but
+    // those of which they may be, and else those of the entry.
+    fn other_cells(
+        &self,
+        alloc: Global,
+        front: &Keyed<TempState<AbsValue>>,
+    ) -> Result<Tree<CellState<AbsValue>>, NoMemory>
+        ensures { IfOk result (λ cells.
+            ((cells ≡ empty) × HasTraced self.now front.now) ⊎ (cells ≡ self.now.entry.cells)) }
+    {
+        let slots = self.slots;
+        let entry = self.entry;
+        if is_traced(&slots.traces, front) {
+            Ok(Tree::new(alloc))
+        } else {
+            entry.cells().shared()
+        }
+    }
+
+    // Of the state to which the row of an edge is applied a part that is enough for it: the front, and the cells at
+    // which the edge looks. None where the node that the edge leaves is not reached, or a cell at which it looks does
+    // not stand where it is kept.
+    fn small_part(
         &self,
         alloc: Global,
         edge: usize,
         values: &[Option<SlotValue>],
     ) -> Result<Option<State<AbsValue>>, NoMemory>
         requires { edge < edges (sparse_of self.now) }
-        ensures { IfOk result (λ small. small ≡ small_at (sparse_of self.now) edge (at values.now)) }
+        ensures { IfOk result (λ part. MatchOption part (small_at (sparse_of self.now) edge (at values.now) ≡ None)
+            (IsPart self.now edge (at values.now))) }
     {
         let slots = self.slots;
         match front_at(values, slots.graph.links[edge].from) {
             None => Ok(None),
-            Some(front) => match self.seen_cells(alloc, edge, values)? {
-                None => Ok(None),
-                Some(cells) => Ok(Some(State::new(front.copied(alloc)?, cells))),
-            },
+            Some(front) => {
+                let before = self.other_cells(alloc, front)?;
+                match self.with_seen(alloc, edge, values, before)? {
+                    None => Ok(None),
+                    Some(cells) => Ok(Some(State::new(front.copied(alloc)?, cells))),
+                }
+            }
         }
     }
 
@@ -240,9 +266,9 @@ impl<'a> SlotSystem<'a> {
     {
         let slots = self.slots;
         let touched = &slots.graph.touched[edge];
-        match self.small_state(alloc, edge, values)? {
+        match self.small_part(alloc, edge, values)? {
             None => Ok(Some(nothing(alloc, touched.cells().len() + 2)?)),
-            Some(small) => self.row_from(alloc, edge, &small),
+            Some(part) => self.row_from(alloc, edge, &part),
         }
     }
 
@@ -254,14 +280,14 @@ impl<'a> SlotSystem<'a> {
         small: &State<AbsValue>,
     ) -> Result<Option<Vec<Option<SlotValue>>>, NoMemory>
         requires edge { edge < edges (sparse_of self.now) }
-        requires fits { FitsBody (body_of self.now.system) (from (sparse_of self.now) edge) small.now }
+        requires fits { FitsTemps (body_of self.now.system) (from (sparse_of self.now) edge) small.now }
         ensures { IfOk result (λ brought. MatchOption brought (PassesRow self.now edge small.now → ⊥)
             (λ all. PassesRow self.now edge small.now × (all.items ≡ row_parts self.now edge small.now))) }
     {
         let slots = self.slots;
         let body = self.body;
         let touched = &slots.graph.touched[edge];
-        let after = body.applied(alloc, edge, small)?;
+        let after = body.applied_to_part(alloc, edge, small)?;
         let view = body.view_of(edge);
         if !is_checked(
             &view,

@@ -49,9 +49,9 @@ impl Model for BodySlots {
 }
 
 impl BodySlots {
-    /// The slots of a body, by the cells that each copy of its edges may touch and at which it may look, and by what may
-    /// be copied, fresh and pending. None where there is not one set for each copy, the cells cannot be placed so, or one
-    /// of them is not seen by the body.
+    /// The slots of a body, by the cells that each copy of its edges may touch and at which it may look, and by what
+    /// may be copied, fresh and pending. None where there is not one set for each copy, the cells cannot be placed so,
+    /// or one of them is not seen by the body.
     pub fn new(
         alloc: Global,
         body: &BodyOverStore,

@@ -5,7 +5,6 @@ ghost use Rattle.sparse_rows.specs.StateParts.{states, state_parts};
 ghost use Rattle.sparse_rows.specs.Traces.{IsTraced};
 ghost use Rattle.sparse_tables.specs.Fronts.{IsExpanded};
 ghost use Rattle.least_assignments.specs.Constraints.{at as value_at, AreFitting};
-ghost use Rattle.front_constraints.specs.Standings.{front_in, cell_in};
 ghost use Rattle.front_constraints.specs.Rules.{front_constraints, FitsVariable, fronts_of};
 ghost use Rattle.body_fronts.specs.FrontForms.{FitsFront, FitsCellAt, is_seen};
 ghost use Rattle.table_covers.specs.Systems.{to_of};
@@ -15,8 +14,10 @@ ghost use Rattle.body_systems.specs.Systems.{body_of, system_of};
 ghost use Rattle.row_checks.specs.TracedCells.{may_copy, may_be_fresh, may_pend};
 ghost use Rattle.body_slots.specs.Placed.{seen_placing};
 ghost use Rattle.body_slots.specs.Slots.{sparse_of};
-ghost use Rattle.body_slots.specs.reading.Tables.{kept_cell, AreKept, IsPut, IsBefore, IsMadeAt, IsEarlier, state_before};
+ghost use Rattle.body_slots.specs.reading.Tables.{kept_cell, AreKept, IsPut, IsBefore, IsMadeAt, IsEarlier};
+ghost use Rattle.body_slots.specs.reading.Tables.{state_before};
 
+use crate::rows::{cell_at, front_at};
 use crate::systems::{SlotSystem, SlotValue};
 use body_systems::BodyState;
 use cell_env::{CellState, State, TempState};
@@ -27,11 +28,11 @@ use state_tree::Tree;
 use std::alloc::Global;
 use tm_lattice::{Keyed, Lattice, NoMemory};
 
-/// The table of an assignment: at each node with a front the state of the front and of what stands at each cell where it
-/// is kept. None where something is missing, or has a copy, a fresh cell or a pending mutex that it may not have.
+/// The table of an assignment: at each node with a front the state of the front and of what stands at each cell where
+/// it is kept. None where something is missing, or has a copy, a fresh cell or a pending mutex that it may not have.
 ///
-/// A state shares its cells with that of a node before it from which an edge comes, but for those that the node owns. It
-/// takes time linear in the slots, times a logarithm, and in all cells at a node for which there is no such edge.
+/// A state shares its cells with that of a node before it from which an edge comes, but for those that the node owns.
+/// It takes time linear in the slots, times a logarithm, and in all cells at a node for which there is no such edge.
 pub(crate) fn table_of(
     alloc: Global,
     system: &SlotSystem,
@@ -94,26 +95,6 @@ fn state_before(table: &[Option<BodyState>], earlier: Option<usize>) -> Option<&
             Some(Some(state)) => Some(state),
             _ => None,
         },
-    }
-}
-
-// The front that stands at a node.
-fn front_at(values: &[Option<SlotValue>], node: usize) -> Option<&Keyed<TempState<AbsValue>>>
-    ensures { option_copied result ≡ front_in (value_at values.now node) }
-{
-    match values.get(node) {
-        Some(Some(value)) => value.front.as_ref(),
-        _ => None,
-    }
-}
-
-// What stands at a variable of a cell.
-fn cell_at(values: &[Option<SlotValue>], variable: usize) -> Option<&CellState<AbsValue>>
-    ensures { option_copied result ≡ cell_in (value_at values.now variable) }
-{
-    match values.get(variable) {
-        Some(Some(value)) => value.cell.as_ref(),
-        _ => None,
     }
 }
 
@@ -187,39 +168,41 @@ fn put_cells(
     ensures { IfOk result (λ found. IfSome found (AreKept system.now (value_at values.now) node [])) }
 {
     for cell in list {
-        if !put_cell(alloc, system, values, node, *cell, &mut cells)? {
-            return Ok(None);
+        match put_cell(alloc, system, values, node, *cell, cells)? {
+            None => return Ok(None),
+            Some(more) => cells = more,
         }
     }
     Ok(Some(cells))
 }
 
-// Puts what stands at a cell where it is kept for a node. False where it is missing or is what it may not be; a cell that
-// the body does not see is left out.
+// The cells with what stands at one where it is kept for a node. None where it is missing or is what it may not be; a
+// cell that the body does not see is left out.
 fn put_cell(
     alloc: Global,
     system: &SlotSystem,
     values: &[Option<SlotValue>],
     node: usize,
     cell: usize,
-    cells: &mut Tree<CellState<AbsValue>>,
-) -> Result<bool, NoMemory>
+    cells: Tree<CellState<AbsValue>>,
+) -> Result<Option<Tree<CellState<AbsValue>>>, NoMemory>
     requires { node < system.now.slots.graph.nodes }
-    ensures { IfOk result (λ is_put. IsTrue is_put
-        → IsPut system.now (value_at values.now) node cell cells.old cells.new) }
+    ensures { IfOk result (λ found. IfSome found (IsPut system.now (value_at values.now) node cell cells)) }
 {
     let slots = system.slots;
     let Some(state) = kept_cell(system, values, node, cell) else {
-        return Ok(!slots.cells.has(cell));
+        if slots.cells.has(cell) {
+            return Ok(None);
+        }
+        return Ok(Some(cells));
     };
     let Ok(key) = u32::try_from(cell) else {
-        return Ok(false);
+        return Ok(None);
     };
     if !is_cell_traced(&slots.traces, key, state) {
-        return Ok(false);
+        return Ok(None);
     }
-    cells.put(key, state.copied(alloc)?)?;
-    Ok(true)
+    Ok(Some(cells.with(key, state.copied(alloc)?)?))
 }
 
 // What stands at a cell where it is kept for a node.

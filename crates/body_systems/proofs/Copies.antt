@@ -3,6 +3,7 @@ use Rattle.std.proofs.Common.{◌≡◌, refl, sym, ap, subst, ◌∙◌, ℕ, �
 use Rattle.std.specs.Prelude.{false, get_or, map, is_none}
 use Rattle.std.proofs.lemmas.Bool.{true≢false}
 use Rattle.std.proofs.lemmas.List.{length-map, get_or-map, get_or_default}
+use Rattle.std.specs.FinMap.{get}
 use Rattle.tm_laid.specs.declared.layouts.Laid.{Laid}
 use Rattle.tm_laid.specs.Layouts.{laid_tree}
 use Rattle.flow_graph.specs.declared.operations.Operation.{Operation}
@@ -26,12 +27,12 @@ use Rattle.task_equations.specs.Equations.{tests_pointer, action_along, around_a
 use Rattle.task_equations.specs.Equations.{after_along, link_of}
 use Rattle.task_equations.specs.Equations.{added_along}
 use Rattle.task_equations.specs.Premises.{IsCopyOf}
-use Rattle.task_equations.specs.laws.Extents.{node_typed}
+use Rattle.task_equations.specs.laws.Extents.{temp_typed}
 use Rattle.program_equations.specs.Systems.{FitsBody}
 use Rattle.program_equations.specs.laws.ReadAlike.{action_read}
-use Rattle.body_systems.specs.Systems.{SystemOf, body_of, contributed_by, IsSystemOf}
+use Rattle.body_systems.specs.Systems.{SystemOf, body_of, contributed_by, IsSystemOf, FitsTemps}
 use Rattle.body_systems.specs.Views.{IsViewOf}
-use Rattle.body_systems.specs.laws.Applicable.{place_operable}
+use Rattle.body_systems.specs.laws.Applicable.{temps_operable}
 
 module _ (v : SystemOf) (c : EdgeCopy) (view : EdgeView) (is : IsViewOf v c view) where
   abbrev body : Body
@@ -66,13 +67,13 @@ module _ (v : SystemOf) (c : EdgeCopy) (view : EdgeView) (is : IsViewOf v c view
 
   -- ## When a copy may be applied
 
-  module _ (keeps : IsSystemOf v) (copy : IsCopyOf body c) (s : State) (fits : FitsBody body c.from s) where
+  module _ (keeps : IsSystemOf v) (copy : IsCopyOf body c) (s : State) (fits : FitsTemps body c.from s) where
     operable : (let e = edge_of body c in IsOperable e.op s)
     operable =
         let e = edge_of body c in
         let q = node_at body c.from in
-        place_operable body.laid body.task keeps.sorts (live_at body q.place) s
-        (node_typed body keeps.sorts keeps.body c.from s fits) e.op
+        temps_operable body.laid keeps.sorts (live_at body q.place) s
+        (λ t. temp_typed body keeps.sorts keeps.body (live_at body q.place) t (get s.temps t) (fits t)) e.op
         (keeps.body.operations c.edge copy.edge) (keeps.tests c.edge copy.edge)
 
     pub copy_applicable : IsApplicable view s v.store
@@ -115,7 +116,7 @@ module _ (v : SystemOf) (keeps : IsSystemOf v) (k : ℕ) (lt : k < length (map l
   pub number_applicable : FitsBody (body_of v) (from_of (map link_of copies) k) s → IsApplicable view s v.store
   number_applicable fits =
       copy_applicable v c view is keeps (subst (IsCopyOf (body_of v)) (sym same) (keeps.body.copies k within)) s
-      (subst (λ n. FitsBody (body_of v) n s) leaves fits)
+      (let h = subst (λ n. FitsBody (body_of v) n s) leaves fits in h.temps)
 
   module _ (given : After) (gives : IsAfter (around_of view) (action_at view) s v.store given) where
     pub number_added : given.added ≡ contributed_by v k s

@@ -1,5 +1,6 @@
 -- The equations of a body as the code holds them.
 use Rattle.std.specs.Prelude.{◌≡◌, ℕ, ◌<◌, ◌≤◌, ℤ, List, length, map, get_or, Option, IfSome}
+use Rattle.std.specs.FinMap.{get}
 use Rattle.tm_laid.specs.tm_typed.TypedFiles.{typed_file_tree}
 use Rattle.tm_laid.specs.declared.layouts.Laid.{Laid}
 use Rattle.tm_laid.specs.Layouts.{LaidTree, laid_tree}
@@ -9,9 +10,11 @@ use Rattle.mutex_configs.specs.declared.nodes.ConfiguredGraph.{ConfiguredGraph}
 use Rattle.interfere_set.specs.Stores.{Interferences}
 use Rattle.edge_actions.specs.transfer_rows.StateForms.{State}
 use Rattle.temporary_types.specs.Sorts.{Sort}
-use Rattle.task_equations.specs.state_fits.Fits.{FitsStore}
+use Rattle.task_equations.specs.temporary_extents.Extents.{extents_in}
+use Rattle.task_equations.specs.state_fits.Fits.{FitsStore, FitsTemp}
+use Rattle.task_equations.specs.state_fits.Kinds.{InExtents}
 use Rattle.table_covers.specs.Systems.{System}
-use Rattle.task_equations.specs.Bodies.{Body, no_edge, copy_at}
+use Rattle.task_equations.specs.Bodies.{Body, no_edge, copy_at, node_at, live_at}
 use Rattle.task_equations.specs.Equations.{equations_of, link_of, added_along}
 use Rattle.task_equations.specs.Premises.{IsBody}
 use Rattle.program_equations.specs.Readings.{read_layout}
@@ -64,6 +67,12 @@ body_with laid task priorities marks g c f = record {
 
 abbrev pub body_of : SystemOf → Body
 body_of v = body_with (laid_tree v.laid) v.task v.priorities v.marks v.graph v.configured v.facts
+
+-- each temporary that is live at the place of a node has a value within its extent in the state, and no other has any;
+-- what the state says of cells does not count
+abbrev pub FitsTemps : Body → ℕ → State → Type 0
+FitsTemps b n s = (t : ℕ)
+    → (let q = node_at b n in FitsTemp (InExtents b.laid (extents_in b.edges)) (live_at b q.place) t (get s.temps t))
 
 -- the equations of the body
 abbrev pub system_of : SystemOf → System State

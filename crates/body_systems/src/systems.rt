@@ -6,7 +6,7 @@ ghost use Rattle.task_equations.specs.Bodies.{copy_at};
 ghost use Rattle.task_equations.specs.Equations.{cells_at, around_along, action_along};
 ghost use Rattle.task_equations.specs.Premises.{IsCopyOf};
 ghost use Rattle.program_equations.specs.Systems.{FitsBody};
-ghost use Rattle.body_systems.specs.Systems.{SystemOf, system_with, body_of, IsSystemOf};
+ghost use Rattle.body_systems.specs.Systems.{SystemOf, system_with, body_of, IsSystemOf, FitsTemps};
 ghost use Rattle.body_systems.specs.Views.{IsViewOf};
 
 use crate::facts::BodyFacts;
@@ -107,6 +107,22 @@ impl<'a> BodyOverStore<'a> {
     ) -> Result<After, NoMemory>
         requires copy { copy < length self.now.configured.copies.items }
         requires fits { (let b = body_of self.now in let c = copy_at b copy in FitsBody b c.from state.now) }
+        ensures { IfOk result (λ after. (let b = body_of self.now in let c = copy_at b copy in
+            IsAfter (around_along b c) (action_along b c) state.now self.now.store after)) }
+    {
+        self.applied_to_part(alloc, copy, state)
+    }
+
+    /// The same for a state that says something of any cells, be they all or none: the operation finds nothing at the
+    /// others. Condition: there is such a copy, and the temporaries of the state fit the node that it leaves.
+    pub fn applied_to_part(
+        &self,
+        alloc: Global,
+        copy: usize,
+        state: &State<AbsValue>,
+    ) -> Result<After, NoMemory>
+        requires copy { copy < length self.now.configured.copies.items }
+        requires fits { (let b = body_of self.now in let c = copy_at b copy in FitsTemps b c.from state.now) }
         ensures { IfOk result (λ after. (let b = body_of self.now in let c = copy_at b copy in
             IsAfter (around_along b c) (action_along b c) state.now self.now.store after)) }
     {

@@ -1,7 +1,7 @@
 -- What is computed of a body is what is to be chosen for it: its constraints are lawful, and the table of their least
 -- assignment is the least solution of its equations.
-use Rattle.std.specs.Prelude.{◌≡◌, ℕ, ◌<◌, Bool, true, false, ◌||◌, ◌==◌, not, cond, List, length, map, Option, Some, None, IfSome}
-use Rattle.std.specs.Prelude.{refl}
+use Rattle.std.specs.Prelude.{◌≡◌, ℕ, ◌<◌, Bool, true, false, ◌||◌, ◌==◌, not, cond, List, length, map, Option, Some}
+use Rattle.std.specs.Prelude.{None, IfSome, refl}
 use Rattle.std.proofs.Common.{sym, ap, subst, ◌∙◌}
 use Rattle.std.proofs.lemmas.Bool.{true≢false}
 use Rattle.std.specs.FinMap.{get}
@@ -153,7 +153,8 @@ module _ (v : SlotSystemOf) (is : IsSlotSystem v) where
   pub slots_lawful : AreLawful (HasParts fronts.is_value cells.is_value) (IsStandingBelow fronts.leq cells.leq)
       (joined_standing fronts.joined cells.joined) Fits (AllowsSlots v) (front_constraints (sparse_of v))
   slots_lawful =
-      are_lawful states fronts cells (FitsBody b) (FitsFront b) (FitsCellAt b) (sparse_of v) slots_are_sparse (PassesRow v)
+      are_lawful states fronts cells (FitsBody b) (FitsFront b) (FitsCellAt b) (sparse_of v) slots_are_sparse
+      (PassesRow v)
 
   -- ## The solution
 
@@ -169,14 +170,15 @@ module _ (v : SlotSystemOf) (is : IsSlotSystem v) where
   abbrev Checks : ℕ → State → Type 0
   Checks = ChecksEdge b w.store (chosen_of b v.entry s) Copies Fresh Pending
 
-  passes_checks : (e : ℕ) (d : State) → PassesRow v e d → Checks e d
+  pub passes_checks : (e : ℕ) (d : State) → PassesRow v e d → Checks e d
   passes_checks e d h = (let c = copy_at b e in
       let q = node_at b c.from in
       let edge = edge_of b c in
-      passes_is_checked b.laid w.task q.held (cells_at s.graph.touched.items e) (cells_at s.graph.looked.items e) s.traces
-      (around_along b c) refl refl (λ x. refl) (tests_pointer b.pointers edge.op) c.answer edge.op d w.store
-      (passes_alike (laid_tree w.laid) b.laid refl refl w.task q.held c.answer edge.op (cells_at s.graph.touched.items e)
-      (cells_at s.graph.looked.items e) s.traces (targets_of (action_along b c) d) w.store ∙ h))
+      passes_is_checked b.laid w.task q.held (cells_at s.graph.touched.items e) (cells_at s.graph.looked.items e)
+      s.traces (around_along b c) refl refl (λ x. refl) (tests_pointer b.pointers edge.op) c.answer edge.op d w.store
+      (passes_alike (laid_tree w.laid) b.laid refl refl w.task q.held c.answer edge.op
+      (cells_at s.graph.touched.items e) (cells_at s.graph.looked.items e) s.traces
+      (targets_of (action_along b c) d) w.store ∙ h))
 
   passes_some : (e : ℕ) (y : Option State) → IfSome y (PassesRow v e) → IfSome y (Checks e)
   passes_some e None h = tt
@@ -202,6 +204,6 @@ module _ (v : SlotSystemOf) (is : IsSlotSystem v) where
       slots_are_chosen Copies Fresh Pending a
       (λ j lt. checks_rule ((numbers_of s.numbering).rule j) a (allowed j lt)) table expanded looked
       (subst (λ y. IfSome y (IsTraced Copies Fresh Pending)) (sym is.begins) entry_traced)
-      (least_alike (standings fronts cells) (standings fronts cells) Fits (AllowsSlots v) (λ j. Allows (sparse_of v) Checks j)
-      (front_constraints (sparse_of v)) (λ x y h. h) (λ x y h. h) a least)
+      (least_alike (standings fronts cells) (standings fronts cells) Fits (AllowsSlots v)
+      (λ j. Allows (sparse_of v) Checks j) (front_constraints (sparse_of v)) (λ x y h. h) (λ x y h. h) a least)
       traced)

@@ -77,11 +77,12 @@ module _ (v : SlotSystemOf) (is : IsSlotSystem v) where
   not_rounded n x lt h u = sym (λ i. record {
     front = same_front u.front i;
     cell = same_cell (rounded_where b.marks (rounded_cells b n) x)
-        (round_none (rounded_cells b n) x (sym (is.slots.rounded n x (subst (λ m. n < m) is.slots.nodes lt)) ∙ h)) u.cell i;
+        (round_none (rounded_cells b n) x (sym (is.slots.rounded n x (subst (λ m. n < m) is.slots.nodes lt)) ∙ h))
+        u.cell i;
   })
 
-  pub is_rounded : (n x : ℕ) → n < s.graph.nodes → is_in (cells_at s.graph.rounded.items n) x ≡ true → (f : Option (Table Temp))
-      (c d : Cell) → d ≡ rounded_cell (rounded_values b.marks) c
+  pub is_rounded : (n x : ℕ) → n < s.graph.nodes → is_in (cells_at s.graph.rounded.items n) x ≡ true
+      → (f : Option (Table Temp)) (c d : Cell) → d ≡ rounded_cell (rounded_values b.marks) c
       → record { front = f; cell = Some d }
       ≡ changed_standing (λ g. g) (rounded_where b.marks (rounded_cells b n) x) (record { front = f; cell = Some c })
   is_rounded n x lt h f c d same = λ i. record {
@@ -92,7 +93,8 @@ module _ (v : SlotSystemOf) (is : IsSlotSystem v) where
 
   -- ## The entry
 
-  pub entered_is : (a : Values) → brought_by v entered a ≡ Some (fronted (let t = v.entry in t.temps)) ∷ held_in v.entry s.cells
+  pub entered_is : (a : Values)
+      → brought_by v entered a ≡ Some (fronted (let t = v.entry in t.temps)) ∷ held_in v.entry s.cells
   entered_is a =
       ap (λ y. map (part_of (sparse_of v) y) (targets_of (sparse_of v) entered)) is.begins
       ∙ ap (λ xs. Some (fronted (let t = v.entry in t.temps)) ∷ xs)

@@ -99,5 +99,5 @@ module _ (v : SlotSystemOf) (e : ℕ) (d : State) where
       → targets ≡ reached (action_along (body_of w) copy) d → store ≡ w.store
       → passes view may_touch may_look traces targets store ≡ row_passes v e d
   passes_here view is may_touch may_look targets traces store t l r g o =
-      λ i. passes_of (laid_tree (is.laid i)) (is.task i) (is.held i) (is.answer i) (is.operation i) (t i) (l i) (r i) (g i)
-      (o i)
+      λ i. passes_of (laid_tree (is.laid i)) (is.task i) (is.held i) (is.answer i) (is.operation i) (t i) (l i) (r i)
+      (g i) (o i)

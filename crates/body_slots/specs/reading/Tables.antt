@@ -63,8 +63,8 @@ module _ (v : SlotSystemOf) where
     abbrev pub kept_cell : ℕ → ℕ → Option Cell
     kept_cell n x = (let f = stood in f.slot_of (place.kept_at n x) x)
 
-    -- The cells are what stands where they are kept for the node, but for the rest, which is still to be put; those that
-    -- the body does not see are not there, and each is what it may be.
+    -- The cells are what stands where they are kept for the node, but for the rest, which is still to be put; those
+    -- that the body does not see are not there, and each is what it may be.
     pub record AreKept (n : ℕ) (rest : List ℕ) (cells : Table Cell) : Type 0 where
       pub given : (x : ℕ) → is_in rest x ≡ false → get cells x ≡ kept_cell n x
       pub there : (x : ℕ) → is_in rest x ≡ false → is_seen b x ≡ true → IsThere (get cells x)

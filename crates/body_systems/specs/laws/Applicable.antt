@@ -24,7 +24,7 @@ use Rattle.task_equations.specs.typed_values.laws.TypeLaws.{none_of_type}
 use Rattle.temporary_types.specs.Sorts.{Sort, numbers, pointers, IsOfSort, Holds, HoldsNumbers}
 use Rattle.temporary_types.specs.Sorts.{HoldsRight, FitsSorts, types_of}
 use Rattle.task_equations.specs.state_fits.Kinds.{OfTypes}
-use Rattle.task_equations.specs.state_fits.Fits.{FitsTemp, FitsPlace}
+use Rattle.task_equations.specs.state_fits.Fits.{FitsTemp}
 use Rattle.task_equations.specs.state_fits.laws.Exact.{wider_type, has_type}
 use Rattle.program_equations.specs.Programs.{IsTested}
 
@@ -116,14 +116,14 @@ module _ (laid : LaidTree) (sorts : List Sort) (s : State)
 
 -- ## States
 
-module _ (laid : LaidTree) (task : ℕ) (sorts : List Sort) (live : List ℕ) (s : State)
-    (fits : FitsPlace laid task (OfTypes laid (types_of sorts)) live s) where
+module _ (laid : LaidTree) (sorts : List Sort) (live : List ℕ) (s : State)
+    (fits : (t : ℕ) → FitsTemp (OfTypes laid (types_of sorts)) live t (get s.temps t)) where
   typed_at : (t : ℕ) (e : Option Temp) → FitsTemp (OfTypes laid (types_of sorts)) live t e
       → IsOfType laid (types_of sorts t) (temp_value e)
   typed_at t None h = none_of_type laid (types_of sorts t)
   typed_at t (Some e) h = h.1
 
   -- what the operation uses has values that it is made for
-  pub place_operable : (op : Operation) → FitsSorts laid sorts op → IsTested op → IsOperable op s
-  place_operable op h k =
-      operable laid sorts s (λ t. typed_at t (get s.temps t) (fits.temps t)) op h k
+  pub temps_operable : (op : Operation) → FitsSorts laid sorts op → IsTested op → IsOperable op s
+  temps_operable op h k =
+      operable laid sorts s (λ t. typed_at t (get s.temps t) (fits t)) op h k

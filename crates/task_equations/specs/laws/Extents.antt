@@ -45,7 +45,7 @@ module _ (b : Body) (sorts : List Sort) (is : IsBody b sorts) where
       closed_by e.op (given e.op)
       (λ t q. closed b.laid sorts b.edges all_fit is.settled e (among_at b.edges k no_edge lt) t q)
 
-  temp_typed : (live : List ℕ) (t : ℕ) (a : Option Temp) → FitsTemp (InExtents b.laid (extents_in b.edges)) live t a
+  pub temp_typed : (live : List ℕ) (t : ℕ) (a : Option Temp) → FitsTemp (InExtents b.laid (extents_in b.edges)) live t a
       → FitsTemp (OfTypes b.laid (types_of sorts)) live t a
   temp_typed live t None h = h
   temp_typed live t (Some e) h = (h.0, in_sorts t e.value h.1)

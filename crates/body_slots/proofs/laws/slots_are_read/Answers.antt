@@ -1,18 +1,12 @@
-use Rattle.body_slots.specs.laws.Seen.{seen_table, ready_where, not_ready_where}
+use Rattle.body_slots.specs.laws.PartRows.{alike_rows}
 use Rattle.body_slots.specs.laws.Parts.{brought_none, brought_some, row_none, row_some}
 use Rattle.body_slots.specs.laws.Held.{entered_is}
 use Rattle.std.proofs.Common.{refl}
 use Rattle.std.specs.Prelude.{None}
 use Rattle.body_slots.proofs.laws.slots_are_read.Goals as goal
 
-pub returns-clause-seen : goal.returns-clause-seen
-returns-clause-seen c = seen_table
-
-pub returns-clause-ready : goal.returns-clause-ready
-returns-clause-ready c = ready_where
-
-pub returns-clause-unready : goal.returns-clause-unready
-returns-clause-unready c = not_ready_where
+pub returns-clause-alike : goal.returns-clause-alike
+returns-clause-alike c = λ v is e lt s part fits traced passes agree. alike_rows v e is lt s part fits traced passes agree
 
 pub returns-clause-entered : goal.returns-clause-entered
 returns-clause-entered c = entered_is

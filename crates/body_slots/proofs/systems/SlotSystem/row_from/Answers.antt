@@ -3,7 +3,7 @@ use Rattle.std.specs.Prelude.{◌+◌, is_some, replicate}
 use Rattle.std.proofs.lemmas.Bool.{true≢false}
 use Rattle.std.proofs.lemmas.List.{length-map}
 use Rattle.task_equations.specs.Equations.{link_of}
-use Rattle.body_systems.specs.Systems.{SystemOf, body_of}
+use Rattle.body_systems.specs.Systems.{SystemOf, body_of, FitsTemps}
 use Rattle.body_slots.specs.Slots.{Slots, SlotSystemOf, IsSlotSystem, sparse_of}
 use Rattle.std.proofs.lemmas.List.{get_or_default}
 use Rattle.edge_actions.specs.transfer_rows.Rows.{after as after_row}
@@ -14,11 +14,20 @@ use Rattle.task_equations.specs.Bodies.{copy_at, no_copy}
 use Rattle.task_equations.specs.Equations.{around_along, action_along, led}
 use Rattle.body_systems.specs.Views.{IsViewOf}
 use Rattle.body_slots.specs.Rows.{state_parts_at}
-use Rattle.body_slots.specs.laws.Parts.{passes_here, row_some, row_none}
+use Rattle.body_slots.specs.laws.Parts.{passes_here, row_some, row_none, leaves}
 use Rattle.body_slots.proofs.Reading.{set_at, touched_small, led_there, led_none, led_not}
 use Rattle.body_slots.proofs.systems.SlotSystem.row_from.Goals as goal
 use Rattle.body_slots.proofs.systems.SlotSystem.row_from.Goals.{in_default-via-in-Some+else-leads}
 use Rattle.body_slots.proofs.systems.SlotSystem.row_from.Goals.{in_default-via-in_default}
+
+pub applied_to_part-requires-clause-fits : goal.applied_to_part-requires-clause-fits
+applied_to_part-requires-clause-fits c =
+    let v = c.args.self.now in
+    let b = body_of v.system in
+    let w-is = ap (λ (u : SlotSystemOf). u.system) c.self.view_is in
+    let small = c.args.small.now in
+    subst (λ (w : SystemOf). (let x = body_of w in let d = copy_at x c.args.edge in FitsTemps x d.from small)) (sym w-is)
+    (subst (λ n. FitsTemps b n small) (leaves v c.args.edge c.requires.edge) c.requires.fits)
 
 pub led_to-requires : goal.led_to-requires
 led_to-requires c =

@@ -9,10 +9,9 @@ use Rattle.mutex_configs.specs.declared.nodes.EdgeCopy.{EdgeCopy}
 use Rattle.task_equations.specs.Bodies.{no_copy, copy_at}
 use Rattle.task_equations.specs.Equations.{action_along, around_along}
 use Rattle.task_equations.specs.Premises.{IsCopyOf}
-use Rattle.program_equations.specs.Systems.{FitsBody}
-use Rattle.body_systems.specs.Systems.{SystemOf, body_of, IsSystemOf}
+use Rattle.body_systems.specs.Systems.{SystemOf, body_of, IsSystemOf, FitsTemps}
 use Rattle.body_systems.proofs.Copies.{copy_applicable, shown_after}
-use Rattle.body_systems.proofs.systems.BodyOverStore.applied.Goals as goal
+use Rattle.body_systems.proofs.systems.BodyOverStore.applied_to_part.Goals as goal
 
 pub view-requires : goal.view-requires
 view-requires c =
@@ -35,7 +34,7 @@ apply-requires c =
     subst (λ (w : SystemOf). IsApplicable c.view.result c.args.state.now w.store) (sym c.self.view_is)
     (copy_applicable v copy c.view.result c.view.ensures keeps
     (subst (IsCopyOf (body_of v)) (sym same) (keeps.body.copies c.args.copy c.requires.copy)) c.args.state.now
-    (subst (λ (d : EdgeCopy). FitsBody (body_of v) d.from c.args.state.now) (sym same) c.requires.fits))
+    (subst (λ (d : EdgeCopy). FitsTemps (body_of v) d.from c.args.state.now) (sym same) c.requires.fits))
 
 pub returns : goal.returns
 returns c =

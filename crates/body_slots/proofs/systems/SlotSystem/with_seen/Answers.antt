@@ -3,6 +3,8 @@ use Rattle.std.specs.Prelude.{◌+◌}
 use Rattle.std.proofs.lemmas.List.{length-map}
 use Rattle.cell_placings.specs.CellLists.{is_in, cells_at}
 use Rattle.cell_placings.specs.OwnerTrees.{kept_in}
+use Rattle.table_covers.specs.tm_lattice.Tables.{Table}
+use Rattle.edge_actions.specs.transfer_rows.StateForms.{Cell}
 use Rattle.task_equations.specs.Equations.{link_of}
 use Rattle.least_assignments.specs.Constraints.{at}
 use Rattle.front_constraints.specs.Systems.{slot_at}
@@ -10,10 +12,10 @@ use Rattle.front_constraints.specs.Rules.{seen_at}
 use Rattle.slot_numbers.specs.Numberings.{numbers_of}
 use Rattle.body_systems.specs.Systems.{body_of}
 use Rattle.body_slots.specs.Slots.{Slots, SlotSystemOf, IsSlotSystem, sparse_of}
-use Rattle.body_slots.specs.Rows.{put_over, AreThere}
-use Rattle.body_slots.specs.laws.Seen.{seen_table, ready_where, not_ready_where}
+use Rattle.body_slots.specs.reading.Small.{put_over, AreThere}
+use Rattle.body_slots.specs.laws.Seen.{not_ready_where}
 use Rattle.body_slots.proofs.Reading.{set_at, link_from, looked_in, looked_small, looked_seen, seen_at_is, put_next, there_next}
-use Rattle.body_slots.proofs.systems.SlotSystem.seen_cells.Goals as goal
+use Rattle.body_slots.proofs.systems.SlotSystem.with_seen.Goals as goal
 
 pub kept_number-number-requires-clause-cell : goal.kept_number-number-requires-clause-cell
 kept_number-number-requires-clause-cell c =
@@ -95,13 +97,14 @@ loop-cell-preserved c =
     let sys = sparse_of v in
     let value = c.in_ok-copied-in-Some.ensures in
     let there = sym stands ∙ sym c.in-Some.ensures ∙ ap Some (sym value) in
-    let next = put_next (seen_at sys c.args.edge (at c.args.values.now)) (let t = v.entry in t.cells) c.loop-cell.cells
+    let next = put_next (seen_at sys c.args.edge (at c.args.values.now)) c.args.before c.loop-cell.cells
     (cells_at s.graph.looked.items c.args.edge) i c.in_ok-copied-in-Some.field-0 c.loop-cell.invariant.0 there in
     let one : suc i ≡ i + 1 = omega arith in
-    subst (λ m. (c.put.new.self ≡ put_over (seen_at sys c.args.edge (at c.args.values.now)) (let t = v.entry in t.cells)
+    subst (λ m. (c.in_ok-cells-in-Some.cells ≡ put_over (seen_at sys c.args.edge (at c.args.values.now)) c.args.before
     (cells_at s.graph.looked.items c.args.edge) m)
     × AreThere (seen_at sys c.args.edge (at c.args.values.now)) (cells_at s.graph.looked.items c.args.edge) m) one (
-      c.in_ok-put-in-Some.ensures.written (λ n. n) ∙ ap (λ x. Rattle.std.specs.FinMap.insert c.loop-cell.cells x
+      c.in_ok-cells-in-Some.ensures.written (λ n. n) ∙ ap (λ (t : Table Cell). Rattle.std.specs.FinMap.insert t (get_or c.cells-looked.result.now i 0)
+          c.in_ok-copied-in-Some.field-0) c.cells-in-Some.view_is ∙ ap (λ x. Rattle.std.specs.FinMap.insert c.loop-cell.cells x
           c.in_ok-copied-in-Some.field-0) key ∙ next,
       there_next (seen_at sys c.args.edge (at c.args.values.now)) (cells_at s.graph.looked.items c.args.edge) i
           c.in_ok-copied-in-Some.field-0 c.loop-cell.invariant.1 there,
@@ -125,9 +128,9 @@ returns c =
     let count : c.loop-cell.cell-index ≡ length (cells_at s.graph.looked.items c.args.edge) =
     all ∙ ap (λ (xs : List ℕ). length xs) list in
     let there = subst (λ n. AreThere (seen_at sys c.args.edge a) (cells_at s.graph.looked.items c.args.edge) n) count
-    c.loop-cell.invariant.1 in (
-      ready_where v keeps c.args.edge c.requires a there,
-      c.loop-cell.invariant.0
-          ∙ ap (λ n. put_over (seen_at sys c.args.edge a) (let t = v.entry in t.cells) (cells_at s.graph.looked.items c.args.edge) n)
-          count ∙ seen_table v keeps c.args.edge c.requires a there,
-    )
+    c.loop-cell.invariant.1 in record {
+      there = there;
+      over = c.loop-cell.invariant.0
+          ∙ ap (λ n. put_over (seen_at sys c.args.edge a) c.args.before (cells_at s.graph.looked.items c.args.edge) n)
+          count;
+    }
