@@ -9,10 +9,9 @@ ghost use Rattle.program_solutions.specs.reading.Turns.{turn_after};
 
 use crate::tables::empty_tables;
 use interfere_set::Store;
-use least_tables::Pass;
-use program_reports::{BodyState, Table};
+use program_reports::Table;
 use std::alloc::Global;
-use thread_pass::{Analysis, local, local_from};
+use thread_pass::{Analysis, TaskPass, local, local_from};
 use tm_lattice::{Lattice, NoMemory, Passer};
 
 // What a pass over a store brings.
@@ -44,7 +43,7 @@ fn pass_from(
     task: u32,
     table: Table,
     store: &Store,
-) -> Result<Pass<BodyState, Store>, NoMemory>
+) -> Result<TaskPass, NoMemory>
     requires task { task < analysis.now.tasks }
     requires fits { FitsProgram (program_of analysis.now) store.now }
     requires kept { IsKeptTable (program_of analysis.now) task store.now table.items }
@@ -71,7 +70,7 @@ fn passed(
     requires kept { IsKeptTable (program_of analysis.now) task store.now table.items }
     ensures { IfOk result (IsPassed (program_of analysis.now) task store.now) }
 {
-    let Pass {
+    let TaskPass {
         table,
         added,
         visits: _visits,

@@ -9,7 +9,7 @@ use Rattle.program_equality.specs.program_equations.Programs.{ProgramBodies, bod
 use Rattle.program_equality.specs.program_equations.Systems.{states, FitsBody, FitsProgram, task_system, least_section}
 use Rattle.program_equality.specs.program_equations.Systems.{pass_of}
 use Rattle.thread_pass.specs.Analyses.{IsStartTable}
-use Rattle.thread_pass.specs.Kept.{KeptTable, IsKeptOf, AreVisitsOf, unvisited}
+use Rattle.thread_pass.specs.Kept.{KeptTable, IsKeptOf, AreVisitsOf, AreTold, unvisited}
 
 module _ (p : ProgramBodies) (t : ℕ) (store : Interferences) where
   module _ (kept : KeptTable) (store-fits : FitsProgram p store) (kept-fits : FitsProgram p kept.store)
@@ -39,7 +39,7 @@ module _ (p : ProgramBodies) (t : ℕ) (store : Interferences) where
         pub repeated_over : r.store ≡ store
         repeated_over = ap (λ (k : KeptTable). k.store) is ∙ one_store
 
-        pub repeated_visits : AreVisitsOf p t store r.visits (at kept.table) r.table
+        pub repeated_visits : AreTold r.visits (λ v. AreVisitsOf p t store v (at kept.table) r.table)
         repeated_visits =
-            subst (λ (k : KeptTable). AreVisitsOf p t store k.visits (at kept.table) k.table) (sym is)
+            subst (λ (k : KeptTable). AreTold k.visits (λ v. AreVisitsOf p t store v (at kept.table) k.table)) (sym is)
             (none_visited states (FitsBody (body_at p t)) (task_system p (least_section p) store t) (at kept.table))

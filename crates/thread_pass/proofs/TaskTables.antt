@@ -1,5 +1,5 @@
 -- The table of a task.
-use Rattle.std.specs.Prelude.{◌≡◌, ℕ, ◌<◌, List, length, map, Option, IfSome}
+use Rattle.std.specs.Prelude.{◌≡◌, ℕ, ◌<◌, List, length, map, Option, Some, None, IfSome}
 use Rattle.std.proofs.Common.{sym, ap, subst, ◌∙◌, arith}
 use Rattle.interfere_set.specs.Stores.{Interferences, no_interference, joined_store}
 use Rattle.program_equality.specs.transfer_rows.StateForms.{State}
@@ -79,8 +79,9 @@ module _ (p : ProgramBodies) (is : IsProgram p) where
         → AreVisitsOf p t store visits before table
     visits_are visits before table visited = onward (IsVisitedOver visits before table) visited
 
-    pub first_visits_are : (visits : ℕ) (table : List (Option State))
-        → IsVisited states (FitsBody b) (equations_of b entry given) visits
-        (first_table states (FitsBody b) (equations_of b entry given)) (at table)
-        → AreVisitsOf p t store visits (first_of p t store) table
-    first_visits_are visits table visited = onward (IsVisitedFirst visits table) visited
+    pub first_visits_are : (visits : Option ℕ) (table : List (Option State))
+        → IfSome visits (λ v. IsVisited states (FitsBody b) (equations_of b entry given) v
+        (first_table states (FitsBody b) (equations_of b entry given)) (at table))
+        → IfSome visits (λ v. AreVisitsOf p t store v (first_of p t store) table)
+    first_visits_are None table visited = visited
+    first_visits_are (Some v) table visited = onward (IsVisitedFirst v table) visited

@@ -1,9 +1,10 @@
 -- Programs whose initial section is analysed.
-use Rattle.std.specs.Prelude.{◌≡◌, ℕ, ◌<◌, List, [], length, get_or, Option, None}
+use Rattle.std.specs.Prelude.{◌≡◌, ℕ, ◌<◌, List, [], length, get_or, Option, None, IfSome}
 use Rattle.program_equality.specs.transfer_rows.StateForms.{State}
 use Rattle.interfere_set.specs.Stores.{Interferences, IsStoreBelow}
 use Rattle.mutex_configs.specs.declared.programs.Program.{Program}
 use Rattle.table_covers.specs.Solutions.{at, IsLeastSolution}
+use Rattle.body_slots.specs.Slots.{Slots, AreSlotsOf}
 use Rattle.program_equality.specs.program_equations.Programs.{ProgramBodies, body_at, HasSection}
 use Rattle.program_equality.specs.program_equations.Systems.{states, FitsBody, FitsProgram, section_system, task_system}
 use Rattle.program_equality.specs.program_equations.Systems.{task_entry}
@@ -29,10 +30,18 @@ pub record IsStartTable (p : ProgramBodies) (t : ℕ) (store : Interferences) (t
   pub before_below : IsStoreBelow before store
   pub before_least : IsLeastTable p t before table
 
--- the facts of a program, the least table of its initial section, and the states in which its tasks begin
-pub record IsAnalysis (program : Program) (all : AllFacts) (table states : List (Option State)) : Type 0 where
+-- for each body of a program its slots, or none
+pub record AreProgramSlots (p : ProgramBodies) (slots : List (Option Slots)) : Type 0 where
+  pub count : length slots ≡ length p.bodies
+  pub each : (n : ℕ) → n < length slots → IfSome (get_or slots n None) (AreSlotsOf (body_at p n))
+
+-- the facts of a program, the slots of its bodies, the least table of its initial section, and the states in which its
+-- tasks begin
+pub record IsAnalysis (program : Program) (all : AllFacts) (each : List (Option Slots))
+    (table states : List (Option State)) : Type 0 where
   pub analysable : IsAnalysable program
   pub facts : AreProgramFacts program all
+  pub slots : AreProgramSlots (program_with program all) each
   pub section : IsSectionTable (program_with program all) table
   pub count : (let p = program_with program all in length states ≡ p.tasks)
   pub entries : (t : ℕ) → t < length states → (let p = program_with program all in

@@ -1,5 +1,5 @@
 -- What a pass keeps for the next pass of its task, and how many edges it applied.
-use Rattle.std.specs.Prelude.{◌≡◌, ℕ, List, Option}
+use Rattle.std.specs.Prelude.{◌≡◌, ℕ, List, Option, Some, MatchOption}
 use Rattle.program_equality.specs.transfer_rows.StateForms.{State}
 use Rattle.interfere_set.specs.Stores.{Interferences}
 use Rattle.table_covers.specs.Solutions.{NodeTable, at}
@@ -8,12 +8,13 @@ use Rattle.program_equality.specs.program_equations.Programs.{ProgramBodies, bod
 use Rattle.program_equality.specs.program_equations.Systems.{states, FitsBody, task_system, least_section, pass_of}
 use Rattle.thread_pass.specs.Analyses.{IsLeastTable}
 
--- a table, what its edges contribute, the store over which both were found, and how many edges were applied for it
+-- a table, what its edges contribute, the store over which both were found, and how many edges were applied for it,
+-- where that is told
 pub record KeptTable : Type 0 where
   pub table : List (Option State)
   pub added : Interferences
   pub store : Interferences
-  pub visits : ℕ
+  pub visits : Option ℕ
 
 -- it is the least table of the task over that store, with the pass
 pub record IsKeptOf (p : ProgramBodies) (t : ℕ) (kept : KeptTable) : Type 0 where
@@ -22,12 +23,16 @@ pub record IsKeptOf (p : ProgramBodies) (t : ℕ) (kept : KeptTable) : Type 0 wh
 
 -- the same, where no edge was applied
 abbrev pub unvisited : KeptTable → KeptTable
-unvisited kept = record { table = kept.table; added = kept.added; store = kept.store; visits = 0 }
+unvisited kept = record { table = kept.table; added = kept.added; store = kept.store; visits = Some 0 }
 
 -- so many edges of a task, applied one after another over a store, lead from the one table to the other
 abbrev pub AreVisitsOf : ProgramBodies → ℕ → Interferences → ℕ → NodeTable State → List (Option State) → Type 0
 AreVisitsOf p t store visits before table =
     IsVisited states (FitsBody (body_at p t)) (task_system p (least_section p) store t) visits before (at table)
+
+-- so many are told, and this holds of them
+abbrev pub AreTold : Option ℕ → (ℕ → Type 0) → Type 0
+AreTold visits P = MatchOption visits ⊥ P
 
 -- the table with which the first pass begins: bottom, but for the state in which the task does
 abbrev pub first_of : ProgramBodies → ℕ → Interferences → NodeTable State

@@ -5,16 +5,16 @@ ghost use Rattle.program_equality.specs.program_equations.Programs.{HasSection, 
 ghost use Rattle.program_systems.specs.Analysable.{IsAnalysable};
 ghost use Rattle.program_systems.specs.ReadPrograms.{program_of};
 ghost use Rattle.program_systems.specs.ProgramFacts.{AreProgramFacts, read_with, program_with};
-ghost use Rattle.thread_pass.specs.Analyses.{IsSectionTable};
+ghost use Rattle.thread_pass.specs.Analyses.{AreProgramSlots, IsSectionTable};
 
+use crate::body_tables::{BodyTable, body_table};
+use crate::program_slots::program_slots;
+use body_slots::BodySlots;
 use cell_env::State;
 use interfere_set::Store;
-use least_tables::{Settled, least_table};
 use mutex_configs::Program;
 use pointer_dom::AbsValue;
-use program_systems::{
-    BodyState, BodySystem, ProgramFacts, body_over_store, section_entry, task_entries,
-};
+use program_systems::{BodyState, ProgramFacts, body_over_store, section_entry, task_entries};
 use std::alloc::Global;
 use std::marker::Model;
 use tm_lattice::NoMemory;
@@ -46,12 +46,14 @@ impl SectionTable {
     }
 }
 
-/// A program with what is computed once of it: facts of its bodies, the table of its initial section, and the states in
-/// which its tasks begin.
+/// A program with what is computed once of it: facts of its bodies, their slots, the table of its initial section, and
+/// the states in which its tasks begin.
 #[derive(Drop)]
 pub struct Analysis {
     pub(crate) program: Program,
     pub(crate) facts: ProgramFacts,
+    // For each body its slots, none where its tables are to be found without.
+    pub(crate) slots: Vec<Option<BodySlots>>,
     // Empty where there is no initial section.
     section: SectionTable,
     // For each task the state in which it begins, none where it does not.
@@ -67,7 +69,7 @@ impl Model for Analysis {
 
     ghost view = { λ a. read_with a.program a.facts };
 
-    ghost invariant = { λ a. IsAnalysis a.program a.facts a.section a.entries.items };
+    ghost invariant = { λ a. IsAnalysis a.program a.facts a.slots.items a.section a.entries.items };
 }
 
 // The least table of the initial section; an empty one where there is none.
@@ -75,9 +77,11 @@ fn section_table(
     alloc: Global,
     program: &Program,
     facts: &ProgramFacts,
+    all_slots: &[Option<BodySlots>],
 ) -> Result<SectionTable, NoMemory>
     requires analysable { IsAnalysable program.now }
     requires facts { AreProgramFacts program.now facts.now }
+    requires slots { AreProgramSlots (program_with program.now facts.now) all_slots.now }
     ensures { IfOk result (λ section. IsSectionTable (program_with program.now facts.now) section) }
 {
     let tasks = program.laid.file.tasks.len();
@@ -89,10 +93,11 @@ fn section_table(
     let entry = section_entry(alloc, program)?;
     let nothing = Store::new(alloc);
     let body = body_over_store(program, facts, tasks as u32, Some(&entry), &nothing);
-    let Settled {
+    let slots = all_slots[tasks].as_ref();
+    let BodyTable {
         table,
         visits: _visits,
-    } = least_table(alloc, &BodySystem { body: &body })?;
+    } = body_table(alloc, &body, slots)?;
     Ok(SectionTable { states: table })
 }
 
@@ -104,11 +109,13 @@ impl Analysis {
             program.configured.items program.marks (program_of a)) }
     {
         let facts = ProgramFacts::new(alloc, &program)?;
-        let section = section_table(alloc, &program, &facts)?;
+        let slots = program_slots(alloc, &program, &facts)?;
+        let section = section_table(alloc, &program, &facts, &slots)?;
         let entries = task_entries(alloc, &program, &facts, section.states())?;
         Ok(Analysis {
             program,
             facts,
+            slots,
             section,
             entries,
         })

@@ -8,13 +8,13 @@ use std::marker::Model;
 use std::sync::Arc;
 
 /// What a pass keeps for the next pass of its task: its table, what the table's edges contribute, the store over which
-/// both were made, and how many edges it applied.
+/// both were made, and how many edges it applied, where that is told.
 #[derive(Drop)]
 pub struct Kept {
     pub(crate) table: Vec<Option<BodyState>>,
     pub(crate) added: Store,
     pub(crate) store: Arc<Store>,
-    pub(crate) visits: u64,
+    pub(crate) visits: Option<u64>,
 }
 
 impl Model for Kept {
@@ -57,8 +57,8 @@ impl Kept {
     }
 
     /// How many edges the pass applied for its table: so many, one after another, lead to it from the table with which
-    /// the pass began. 2^64 - 1 stands for that many or more.
-    pub fn visits(&self) -> u64
+    /// the pass began. 2^64 - 1 stands for that many or more. None where the table was found by slots.
+    pub fn visits(&self) -> Option<u64>
         ensures { result ≡ self.now.visits }
     {
         self.visits

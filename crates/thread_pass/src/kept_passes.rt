@@ -1,18 +1,16 @@
 //! Passes that keep what the next pass of their task goes on from.
-ghost use Rattle.std.specs.Prelude.{◌≡◌, ◌<◌, IfOk};
+ghost use Rattle.std.specs.Prelude.{◌≡◌, ◌<◌, IfOk, IfSome};
 ghost use Rattle.std.specs.Arc.{arc_value};
 ghost use Rattle.interfere_set.specs.Stores.{IsStoreBelow};
 ghost use Rattle.table_covers.specs.Solutions.{at};
 ghost use Rattle.program_equality.specs.program_equations.Systems.{FitsProgram, pass_of};
 ghost use Rattle.program_systems.specs.ReadPrograms.{program_of};
-ghost use Rattle.thread_pass.specs.Kept.{IsKeptOf, AreVisitsOf, first_of, unvisited};
+ghost use Rattle.thread_pass.specs.Kept.{IsKeptOf, AreVisitsOf, AreTold, first_of, unvisited};
 
 use crate::analyses::Analysis;
 use crate::kept::Kept;
-use crate::passes::{local, local_from};
+use crate::passes::{TaskPass, local, local_from};
 use interfere_set::Store;
-use least_tables::Pass;
-use program_systems::BodyState;
 use std::alloc::Global;
 use std::sync::Arc;
 use tm_lattice::{Lattice, NoMemory};
@@ -30,8 +28,8 @@ pub fn first_pass(
     ensures made { IfOk result (λ r. IsKeptOf (program_of analysis.now) task r.0) }
     ensures over { IfOk result (λ r. r.0.store ≡ arc_value store.now) }
     ensures added { IfOk result (λ r. r.1 ≡ pass_of (program_of analysis.now) task (arc_value store.now)) }
-    ensures visits { IfOk result (λ r. AreVisitsOf (program_of analysis.now) task (arc_value store.now) r.0.visits
-        (first_of (program_of analysis.now) task (arc_value store.now)) r.0.table) }
+    ensures visits { IfOk result (λ r. IfSome r.0.visits (λ visits. AreVisitsOf (program_of analysis.now) task
+        (arc_value store.now) visits (first_of (program_of analysis.now) task (arc_value store.now)) r.0.table)) }
 {
     let pass = local(alloc, analysis, task, store)?;
     keep(alloc, pass, store)
@@ -55,8 +53,8 @@ pub fn next_pass(
     ensures made { IfOk result (λ r. IsKeptOf (program_of analysis.now) task r.0) }
     ensures over { IfOk result (λ r. r.0.store ≡ arc_value store.now) }
     ensures added { IfOk result (λ r. r.1 ≡ pass_of (program_of analysis.now) task (arc_value store.now)) }
-    ensures visits { IfOk result (λ r. AreVisitsOf (program_of analysis.now) task (arc_value store.now) r.0.visits
-        (at kept.table) r.0.table) }
+    ensures visits { IfOk result (λ r. AreTold r.0.visits (λ visits. AreVisitsOf (program_of analysis.now) task
+        (arc_value store.now) visits (at kept.table) r.0.table)) }
     ensures same { IfOk result (λ r. arc_value store.now ≡ kept.store → r.0 ≡ unvisited kept) }
 {
     if Store::below(store, &kept.store) {
@@ -73,11 +71,7 @@ pub fn next_pass(
 }
 
 // What is kept of a pass over a store, and its contributions.
-fn keep(
-    alloc: Global,
-    pass: Pass<BodyState, Store>,
-    store: &Arc<Store>,
-) -> Result<(Kept, Store), NoMemory>
+fn keep(alloc: Global, pass: TaskPass, store: &Arc<Store>) -> Result<(Kept, Store), NoMemory>
     ensures kept { IfOk result (λ r. r.0 ≡ record {
       table = pass.table.items;
       added = pass.added;
@@ -86,7 +80,7 @@ fn keep(
     }) }
     ensures added { IfOk result (λ r. r.1 ≡ pass.added) }
 {
-    let Pass {
+    let TaskPass {
         table,
         added,
         visits,
@@ -116,7 +110,7 @@ fn repeated(alloc: Global, kept: Kept) -> Result<(Kept, Store), NoMemory>
         table,
         added,
         store,
-        visits: 0,
+        visits: Some(0),
     };
     Ok((unchanged, more))
 }

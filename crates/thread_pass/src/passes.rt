@@ -1,24 +1,37 @@
 //! The pass of a task over a store.
-ghost use Rattle.std.specs.Prelude.{◌≡◌, ◌<◌, IfOk};
+ghost use Rattle.std.specs.Prelude.{◌≡◌, ◌<◌, IfOk, IfSome};
 ghost use Rattle.program_equality.specs.program_equations.Systems.{FitsProgram, pass_of};
 ghost use Rattle.program_systems.specs.ReadPrograms.{program_of};
 ghost use Rattle.table_covers.specs.Solutions.{at};
 ghost use Rattle.thread_pass.specs.Analyses.{IsLeastTable, IsStartTable};
-ghost use Rattle.thread_pass.specs.Kept.{AreVisitsOf, first_of};
+ghost use Rattle.thread_pass.specs.Kept.{AreVisitsOf, AreTold, first_of};
 
 use crate::analyses::Analysis;
+use crate::body_tables::{BodyTable, body_table};
 use crate::equality::is_same_program;
 use crate::kept::Kept;
 use crate::kept_passes::{first_pass, next_pass};
 use crate::store_uses::{StoreUses, store_uses};
 use edge_contributions::joined_contributions;
 use interfere_set::Store;
-use least_tables::{Pass, Settled, least_table, settle};
+use least_tables::{Settled, settle};
 use program_systems::{BodyState, BodySystem, body_over_store};
 use std::alloc::Global;
 use std::sync::Arc;
 use strided_dom::Marks;
 use tm_lattice::{Lattice, NoMemory, Passer, Warm};
+
+/// What a pass of a task over a store brings.
+#[derive(Drop)]
+pub struct TaskPass {
+    /// The least table: a state for each node of the task's configured graph, none where it is not reached.
+    pub table: Vec<Option<BodyState>>,
+    /// What the edges contribute there, joined.
+    pub added: Store,
+    /// How many edges were applied for the table; 2^64 - 1 stands for that many or more. None where the table was
+    /// found by slots, where edges are not applied to states of all cells.
+    pub visits: Option<u64>,
+}
 
 /// The least table of a task over a store, and the join of what its edges contribute there. Condition: there is such a
 /// task, and the store fits the program.
@@ -27,21 +40,22 @@ pub fn local(
     analysis: &Analysis,
     task: u32,
     store: &Store,
-) -> Result<Pass<BodyState, Store>, NoMemory>
+) -> Result<TaskPass, NoMemory>
     requires task { task < analysis.now.tasks }
     requires fits { FitsProgram (program_of analysis.now) store.now }
     ensures table { IfOk result (λ pass. IsLeastTable (program_of analysis.now) task store.now pass.table.items) }
     ensures added { IfOk result (λ pass. pass.added ≡ pass_of (program_of analysis.now) task store.now) }
-    ensures visits { IfOk result (λ pass. AreVisitsOf (program_of analysis.now) task store.now pass.visits
-        (first_of (program_of analysis.now) task store.now) pass.table.items) }
+    ensures visits { IfOk result (λ pass. IfSome pass.visits (λ visits. AreVisitsOf (program_of analysis.now) task
+        store.now visits (first_of (program_of analysis.now) task store.now) pass.table.items)) }
 {
     let entry = analysis.entries[task as usize].as_ref();
     let body = body_over_store(&analysis.program, &analysis.facts, task, entry, store);
     let system = BodySystem { body: &body };
     let uses = store_uses(alloc, analysis, task)?;
-    let Settled { table, visits } = least_table(alloc, &system)?;
+    let slots = analysis.slots[task as usize].as_ref();
+    let BodyTable { table, visits } = body_table(alloc, &body, slots)?;
     let added = joined_contributions(alloc, &system, &table, &uses.adds)?;
-    Ok(Pass {
+    Ok(TaskPass {
         table,
         added,
         visits,
@@ -57,14 +71,14 @@ pub fn local_from(
     task: u32,
     table: Vec<Option<BodyState>>,
     store: &Store,
-) -> Result<Pass<BodyState, Store>, NoMemory>
+) -> Result<TaskPass, NoMemory>
     requires task { task < analysis.now.tasks }
     requires fits { FitsProgram (program_of analysis.now) store.now }
     requires start { IsStartTable (program_of analysis.now) task store.now table.items }
     ensures table { IfOk result (λ pass. IsLeastTable (program_of analysis.now) task store.now pass.table.items) }
     ensures added { IfOk result (λ pass. pass.added ≡ pass_of (program_of analysis.now) task store.now) }
-    ensures visits { IfOk result (λ pass. AreVisitsOf (program_of analysis.now) task store.now pass.visits
-        (at table.items) pass.table.items) }
+    ensures visits { IfOk result (λ pass. AreTold pass.visits (λ visits. AreVisitsOf (program_of analysis.now) task
+        store.now visits (at table.items) pass.table.items)) }
 {
     let entry = analysis.entries[task as usize].as_ref();
     let body = body_over_store(&analysis.program, &analysis.facts, task, entry, store);
@@ -72,10 +86,10 @@ pub fn local_from(
     let StoreUses { reads, adds } = store_uses(alloc, analysis, task)?;
     let Settled { table, visits } = settle(alloc, &system, table, reads)?;
     let added = joined_contributions(alloc, &system, &table, &adds)?;
-    Ok(Pass {
+    Ok(TaskPass {
         table,
         added,
-        visits,
+        visits: Some(visits),
     })
 }
 
@@ -118,7 +132,7 @@ impl Passer for Analysis {
     }
 
     fn pass(&self, alloc: Global, task: u32, store: &Store) -> Result<Store, NoMemory> {
-        let Pass {
+        let TaskPass {
             table: _table,
             added,
             visits: _visits,

@@ -13,7 +13,7 @@ table_code = coded_list (coded_option (state_code values_code))
 
 abbrev pub kept_code : Coded KeptTable
 kept_code =
-    code_by (List (Option State) × (Interferences × (Interferences × ℕ)))
-    (coded× table_code (coded× store_code (coded× store_code coded_ℕ)))
+    code_by (List (Option State) × (Interferences × (Interferences × Option ℕ)))
+    (coded× table_code (coded× store_code (coded× store_code (coded_option coded_ℕ))))
     (λ k. (k.table, (k.added, (k.store, k.visits))))
     (λ p. record { table = p.0; added = p.1.0; store = p.1.1.0; visits = p.1.1.1 }) (λ _. refl)

@@ -14,6 +14,7 @@ use Rattle.program_systems.proofs.Bodies.{is_program}
 use Rattle.thread_pass.specs.Analyses.{IsLeastTable}
 use Rattle.thread_pass.specs.Kept.{AreVisitsOf, first_of}
 use Rattle.thread_pass.specs.StoreUses.{AreUses}
+use Rattle.thread_pass.proofs.SlotsInOrder.{in_slots, slots_at}
 use Rattle.thread_pass.proofs.Uses.{adds_nothing, nothing_below}
 use Rattle.thread_pass.proofs.TaskTables.{in_bodies, entry_fits, table_is, added_is, first_visits_are}
 use Rattle.thread_pass.proofs.passes.local.Goals as goal
@@ -36,6 +37,24 @@ body_over_store-body-requires-clause-entry c =
     (c.as_ref-entry.ensures.value ∙ c.index.ensures
     ∙ get_or_default inside.entries.items c.args.task c.index.result.now None within
     ∙ c.analysis.invariant.entries c.args.task within)
+
+pub index-requires-2 : goal.index-requires-2
+index-requires-2 c =
+    let inside = c.analysis.inside in
+    let p = program_with inside.program inside.facts in
+    let is = is_program inside.program inside.facts c.analysis.invariant.analysable c.analysis.invariant.facts in
+    let within = in_slots p inside.slots.items c.analysis.invariant.slots c.args.task
+    (in_bodies p is c.args.task (subst (λ v. c.args.task < v.tasks) (sym c.analysis.view_is) c.requires.task)) in
+    omega (arith, within, inside.slots.ok.0)
+
+pub body_table-requires : goal.body_table-requires
+body_table-requires c =
+    let inside = c.analysis.inside in
+    let p = program_with inside.program inside.facts in
+    let is = is_program inside.program inside.facts c.analysis.invariant.analysable c.analysis.invariant.facts in
+    slots_at p inside.slots.items c.analysis.invariant.slots c.args.task
+    (in_bodies p is c.args.task (subst (λ v. c.args.task < v.tasks) (sym c.analysis.view_is) c.requires.task))
+    c.index-2.result.now _ _ c.index-2.ensures c.as_ref-slots.ensures.value c.body_over_store-body.ensures.body
 
 pub returns-clause-table : goal.returns-clause-table
 returns-clause-table c =
@@ -109,8 +128,8 @@ returns-clause-visits c =
     ∙ get_or_default inside.entries.items c.args.task c.index.result.now None within
     ∙ c.analysis.invariant.entries c.args.task within in
     let fits = subst (λ v. FitsProgram (program_of v) c.args.store.now) (sym c.analysis.view_is) c.requires.fits in
-    subst (λ v. AreVisitsOf (program_of v) c.args.task c.args.store.now c.in_ok-table.field-0.visits
-    (first_of (program_of v) c.args.task c.args.store.now) c.in_ok-table.field-0.table.items) c.analysis.view_is
+    subst (λ v. IfSome c.in_ok-table.field-0.visits (λ n. AreVisitsOf (program_of v) c.args.task c.args.store.now n
+    (first_of (program_of v) c.args.task c.args.store.now) c.in_ok-table.field-0.table.items)) c.analysis.view_is
     (first_visits_are p is c.args.task task (body_of over) over.entry c.args.store.now over.store
     c.body_over_store-body.ensures.body entry c.body_over_store-body.ensures.store fits
     c.in_ok-table.field-0.visits c.in_ok-table.field-0.table.items c.in_ok-table.ensures.visits)

@@ -13,6 +13,7 @@ invariant_of-result c =
     record {
       analysable = c.requires;
       facts = c.in_ok-facts.ensures;
+      slots = c.in_ok-slots.ensures;
       section = c.in_ok-section.ensures;
       count = c.in_ok-entries.ensures.count;
       entries = λ t lt.
