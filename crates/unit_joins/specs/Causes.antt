@@ -7,6 +7,7 @@ use Rattle.tm_terms.specs.declared.tokens.Name.{Name}
 use Rattle.tm_terms.specs.declared.tokens.Shape.TheVariants as shape
 use Rattle.tm_terms.specs.declared.tokens.Token.{Token}
 use Rattle.unit_joins.specs.Parts.{AreBorders}
+use Rattle.unit_plans.specs.Plans.{cause_of}
 use Rattle.unit_plans.specs.declared.causes.Cause.{Cause}
 use Rattle.unit_plans.specs.declared.causes.Cause.TheVariants as cause
 use Rattle.unit_plans.specs.declared.causes.JoinFail.{JoinFail}
@@ -33,16 +34,24 @@ pub record IsPairApart (units : List ℕ) (first second : Place) : Type 0 where
   pub pair : IsPair tokens first second
   pub apart : unit_of borders first.line ≢ unit_of borders second.line
 
+-- the tokens of the units tell the cause
+pub record IsTold (units : List ℕ) (why : Cause) : Type 0 where
+  pub tokens : List Token
+  pub borders : List ℕ
+  pub lexed : Lexes units (Ok tokens)
+  pub parted : AreBorders units borders
+  pub told : cause_of borders tokens ≡ Some why
+
 -- what is so of units that are refused for a cause
 abbrev pub IsCauseOf : List ℕ → Cause → Type 0
 IsCauseOf units (cause.Lexis refusal) = Lexes units (Err refusal)
 IsCauseOf units (cause.BrokenMark n) = (origins_of [] units ≡ None) × IsBrokenAt (lines_of units) n
-IsCauseOf units (cause.Twice first second) = IsPairApart units first second
+IsCauseOf units (cause.Twice first second) = IsPairApart units first second × IsTold units (cause.Twice first second)
+IsCauseOf units (cause.Open place) = IsTold units (cause.Open place)
+IsCauseOf units (cause.Linkage first second) = IsTold units (cause.Linkage first second)
+IsCauseOf units (cause.Shared first second) = IsTold units (cause.Shared first second)
 IsCauseOf units cause.NotUnits = Unit {0}
 IsCauseOf units cause.Long = Unit {0}
-IsCauseOf units (cause.Open place) = Unit {0}
-IsCauseOf units (cause.Linkage first second) = Unit {0}
-IsCauseOf units (cause.Shared first second) = Unit {0}
 IsCauseOf units cause.LongRun = Unit {0}
 IsCauseOf units cause.Unlike = Unit {0}
 

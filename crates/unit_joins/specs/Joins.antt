@@ -5,6 +5,7 @@ use Rattle.source_marks.specs.Marks.{Origin, origins_of}
 use Rattle.tm_terms.specs.Spelling.{Lexes}
 use Rattle.tm_terms.specs.declared.tokens.Token.{Token}
 use Rattle.unit_joins.specs.Parts.{AreBorders}
+use Rattle.unit_plans.specs.Plans.{AreFates}
 use Rattle.unit_tokens.specs.Fates.{IsRightlyLeft, is_kept}
 use Rattle.unit_tokens.specs.Sayings.{said, wanted}
 use Rattle.unit_tokens.specs.Units.{IsNowhere}
@@ -41,8 +42,10 @@ pub record IsJoined (units joined : List ℕ) : Type 0 where
   pub parted : AreBorders units borders
   pub mark : List ℕ
   pub nowhere : IsNowhere mark units
-  -- each token of the units stays, gets the new name of its unit, or is left out for one that stands before
+  -- each token of the units stays, gets the new name of its unit, or is left out for one that stands before, as linkage
+  -- and the declarations of the units have it
   pub fated : List Fated
   pub all : map (λ f. f.token) fated ≡ tokens
+  pub fates : AreFates borders tokens (map (λ f. f.fate) fated)
   pub left : All (IsRightlyLeft fated) fated
   pub written : AreWritten units mark borders origins joined joined_origins (filter is_kept fated) joined_tokens

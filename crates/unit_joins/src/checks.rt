@@ -8,7 +8,7 @@ use source_marks::Origin;
 use std::alloc::Global;
 use tm_lattice::NoMemory;
 use tm_terms::Token;
-use unit_tokens::{Fated, Renaming, is_wanted};
+use unit_tokens::{Fate, Fated, Renaming, is_wanted};
 
 /// The origin of a line.
 fn origin_at<'a>(origins: &[Origin<'a>], line: u32) -> Option<Origin<'a>>
@@ -83,4 +83,29 @@ pub fn are_written(
         }
     }
     Ok(true)
+}
+
+fn is_same_fate(one: Fate, other: Fate) -> bool
+    ensures { IsTrue result → one ≡ other }
+{
+    match (one, other) {
+        (Fate::Stays, Fate::Stays) | (Fate::Renamed, Fate::Renamed) => true,
+        (Fate::LeftOut(one), Fate::LeftOut(other)) => one == other,
+        _ => false,
+    }
+}
+
+/// Whether this becomes of the tokens.
+pub fn are_fates(fated: &[Fated], fates: &[Fate]) -> bool
+    ensures { IsTrue result → map (λ f. f.fate) fated.now ≡ fates.now }
+{
+    if fated.len() != fates.len() {
+        return false;
+    }
+    for k in 0..fates.len() {
+        if !is_same_fate(fated[k].fate, fates[k]) {
+            return false;
+        }
+    }
+    true
 }

@@ -9,11 +9,12 @@ ghost use Rattle.tm_terms.specs.declared.refusals.Limit.TheVariants as Limits;
 ghost use Rattle.unit_joins.specs.Causes.{IsCause};
 ghost use Rattle.unit_joins.specs.Joins.{AreWritten, IsJoined};
 ghost use Rattle.unit_joins.specs.Parts.{AreBorders};
+ghost use Rattle.unit_plans.specs.Plans.{AreFates, IsRefusal};
 ghost use Rattle.unit_tokens.specs.Fates.{IsRightlyLeft, is_kept};
 ghost use Rattle.unit_tokens.specs.Units.{IsNowhere};
 
 use crate::borders::parted;
-use crate::checks::{Texts, are_written};
+use crate::checks::{Texts, are_fates, are_written};
 use crate::pairs::is_pair_apart;
 use crate::writing::{Plan, written};
 use c_lexer::lex;
@@ -56,7 +57,7 @@ fn traced<'a>(alloc: Global, text: &'a [u8]) -> Result<Vec<Origin<'a>>, JoinFail
     }
 }
 
-/// Why units are not joined, where neither a refusal of the lexis, a mark nor two definitions are why.
+/// Why units are not joined, where neither a refusal of the lexis, a mark nor their tokens tell it.
 fn other_fail(fail: JoinFail) -> JoinFail
     ensures { (units : List ℕ) → IsCause units result }
 {
@@ -64,23 +65,23 @@ fn other_fail(fail: JoinFail) -> JoinFail
         JoinFail::NoMemory => JoinFail::NoMemory,
         JoinFail::Refused(Cause::NotUnits) => JoinFail::Refused(Cause::NotUnits),
         JoinFail::Refused(Cause::Long) => JoinFail::Refused(Cause::Long),
-        JoinFail::Refused(Cause::Open(place)) => JoinFail::Refused(Cause::Open(place)),
-        JoinFail::Refused(Cause::Linkage(first, second)) => {
-            JoinFail::Refused(Cause::Linkage(first, second))
-        }
-        JoinFail::Refused(Cause::Shared(first, second)) => {
-            JoinFail::Refused(Cause::Shared(first, second))
-        }
         JoinFail::Refused(Cause::LongRun) => JoinFail::Refused(Cause::LongRun),
         JoinFail::Refused(
-            Cause::Lexis(_) | Cause::BrokenMark(_) | Cause::Twice(_, _) | Cause::Unlike,
+            Cause::Lexis(_)
+            | Cause::BrokenMark(_)
+            | Cause::Open(_)
+            | Cause::Twice(_, _)
+            | Cause::Linkage(_, _)
+            | Cause::Shared(_, _)
+            | Cause::Unlike,
         ) => JoinFail::Refused(Cause::Unlike),
     }
 }
 
 /// Why the tokens of units have no fates.
 fn plan_fail(borders: &[u32], tokens: &[Token], fail: JoinFail) -> JoinFail
-    ensures { (units : List ℕ) → Lexes units (Ok tokens.now) → AreBorders units borders.now → IsCause units result }
+    ensures { (units : List ℕ) → Lexes units (Ok tokens.now) → AreBorders units borders.now
+        → IsRefusal borders.now tokens.now fail → IsCause units result }
 {
     match fail {
         JoinFail::Refused(Cause::Twice(first, second)) => {
@@ -90,6 +91,13 @@ fn plan_fail(borders: &[u32], tokens: &[Token], fail: JoinFail) -> JoinFail
                 JoinFail::Refused(Cause::Unlike)
             }
         }
+        JoinFail::Refused(Cause::Open(place)) => JoinFail::Refused(Cause::Open(place)),
+        JoinFail::Refused(Cause::Linkage(first, second)) => {
+            JoinFail::Refused(Cause::Linkage(first, second))
+        }
+        JoinFail::Refused(Cause::Shared(first, second)) => {
+            JoinFail::Refused(Cause::Shared(first, second))
+        }
         other => other_fail(other),
     }
 }
@@ -97,6 +105,7 @@ fn plan_fail(borders: &[u32], tokens: &[Token], fail: JoinFail) -> JoinFail
 /// What becomes of the tokens of units.
 fn planned(alloc: Global, borders: &[u32], tokens: &[Token]) -> Result<Vec<Fated>, JoinFail>
     ensures ok { IfOk result (λ fated. map (λ f. f.token) fated.items ≡ tokens.now) }
+    ensures fates { IfOk result (λ fated. AreFates borders.now tokens.now (map (λ f. f.fate) fated.items)) }
     ensures refused { IfErr result (λ fail. (units : List ℕ) → Lexes units (Ok tokens.now)
         → AreBorders units borders.now → IsCause units fail) }
 {
@@ -105,7 +114,13 @@ fn planned(alloc: Global, borders: &[u32], tokens: &[Token]) -> Result<Vec<Fated
         Err(fail) => return Err(plan_fail(borders, tokens, fail)),
     };
     match with_fates(alloc, tokens, &fates) {
-        Ok(fated) => Ok(fated),
+        Ok(fated) => {
+            if are_fates(&fated, &fates) {
+                Ok(fated)
+            } else {
+                Err(JoinFail::Refused(Cause::Unlike))
+            }
+        }
         Err(NoMemory) => Err(JoinFail::NoMemory),
     }
 }
@@ -194,6 +209,7 @@ fn is_joined(alloc: Global, plan: Plan<'_>, text: &[u8]) -> Result<bool, JoinFai
     requires parted { AreBorders plan.text.now plan.borders.now }
     requires nowhere { IsNowhere plan.mark.now plan.text.now }
     requires all { map (λ f. f.token) plan.fated.now ≡ plan.tokens.now }
+    requires fates { AreFates plan.borders.now plan.tokens.now (map (λ f. f.fate) plan.fated.now) }
     ensures ok { IfOk result (λ is. IsTrue is → IsJoined plan.entry.text.now text.now) }
     ensures refused { IfErr result (λ fail. (units : List ℕ) → IsCause units fail) }
 {
@@ -227,7 +243,8 @@ fn made(alloc: Global, plan: Plan<'_>) -> Result<Vec<u8>, JoinFail>
 
 /// The joined text of units.
 pub fn join(alloc: Global, text: &[u8]) -> Result<Vec<u8>, JoinFail>
-    // The text says what the units say, each token at its place in its file.
+    // The text says what the units say, each token at its place in its file; what becomes of their names and their
+    // declarations is told by linkage alone.
     ensures ok { IfOk result (λ joined. IsJoined text.now joined.items) }
 
     // What is refused has its cause.

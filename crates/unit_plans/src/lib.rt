@@ -7,14 +7,16 @@
 #![tactic(auto)]
 
 mod causes;
+mod copies;
 mod declarations;
-mod fates;
-mod linkage;
-mod names;
+pub mod laws;
+mod linkages;
+mod marks;
 mod plans;
 mod rooms;
 mod scans;
-mod sharing;
+mod spots;
+mod tables;
 
 pub use causes::{Cause, JoinFail, cause_line};
 pub use plans::fates_of_units;

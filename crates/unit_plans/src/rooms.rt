@@ -1,10 +1,13 @@
 //! Where a token stands: outside of all brackets, among the members of a structure, among the constants of an
-//! enumeration, or elsewhere.
+//! enumeration, or elsewhere; and what stands right before it.
 
-use tm_terms::{Shape, Sign, Token, Word};
+ghost use Rattle.std.specs.Prelude.{◌≡◌};
+ghost use Rattle.unit_plans.specs.Rooms.{in_braces, in_parentheses, is_local, is_inner, opened};
+
+use crate::marks::Mark;
 
 /// What brackets make of what stands in them.
-#[derive(Clone, Copy, PartialEq, Eq)]
+#[derive(Clone, Copy)]
 pub enum Room {
     /// File scope: outside of all brackets, or in those round a declarator.
     Outer,
@@ -18,74 +21,110 @@ pub enum Room {
     Inner,
 }
 
-/// The shape of the token at an index.
-pub fn shape_at(tokens: &[Token], index: usize) -> Option<Shape> {
-    match tokens.get(index) {
-        Some(token) => Some(token.shape),
-        None => None,
+/// What stands right before a token in its declaration.
+#[derive(Clone, Copy)]
+pub enum Lead {
+    /// `.` or `->`
+    Selector,
+    /// `struct`
+    Struct,
+    /// `struct` and a tag
+    StructTag,
+    /// `enum`
+    Enum,
+    /// `enum` and a tag
+    EnumTag,
+    /// `__task`
+    Task,
+    /// `{` or `,`
+    Begin,
+    /// A name that is declared here, of an object, a function or a type.
+    Declared,
+    Other,
+}
+
+/// Whether a room stands in a body or among parameters.
+pub fn is_local(room: Room) -> bool
+    ensures { result ≡ is_local room }
+{
+    match room {
+        Room::Inner | Room::LocalMembers => true,
+        Room::Outer | Room::Members | Room::Constants => false,
     }
 }
 
-/// The shape of the token so many tokens before an index.
-pub fn shape_before(tokens: &[Token], index: usize, count: usize) -> Option<Shape> {
-    if index < count {
-        None
-    } else {
-        shape_at(tokens, index - count)
+/// Whether a room is neither file scope, a structure nor an enumeration there.
+pub fn is_inner(room: Room) -> bool
+    ensures { result ≡ is_inner room }
+{
+    match room {
+        Room::Inner => true,
+        Room::Outer | Room::Members | Room::LocalMembers | Room::Constants => false,
     }
 }
 
-/// Whether this is the sign.
-pub fn is_sign(shape: Option<Shape>, sign: Sign) -> bool {
-    match shape {
-        Some(Shape::Sign(other)) => other == sign,
-        _ => false,
-    }
-}
-
-/// Whether this is the word.
-pub fn is_word(shape: Option<Shape>, word: Word) -> bool {
-    match shape {
-        Some(Shape::Word(other)) => other == word,
-        _ => false,
-    }
-}
-
-/// Whether this is a name.
-fn is_name(shape: Option<Shape>) -> bool {
-    match shape {
-        Some(Shape::Name(_)) => true,
-        _ => false,
-    }
-}
-
-/// Whether the bracket at an index follows the word, or the word and a tag.
-fn is_behind(tokens: &[Token], index: usize, word: Word) -> bool {
-    let before = shape_before(tokens, index, 1);
-    is_word(before, word) || (is_name(before) && is_word(shape_before(tokens, index, 2), word))
-}
-
-/// What stands in a brace at an index, by where the brace stands.
-pub fn in_braces(tokens: &[Token], index: usize, room: Room) -> Room {
-    let local = room == Room::Inner || room == Room::LocalMembers;
-    if is_behind(tokens, index, Word::Struct) {
-        if local {
-            Room::LocalMembers
-        } else {
-            Room::Members
+/// What stands in braces, by what stands before them and by where they stand.
+pub fn in_braces(lead: Lead, room: Room) -> Room
+    ensures { result ≡ in_braces lead room }
+{
+    match lead {
+        Lead::Struct | Lead::StructTag => {
+            if is_local(room) {
+                Room::LocalMembers
+            } else {
+                Room::Members
+            }
         }
-    } else if is_behind(tokens, index, Word::Enum) && !local {
-        Room::Constants
-    } else {
-        Room::Inner
+        Lead::Enum | Lead::EnumTag => {
+            if is_local(room) {
+                Room::Inner
+            } else {
+                Room::Constants
+            }
+        }
+        _ => Room::Inner,
     }
 }
 
-/// What stands in parentheses, by where they stand; `declares` says that they may stand round a declarator.
-pub fn in_parentheses(room: Room, declares: bool) -> Room {
+/// What stands in parentheses at file scope: parameters, or a declarator.
+fn in_outer_parentheses(lead: Lead) -> Room
+    ensures { result ≡ in_parentheses lead Room.Outer }
+{
+    match lead {
+        Lead::Declared | Lead::Task => Room::Inner,
+        _ => Room::Outer,
+    }
+}
+
+/// What stands in parentheses, by what stands before them and by where they stand.
+pub fn in_parentheses(lead: Lead, room: Room) -> Room
+    ensures { result ≡ in_parentheses lead room }
+{
     match room {
         Room::Members | Room::LocalMembers => room,
-        Room::Outer => { if declares { Room::Outer } else { Room::Inner } }
+        Room::Outer => in_outer_parentheses(lead),
         Room::Constants | Room::Inner => Room::Inner,
+    }
+}
+
+/// The room that a token opens, if it opens one.
+pub fn opened(lead: Lead, room: Room, in_value: bool, mark: Mark) -> Option<Room>
+    ensures { result ≡ opened lead room in_value mark }
+{
+    match mark {
+        Mark::OpenBracket => Some(Room::Inner),
+        Mark::OpenParenthesis => {
+            Some(if in_value {
+                Room::Inner
+            } else {
+                in_parentheses(lead, room)
+            })
+        }
+        Mark::OpenBrace => Some(if in_value {
+            Room::Inner
+        } else {
+            in_braces(lead, room)
+        }),
+        _ => None,
     }
 }

@@ -1,0 +1,4 @@
+pub mod Ends
+pub mod FirstCauses
+pub mod LeftOutLaw
+pub mod TableSteps
