@@ -64,6 +64,13 @@ source_in bytes start end split =
           ∙ ap (λ (h : List ℕ). h ++ (take n rest ++ (10 ∷ drop (end + 1) bytes))) (head_is (length (take n rest)));
     }
 
+-- the same, where the source is read from a text of the same bytes
+pub source_at : (bytes text : List ℕ) (start end : ℕ) → text ≡ bytes → IsSplit bytes start end
+    → HasSource bytes (take (end - start) (drop start text)) (drop (end + 1) bytes)
+source_at bytes text start end same split =
+    subst (λ (t : List ℕ). HasSource bytes (take (end - start) (drop start t)) (drop (end + 1) bytes)) (sym same)
+    (source_in bytes start end split)
+
 -- ## From texts to places
 
 get_behind : (front : List ℕ) (x : ℕ) (more : List ℕ) → slice_get (front ++ (x ∷ more)) (length front) ≡ Some x

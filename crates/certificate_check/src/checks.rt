@@ -1,6 +1,6 @@
 //! The check of a certificate.
 
-ghost use Rattle.std.specs.Prelude.{◌≡◌, ◌≤◌, ◌<◌, ◌^◌, length, IfOk};
+ghost use Rattle.std.specs.Prelude.{◌≡◌, ◌≤◌, ◌<◌, ◌^◌, drop, length, IfOk};
 ghost use Rattle.mutex_configs.specs.tm_laid.Layouts.{laid_tree};
 ghost use Rattle.post_recheck.specs.program_systems.Analysable.{IsAnalysable};
 ghost use Rattle.post_recheck.specs.program_systems.ProgramFacts.{AreProgramFacts, program_with};
@@ -45,15 +45,21 @@ fn verdict_on_pair(
     }
 }
 
-/// The verdict on what is told of a program.
-fn verdict_on_told(alloc: Global, program: &Program, told: &[u8]) -> Result<Verdict, NoMemory>
+/// The verdict on what is told of a program, in the bytes from a place on.
+fn verdict_on_told(
+    alloc: Global,
+    program: &Program,
+    bytes: Vec<u8>,
+    start: usize,
+) -> Result<Verdict, NoMemory>
+    requires within { start ≤ length bytes.items }
     requires analysable { IsAnalysable program.now }
     requires few { length program.now.laid.objects.items ≤ 2 ^ 32 }
-    ensures { IfOk result (IsToldVerdict program.now told.now) }
+    ensures { IfOk result (IsToldVerdict program.now (drop start bytes.items)) }
 {
     let facts = ProgramFacts::new(alloc, program)?;
     numbers_are_small(program, &facts);
-    match read(alloc, told, program, &facts)? {
+    match read(alloc, bytes, start, program, &facts)? {
         Some(pair) => verdict_on_pair(alloc, program, &facts, pair),
         None => Ok(Verdict::NoCertificate),
     }
@@ -62,17 +68,17 @@ fn verdict_on_told(alloc: Global, program: &Program, told: &[u8]) -> Result<Verd
 /// The verdict on bytes in which a source stands from `start` to `end`.
 fn verdict_on_source(
     alloc: Global,
-    bytes: &[u8],
+    bytes: Vec<u8>,
     start: usize,
     end: usize,
 ) -> Result<Verdict, NoMemory>
-    requires short { length bytes.now ≤ certificate_limit }
-    requires split { IsSplit bytes.now start end }
-    requires within { end < length bytes.now }
-    ensures { IfOk result (IsVerdict bytes.now) }
+    requires short { length bytes.items ≤ certificate_limit }
+    requires split { IsSplit bytes.items start end }
+    requires within { end < length bytes.items }
+    ensures { IfOk result (IsVerdict bytes.items) }
 {
     match source_program(alloc, &bytes[start..end], &[]) {
-        Ok(program) => verdict_on_told(alloc, &program, &bytes[end + 1..]),
+        Ok(program) => verdict_on_told(alloc, &program, bytes, end + 1),
         Err(Fail::Refused(refusal)) => Ok(Verdict::Refused(refusal)),
         Err(Fail::NoMemory) => Err(NoMemory),
     }
@@ -80,16 +86,16 @@ fn verdict_on_source(
 
 /// What may be said of bytes as a certificate. No equation is solved: each edge of the program is applied to the state
 /// that the bytes tell for the node that it leaves.
-pub fn check(alloc: Global, bytes: &[u8]) -> Result<Verdict, NoMemory>
+pub fn check(alloc: Global, bytes: Vec<u8>) -> Result<Verdict, NoMemory>
     // Each answer has its cause. Certified: the bytes are the text of a source that is accepted, and of tables and a
     // store that fit its program and are a solution of it; the report is that of the tables, and each error that occurs
     // in an allowed run of the source stands in it. Beside these answers comes only want of memory.
-    ensures { IfOk result (IsVerdict bytes.now) }
+    ensures { IfOk result (IsVerdict bytes.items) }
 {
     if bytes.len() > CERTIFICATE_LIMIT {
         return Ok(Verdict::TooLong);
     }
-    match split(bytes) {
+    match split(&bytes) {
         Some((start, end)) => verdict_on_source(alloc, bytes, start, end),
         None => Ok(Verdict::NoCertificate),
     }

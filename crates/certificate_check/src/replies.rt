@@ -84,8 +84,8 @@ fn verdict_status(verdict: &Verdict) -> Status
 }
 
 /// The answer of `check` to bytes.
-pub fn checked(alloc: Global, bytes: &[u8]) -> Result<CheckReply, NoMemory>
-    ensures { IfOk result (λ reply. HasChecked bytes.now reply.status (string_bytes reply.text)) }
+pub fn checked(alloc: Global, bytes: Vec<u8>) -> Result<CheckReply, NoMemory>
+    ensures { IfOk result (λ reply. HasChecked bytes.items reply.status (string_bytes reply.text)) }
 {
     let verdict = check(alloc, bytes)?;
     let text = verdict_text(alloc, &verdict)?;

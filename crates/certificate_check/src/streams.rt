@@ -49,7 +49,7 @@ pub fn check_source<S: Source, K: Sink>(alloc: Global, source: &mut S, out: &mut
         Err(InputError::Failed) => return Status::ReadFault,
         Err(InputError::NoMemory) => return Status::NoMemory,
     }
-    match checked(alloc, &bytes) {
+    match checked(alloc, bytes) {
         Ok(reply) => send(out, reply.text.as_bytes(), reply.status),
         Err(NoMemory) => Status::NoMemory,
     }

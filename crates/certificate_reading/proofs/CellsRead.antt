@@ -1,5 +1,5 @@
 -- Cells are read, kept, and shared.
-use Rattle.std.proofs.Common.{◌≡◌, refl, sym, ap, subst, ◌∙◌, ℕ, ◌+◌, ◌-◌, ◌≤◌, Bool, true, false, List, []}
+use Rattle.std.proofs.Common.{◌≡◌, refl, sym, ap, subst, ◌∙◌, ℕ, ◌-◌, ◌≤◌, Bool, true, false, List, []}
 use Rattle.std.proofs.Common.{◌∷◌, ◌++◌, length, take, Option, Some, None, arith}
 use Rattle.std.specs.Prelude.{codes, slice_get, nat_eq, not, ◌==◌}
 use Rattle.std.proofs.lemmas.Bool.Decides.{nat_tests}
@@ -22,7 +22,6 @@ use Rattle.certificate_parts.specs.Numbers.{pair_line, number_row, FitsNumber, n
 use Rattle.certificate_parts.proofs.Running.{onto_append, run_none, behind_rows}
 use Rattle.certificate_parts.proofs.RowsRead.{marks_apart, mark_step}
 use Rattle.certificate_parts.proofs.NumbersRead.{pair_lawful, same_key, numbers_apart}
-use Rattle.certificate_texts.specs.StateLines.{tagged}
 use Rattle.certificate_reading.specs.Rows.{value_line, value_row, FitsRow, AnyText}
 use Rattle.certificate_reading.specs.States.{IsNotTagged}
 use Rattle.certificate_reading.specs.declared.shapes.Shape.{Shape}

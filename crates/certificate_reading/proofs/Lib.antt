@@ -7,7 +7,7 @@
 -- one tag are no lines of another (FirstLetters). Nested tables and their entries one after another (Nested), tables
 -- that grow at their ends (Rising), the entry of a line (EntriesRead), and stores (StoresRead). Rows by rising numbers
 -- (SeriesRead), layouts of which the equations read the same (SameLayouts), tables (TablesRead), those of bodies
--- (BodiesRead), and pairs (PairsRead).
+-- (BodiesRead); texts that are let go of as they are read (HeldTexts); and pairs (PairsRead).
 pub mod ValuesRead
 pub mod RowsOfValues
 pub mod StateKeys
@@ -33,4 +33,5 @@ pub mod SeriesRead
 pub mod SameLayouts
 pub mod TablesRead
 pub mod BodiesRead
+pub mod HeldTexts
 pub mod PairsRead

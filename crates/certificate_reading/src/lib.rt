@@ -10,6 +10,7 @@ mod assembled;
 mod cells;
 mod entries;
 mod growing;
+mod held;
 mod kept;
 mod kept_rows;
 mod pairs;

@@ -1,5 +1,5 @@
 //! Tables and a store, from the bytes behind the source of a certificate.
-ghost use Rattle.std.specs.Prelude.{◌≡◌, ◌<◌, ◌≤◌, ◌^◌, length, IfOk, MatchOption};
+ghost use Rattle.std.specs.Prelude.{◌≡◌, ◌<◌, ◌≤◌, ◌^◌, drop, length, IfOk, MatchOption};
 ghost use Rattle.tm_laid.specs.Layouts.{laid_tree};
 ghost use Rattle.post_recheck.specs.Pairs.{Pair as APair, FitsPair, pair_of};
 ghost use Rattle.post_recheck.specs.program_systems.Analysable.{IsAnalysable};
@@ -9,6 +9,7 @@ ghost use Rattle.certificate_texts.specs.Certificates.{pair_lines};
 ghost use Rattle.certificate_reading.specs.Values.{AreSizes};
 ghost use Rattle.certificate_reading.specs.Stores.{IsLastStore};
 
+use crate::held::Held;
 use crate::stores::store_in;
 use crate::tables::tables_in;
 use certificate_parts::Ahead;
@@ -64,29 +65,33 @@ fn store_at_end(
     }
 }
 
-/// The tables and the store of a program that the bytes behind the source of a certificate tell: none exactly where
-/// they are the lines of no tables and store that fit it. Each line is looked at once.
+/// The tables and the store of a program that the bytes behind the source of a certificate tell, those from a place on:
+/// none exactly where they are the lines of no tables and store that fit it. Each line is looked at once, and the bytes
+/// are let go of table by table.
 pub fn read(
     alloc: Global,
-    bytes: &[u8],
+    bytes: Vec<u8>,
+    start: usize,
     program: &Program,
     facts: &ProgramFacts,
 ) -> Result<Option<Pair>, NoMemory>
     requires analysable { IsAnalysable program.now }
     requires facts { AreProgramFacts program.now facts.now }
     requires few { length program.now.laid.objects.items ≤ 2 ^ 32 }
+    requires start { start ≤ length bytes.items }
     ensures { IfOk result (λ found. let p = program_with program.now facts.now in MatchOption found
-        ((pair : APair) → FitsPair p pair → bytes.now ≡ lines_text (pair_lines pair) → ⊥)
+        ((pair : APair) → FitsPair p pair → drop start bytes.items ≡ lines_text (pair_lines pair) → ⊥)
         (λ pair. FitsPair p (pair_of pair.tables.items pair.store)
-        × (bytes.now ≡ lines_text (pair_lines (pair_of pair.tables.items pair.store))))) }
+        × (drop start bytes.items ≡ lines_text (pair_lines (pair_of pair.tables.items pair.store))))) }
 {
     numbers_are_small(program, facts);
     let sizes = sizes_of(alloc, &program.laid)?;
-    let mut ahead = Ahead::new(alloc, bytes)?;
-    let found = tables_in(alloc, &mut ahead, program, facts, &sizes)?;
+    let mut text = Held::new(bytes, start);
+    let found = tables_in(alloc, &mut text, program, facts, &sizes)?;
     match found {
         None => Ok(None),
         Some(tables) => {
+            let mut ahead = Ahead::new(alloc, text.rest())?;
             let last = store_at_end(alloc, &mut ahead, &program.laid, &sizes)?;
             match last {
                 None => Ok(None),

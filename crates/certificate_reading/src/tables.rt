@@ -16,6 +16,7 @@ ghost use Rattle.certificate_reading.specs.Tables.{AreReadNodes, FitsBodyTable};
 ghost use Rattle.certificate_reading.specs.reading.Shapes.{IsShape, RiseFrom};
 ghost use Rattle.certificate_reading.specs.reading.Cells.{IsKept};
 
+use crate::held::Held;
 use crate::kept::Kept;
 use crate::shapes::{Shape, shape_of};
 use crate::states::state_in;
@@ -138,10 +139,45 @@ fn table_in(
     Ok(found)
 }
 
-/// Reads the tables of all bodies of a program: those of the tasks, then that of the initial section.
+/// Reads the table of a body, and lets go of its lines.
+fn table_from(
+    alloc: Global,
+    text: &mut Held,
+    laid: &Laid,
+    sizes: &[u32],
+    body: u32,
+    graph: &Graph,
+    configured: &ConfiguredGraph,
+    known: &BodyFacts,
+) -> Result<Option<Table>, NoMemory>
+    requires sizes { AreSizes (laid_tree laid.now) sizes.now }
+    requires few { length sizes.now ≤ 2 ^ 32 }
+    requires cells { length laid.now.abstract_cells.items ≤ 65536 }
+    requires live { AreLive graph.now.edges.items graph.now.nodes known.now.live }
+    ensures { IfOk result (λ found. IsReadTable (λ t. FitsTable (FitsNodes (laid_tree laid.now) body
+        (extents_in graph.now.edges.items) configured.now.nodes.keys known.now.live)
+        (length configured.now.nodes.keys)) body text.old (option_map (λ v. v.items) found) text.new) }
+{
+    let mut ahead = Ahead::new(alloc, text.rest())?;
+    let found = table_in(
+        alloc, &mut ahead, laid, sizes, body, graph, configured, known,
+    )?;
+    match found {
+        None => Ok(None),
+        Some(table) => {
+            let left = ahead.rest().len();
+            drop(ahead);
+            text.keep(left);
+            Ok(Some(table))
+        }
+    }
+}
+
+/// Reads the tables of all bodies of a program: those of the tasks, then that of the initial section. What has been
+/// read is let go of.
 pub(crate) fn tables_in(
     alloc: Global,
-    ahead: &mut Ahead,
+    text: &mut Held,
     program: &Program,
     facts: &ProgramFacts,
     sizes: &[u32],
@@ -151,17 +187,17 @@ pub(crate) fn tables_in(
     requires sizes { AreSizes (laid_tree program.now.laid) sizes.now }
     requires few { length sizes.now ≤ 2 ^ 32 }
     ensures { IfOk result (λ found. let p = program_with program.now facts.now in
-        AreReadTables (FitsBodyTable p) (length p.bodies) ahead.old (option_map (λ v. lists_of v.items) found)
-        ahead.new) }
+        AreReadTables (FitsBodyTable p) (length p.bodies) text.old (option_map (λ v. lists_of v.items) found)
+        text.new) }
 {
     let graphs = &program.graphs.graphs;
     let configured = &program.configured;
     let known = facts.bodies();
     let mut tables = Vec::new(alloc);
     for body in 0..graphs.len() {
-        let found = table_in(
+        let found = table_from(
             alloc,
-            ahead,
+            text,
             &program.laid,
             sizes,
             body as u32,

@@ -1,4 +1,3 @@
-use Rattle.std.proofs.Common.{subst}
 use Rattle.std.specs.Prelude.{string_bytes}
 use Rattle.program_streams.proofs.Sent.{known, past_limit, read_out, sent_whole, sent_front}
 use Rattle.certificate_texts.specs.Limits.{certificate_limit}
@@ -13,7 +12,7 @@ returns-in-Ok-checked-clause-whole g c h =
     sent_whole certificate_limit HasChecked longer_checked _ _ _ reply.status _ (string_bytes reply.text) c.as_bytes.result.now
     (known certificate_limit HasChecked longer_checked _ c.read_whole.new.bytes.items _ _ _ c.in-Ok.ensures.read.taken
     (past_limit certificate_limit _ _ c.in-Ok.ensures.read.whole)
-    (subst (λ b. HasChecked b reply.status (string_bytes reply.text)) c.deref.ensures.value c.in-Ok-checked.ensures))
+    c.in-Ok-checked.ensures)
     c.as_bytes.ensures.value (c.send.ensures.whole h).0 (c.send.ensures.whole h).1
 
 pub returns-in-Ok-checked-clause-front : goal.returns-in-Ok-checked-clause-front
@@ -22,7 +21,7 @@ returns-in-Ok-checked-clause-front g c =
     sent_front certificate_limit HasChecked longer_checked _ _ _ reply.status (string_bytes reply.text) c.as_bytes.result.now
     (known certificate_limit HasChecked longer_checked _ c.read_whole.new.bytes.items _ _ _ c.in-Ok.ensures.read.taken
     (past_limit certificate_limit _ _ c.in-Ok.ensures.read.whole)
-    (subst (λ b. HasChecked b reply.status (string_bytes reply.text)) c.deref.ensures.value c.in-Ok-checked.ensures))
+    c.in-Ok-checked.ensures)
     c.as_bytes.ensures.value c.send.ensures.front
 
 pub send-requires : goal.send-requires

@@ -1,4 +1,4 @@
-use Rattle.std.proofs.Common.{◌≤◌, ◌^◌, ap, sym, subst, length}
+use Rattle.std.proofs.Common.{◌≤◌, ◌^◌, ◌∙◌, ap, sym, subst, drop, length, Some, None}
 use Rattle.std.specs.Prelude.{option_map}
 use Rattle.tm_laid.specs.Layouts.{laid_tree}
 use Rattle.post_recheck.specs.Pairs.{lists_of}
@@ -29,30 +29,36 @@ store_at_end-requires-clause-cells c =
 
 pub returns-in-None : goal.returns-in-None
 returns-in-None c =
-    pair_none c.args.program.now c.args.facts.now c.requires.analysable c.requires.facts c.args.bytes.now
-    c.numbers_are_small.ensures c.in_ok-ahead.ahead c.tables_in.new.ahead
-    (option_map (λ v. lists_of v.items) c.in_ok-found.found) c.in_ok-ahead.ensures c.in_ok-found.ensures
+    pair_none c.args.program.now c.args.facts.now c.requires.analysable c.requires.facts
+    (drop c.args.start c.args.bytes.items) c.numbers_are_small.ensures c.new-text.result c.tables_in.new.text
+    (option_map (λ v. lists_of v.items) c.in_ok-found.found) c.new-text.ensures c.in_ok-found.ensures
     (ap (option_map (λ v. lists_of v.items)) c.in-None.is)
 
 pub returns-in-None-last : goal.returns-in-None-last
 returns-in-None-last c =
     let p = program_with c.args.program.now c.args.facts.now in
     let laid = laid_tree c.args.program.now.laid in
-    let mid = c.tables_in.new.ahead in
-    let rows = subst (λ r. AreReadTables (FitsBodyTable p) (length p.bodies) c.in_ok-ahead.ahead
+    let mid = c.tables_in.new.text in
+    let told = c.in_ok-ahead-in-Some.ahead in
+    let rows = subst (λ r. AreReadTables (FitsBodyTable p) (length p.bodies) c.new-text.result
     (option_map (λ v. lists_of v.items) r) mid) c.in-Some.is c.in_ok-found.ensures in
-    let last = subst (λ r. IsLastStore laid mid r) c.in-None-last.is c.in_ok-last-in-Some.ensures in
-    pair_no_last c.args.program.now c.args.facts.now c.requires.analysable c.requires.facts c.args.bytes.now
-    c.numbers_are_small.ensures c.in_ok-ahead.ahead mid (lists_of c.in-Some.tables.items) c.in_ok-ahead.ensures rows last
+    let last = subst (λ text. IsLastStore laid text None) (c.in_ok-ahead-in-Some.ensures ∙ c.rest.ensures)
+    (subst (λ r. IsLastStore laid told r) c.in-None-last.is c.in_ok-last-in-Some.ensures) in
+    pair_no_last c.args.program.now c.args.facts.now c.requires.analysable c.requires.facts
+    (drop c.args.start c.args.bytes.items) c.numbers_are_small.ensures c.new-text.result mid
+    (lists_of c.in-Some.tables.items) c.new-text.ensures rows last
 
 pub returns : goal.returns
 returns c =
     let p = program_with c.args.program.now c.args.facts.now in
     let laid = laid_tree c.args.program.now.laid in
-    let mid = c.tables_in.new.ahead in
-    let rows = subst (λ r. AreReadTables (FitsBodyTable p) (length p.bodies) c.in_ok-ahead.ahead
+    let mid = c.tables_in.new.text in
+    let told = c.in_ok-ahead-in-Some.ahead in
+    let store = c.in-Some-last.store in
+    let rows = subst (λ r. AreReadTables (FitsBodyTable p) (length p.bodies) c.new-text.result
     (option_map (λ v. lists_of v.items) r) mid) c.in-Some.is c.in_ok-found.ensures in
-    let last = subst (λ r. IsLastStore laid mid r) c.in-Some-last.is c.in_ok-last-in-Some.ensures in
-    pair_whole c.args.program.now c.args.facts.now c.requires.analysable c.requires.facts c.args.bytes.now
-    c.numbers_are_small.ensures c.in_ok-ahead.ahead mid (lists_of c.in-Some.tables.items) c.in-Some-last.store
-    c.in_ok-ahead.ensures rows last
+    let last = subst (λ text. IsLastStore laid text (Some store)) (c.in_ok-ahead-in-Some.ensures ∙ c.rest.ensures)
+    (subst (λ r. IsLastStore laid told r) c.in-Some-last.is c.in_ok-last-in-Some.ensures) in
+    pair_whole c.args.program.now c.args.facts.now c.requires.analysable c.requires.facts
+    (drop c.args.start c.args.bytes.items) c.numbers_are_small.ensures c.new-text.result mid
+    (lists_of c.in-Some.tables.items) store c.new-text.ensures rows last

@@ -11,12 +11,12 @@ use Rattle.certificate_reading.proofs.TablesRead.{tables_behind}
 use Rattle.certificate_reading.proofs.BodiesRead.{cells_few, live_here, read_table, lists_length, lists_more}
 use Rattle.certificate_reading.proofs.tables.tables_in.Goals as goal
 
-pub table_in-requires-clause-cells : goal.table_in-requires-clause-cells
-table_in-requires-clause-cells c =
+pub table_from-requires-clause-cells : goal.table_from-requires-clause-cells
+table_from-requires-clause-cells c =
     cells_few c.args.program.now c.args.facts.now c.requires.analysable c.requires.facts
 
-pub table_in-requires-clause-live : goal.table_in-requires-clause-live
-table_in-requires-clause-live c =
+pub table_from-requires-clause-live : goal.table_from-requires-clause-live
+table_from-requires-clause-live c =
     let program = c.args.program.now in
     let facts = c.args.facts.now in
     let p = program_with program facts in
@@ -38,9 +38,9 @@ returns-in-None c =
     let facts = c.args.facts.now in
     let p = program_with program facts in
     let t = c.loop-body.body in
-    let old = c.args.ahead.now in
-    let mid = c.loop-body.ahead in
-    let new = c.table_in.new.ahead in
+    let old = c.args.text.now in
+    let mid = c.loop-body.text in
+    let new = c.table_from.new.text in
     let zs = lists_of c.loop-body.tables.items in
     let here = c.loop-body-test.true in
     let end = c.len-body-end.ensures in
@@ -66,9 +66,9 @@ loop-body-preserved c =
     let facts = c.args.facts.now in
     let p = program_with program facts in
     let t = c.loop-body.body in
-    let old = c.args.ahead.now in
-    let mid = c.loop-body.ahead in
-    let new = c.table_in.new.ahead in
+    let old = c.args.text.now in
+    let mid = c.loop-body.text in
+    let new = c.table_from.new.text in
     let ts = c.loop-body.tables.items in
     let zs = lists_of ts in
     let table = c.in-Some.table in
@@ -108,5 +108,5 @@ returns c =
     let bodies : length p.bodies ≡ length program.graphs.graphs.items =
     body_count program facts c.requires.analysable c.requires.facts in
     let count : length zs ≡ c.loop-body.body = lists_length c.loop-body.tables.items ∙ c.loop-body.invariant.count in
-    rows_all lines_of_table (FitsBodyTable p) EndsAnyTable EndsTable (length p.bodies) c.args.ahead.now c.loop-body.ahead zs
+    rows_all lines_of_table (FitsBodyTable p) EndsAnyTable EndsTable (length p.bodies) c.args.text.now c.loop-body.text zs
     (omega (arith, past, most, end, ok, bodies, count)) c.loop-body.invariant.far

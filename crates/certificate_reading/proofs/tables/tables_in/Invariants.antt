@@ -10,5 +10,5 @@ abbrev pub invariant-loop-body : goal.invariant-loop-body
 invariant-loop-body l = record {
   count : length l.tables.items ≡ l.body;
   far : (let p = program_with l.program l.facts in AreRowsSoFar lines_of_table (FitsBodyTable p) EndsAnyTable EndsTable
-      (length p.bodies) l.fn.ahead (lists_of l.tables.items) l.ahead);
+      (length p.bodies) l.fn.text (lists_of l.tables.items) l.text);
 }
