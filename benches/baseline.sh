@@ -4,8 +4,9 @@
 # Lines put in, a local that is renamed in another function, and a folder that moves leave all alarms unchanged; an alarm
 # more is new, and one that is gone is absent, with its old place; of equal lines the last one is. Comments suppress alarms
 # of their class in their line, or alone in the line below; those that say no reason are refused at their place, and those
-# that suppress nothing are told. What a log suppresses with a justification stays so. Logs that are none are refused, and
-# hostile ones take a time that grows with their length. Each log is checked against the standard.
+# that suppress nothing are told. What a log suppresses with a justification stays so. Pages and circular waits tell all
+# this too. Logs that are none are refused, and hostile ones take a time that grows with their length. Each log is checked
+# against the standard.
 set -eu
 here=$(cd "$(dirname "$0")" && pwd)
 top=${here%/*}
@@ -97,6 +98,26 @@ wanted+=$'pump.c:7:15: note: unchanged: the divisor may be zero [DIV]\npump.c:8:
 wanted+=$'alarms 4\nnew 1, unchanged 3, absent 1, suppressed 0\nstatus 1'
 same "$wanted" "$(told --baseline "$work/old" pump.c)" "the lines of a comparison"
 
+# What stands on the page of a comparison, from a line on to another: links as PLACE->LINE.
+paged() { # FROM TO WORDS..
+    told --html="$work/page" "${@:3}" >"$work/out"
+    sed -E "s/<a href='#L([0-9]+)'>([^<]*)<\/a>/\2->\1/g; s/<\/t[dh]><t[dh][^>]*>/, /g; s/<p[^>]*>/; /g; s/<[^>]*>//g" \
+        "$work/page" | sed -n "/^$1/,/^$2/p" | sed '/^$/d'
+}
+wanted=$'State, Number\nnew, 1\nunchanged, 3\nabsent, 1\nsuppressed, 0\nnew: 1\nClass, Place\nDIV, pump.c:3:17->3'
+same "$wanted" "$(paged State DIV --baseline "$work/old" pump.c)" "the page of a comparison"
+wanted=$'pump.c:3:17->3, DIV, the divisor may be zero; new\n; the divisor is -1 to 3 here, and the dividend is 100\n'
+wanted+=$'; in main_loop (priority 1)\npump.c:4:15->4, DIV, the divisor may be zero; unchanged'
+same "$wanted" "$(paged pump.c:3:17-\>3,\ DIV,\ the pump.c:4 --baseline "$work/old" pump.c)" "how its alarms stand"
+same "; DIV at column 17, new: the divisor may be zero" "$(paged '; DIV at' ''  --baseline "$work/old" pump.c | head -n 1)" \
+    "how an alarm stands at its line"
+same 0 "$(told --html="$work/page" pump.c >"$work/out" && grep -c 'new' "$work/page")" "no state without an old log"
+sed 's/shown = 100/other = 3 \/ (other * 0); shown = 100/' kept.c >pump.c
+hidden='places that no run reaches are new, so what is absent may stand behind an alarm that ends each run there'
+wanted=$'State, Number\nnew, 1\nunchanged, 0\nabsent, 4\nsuppressed, 0\n; '"$hidden"
+same "$wanted" "$(paged State '; places' --baseline "$work/old" pump.c)" "a page where errors are hidden"
+grep -qx "analyse: $hidden" "$work/err"
+
 # Comments.
 cp kept.c pump.c
 sed -i '3s/$/ \/* cedratcleat: DIV n is "never" 0 *\//; 8i // cedratcleat: DIV by the \\ data sheet' pump.c
@@ -104,6 +125,10 @@ wanted=$'pump.c:3:17: note: suppressed, n is "never" 0: the divisor may be zero 
 wanted+=$'pump.c:7:15: warning: the divisor may be zero [DIV]\n'
 wanted+=$'pump.c:9:15: note: suppressed, by the \\ data sheet: the divisor may be zero [DIV]\nalarms 4\nsuppressed 2\nstatus 1'
 same "$wanted" "$(told pump.c)" "comments suppress"
+wanted=$'suppressed: 2\nClass, Place, Why\nDIV, pump.c:3:17->3, n is &quot;never&quot; 0\n'
+wanted+=$'DIV, pump.c:9:15->9, by the \\ data sheet'
+same "$wanted" "$(paged suppressed: 'DIV, pump.c:9' pump.c)" "what comments suppress, on a page"
+same 1 "$(grep -c 'DIV at column 17, suppressed, n is &quot;never&quot; 0: the divisor' "$work/page")" "and at its line"
 told --sarif pump.c | sed '$d' >"$work/log"
 python3 "$here/sarif.py" "$work/log" >"$work/checked"
 same $'DIV 3 - inSource:n is "never" 0\nDIV 4 -\nDIV 7 -\nDIV 9 - inSource:by the \\ data sheet' "$(states "$work/log")" \
@@ -135,11 +160,26 @@ print(json.dumps(log))' "$work/first" "$@" >"$work/old"
 suppressed '{"kind":"external","justification":"seen by us"}'
 same $'new 0, unchanged 3, absent 0, suppressed 1\nstatus 0' "$(counted pump.c)" "a suppression of the old log"
 same "DIV 3 unchanged external:seen by us" "$(states "$work/new" | head -n 1)" "is kept"
+suppressed '{"kind":"external","justification":"seen by \"us\"\n<b>\u0007\\"}'
+wanted=$'suppressed: 1\nClass, Place, Why\nDIV, pump.c:3:17->3, seen by &quot;us&quot; &lt;b&gt;?\\'
+same "$wanted" "$(paged suppressed: 'DIV, pump.c:3' --baseline "$work/old" pump.c)" "and told on a page"
 suppressed '{"kind":"inSource","justification":"gone"}' '{"kind":"external","status":"rejected"}'
 same $'new 0, unchanged 4, absent 0, suppressed 0\nstatus 0' "$(counted pump.c)" "a comment that is gone, and a proposal"
 suppressed '{"kind":"external","justification":""}'
 same "status 10" "$(told --baseline "$work/old" pump.c)" "a suppression that does not say why"
 grep -q 'an external suppression of the old log has no justification' "$work/err"
+
+# Circular waits stand so, too, in lines and on the page.
+printf '%s\n' '__mutex m;' '__mutex n;' '__task(1) void a(void) { __lock(m); __lock(n); __unlock(n); __unlock(m); }' \
+    '__task(1) void b(void) { __lock(n); __lock(m); __unlock(m); __unlock(n); }' >rings.c
+told --sarif rings.c | sed '$d' >"$work/old"
+sed -i '3i // cedratcleat: WAIT a never waits' rings.c
+same $'new 0, unchanged 1, absent 0, suppressed 1\nstatus 0' "$(counted rings.c)" "waits of the old log"
+sed -i 's/__lock(m); __unlock/; __lock(m); __unlock/' rings.c
+wanted=$'new, 1\nunchanged, 0\nabsent, 1\nsuppressed, 1\nnew: 1\nClass, Place\nWAIT, rings.c:5:39->5\n'
+wanted+=$'suppressed: 1\nClass, Place, Why\nWAIT, rings.c:4:37->4, a never waits'
+same "$wanted" "$(paged new, 'WAIT, rings.c:4' --baseline "$work/old" rings.c)" "waits on the page of a comparison"
+same 1 "$(grep -c 'WAIT at column 37, suppressed, a never waits: tasks may come to wait' "$work/page")" "and at their lines"
 
 # What is no log of the analyser.
 refused() { # CAUSE

@@ -11,7 +11,10 @@ import sys
 
 PROGRAM = "check_main"
 # what solves equations, or is made for those that do; whatever stands above one of them reaches it too
-SOLVERS = ("least_tables", "store_limits", "store_core", "thread_pass", "program_solutions", "analyser")
+SOLVERS = (
+    "least_tables", "least_assignments", "body_slots", "store_limits", "store_core", "thread_pass", "program_solutions",
+    "analyser",
+)
 
 
 def lines_named(root):

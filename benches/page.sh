@@ -1,10 +1,11 @@
 #!/usr/bin/env bash
-# Opens pages in a browser: benches/page.sh FOLDER [CHROMIUM]. It makes with ./analyse the pages of two examples and of a
-# source that is full of tags, in its comments and its name, and FOLDER then has them and a picture of each in
-# light and dark. Of each it sees that the browser's console says nothing, that the page as the browser has read it has no
-# script and no image, and that nothing was loaded. Then it times a page of some 5,000 lines and 500 alarms and one of
-# 10,000 alarms: how long each takes to make beside the lines alone, and to open beside an empty page. CHROMIUM is
-# `chromium`, as Debian has it.
+# Opens pages in a browser: benches/page.sh FOLDER [CHROMIUM]. It makes with ./analyse the pages of three examples, one
+# of which has circular waits, and of a source that is full of tags, in its comments, its name and the reasons for which
+# alarms are suppressed; and FOLDER then has them and a picture of each in light and dark. Of each it sees that the
+# browser's console says nothing, that the page as the browser has read it has no script and no image, that nothing was
+# loaded, and that each link leads to a line that is there. Then it times a page of some 5,000 lines and 500 alarms and
+# one of 10,000 alarms, by the clock: how long each takes to make, with its lines and its log, beside the lines alone, and
+# to open beside an empty page, in turn. CHROMIUM is `chromium`, as Debian has it.
 set -eu
 top=$(readlink -f -- "$(dirname -- "${BASH_SOURCE[0]}")/..")
 mkdir -p -- "$1"
@@ -25,18 +26,22 @@ look() { # PAGE
     ! grep -aiE '<(script|img|iframe|object|embed|link|base|form|svg)[ >/]' "$work/dom" ||
         { echo "$1: the page has this element" && return 1; }
     ! grep -aoiE '<[^>]* (on[a-z]+|src|style)=[^>]*>' "$work/dom" || { echo "$1: the page has this attribute" && return 1; }
+    ! comm -23 <(grep -aoE "href=.#[^'\"]*" "$work/dom" | cut -c 8- | sort -u) \
+        <(grep -aoE " id=['\"][^'\"]*" "$work/dom" | cut -c 6- | sort -u) | grep . ||
+        { echo "$1: these links lead nowhere" && return 1; }
     browse --window-size=1100,1400 --screenshot="$folder/$1.png" "file://$page"
     browse --window-size=1100,1400 --force-dark-mode --enable-features=WebContentsForceDark:inversion_method/none \
         --blink-settings=preferredColorScheme=0 --screenshot="$folder/$1-dark.png" "file://$page"
     echo "$1: $(wc -c <"$page") bytes, no message, no element but its own"
 }
 
-make_page() { # NAME FILE
-    "$top/analyse" --html="$folder/$1.html" "$2" >/dev/null || [ $? = 1 ]
+make_page() { # NAME WORDS..
+    "$top/analyse" --html="$folder/$1.html" "${@:2}" >/dev/null || [ $? = 1 ]
 }
 
 make_page tank "$top/examples/tank.c"
 make_page uart_driver "$top/examples/uart_driver.c"
+make_page lock_order "$top/examples/lock_order.c"
 hostile="$work/a<b>&\"'<img src=x onerror=alert(1)>.c"
 cat >"$hostile" <<'SOURCE'
 /* </code></div><script>alert(1)</script><img src=x onerror="alert(1)"> */
@@ -44,9 +49,23 @@ char text[] = { '<', '"', '>', '&' }; // </style></title><script>alert('2')</scr
 int level, shown;
 __task(2) void drain(void) { level = __input(0, 4); /* --><iframe src=//x> */ }
 __task(1) void show(void) { if (level > 0) shown = 100 / level; /* &lt;script&gt; */ }
+// cedratcleat: DIV </p></code><script>alert(5)</script><img src=x onerror='alert(6)'>
+__task(3) void last(void) { shown = 1 / __input(0, 1); }
 SOURCE
-make_page hostile "$hostile"
-for name in tank uart_driver hostile; do look "$name"; done
+"$top/analyse" --sarif "$hostile" >"$work/log" || [ $? = 1 ]
+python3 - "$work/log" >"$work/old<script>alert(7)<.sarif" <<'PYTHON'
+import json, sys
+log = json.load(open(sys.argv[1]))
+why = "</td></tr></table><script>alert(8)</script>\"'<svg onload=alert(9)>\x17\x1b"
+log["runs"][0]["results"][0]["suppressions"] = [{"kind": "external", "justification": why}]
+print(json.dumps(log))
+PYTHON
+make_page hostile --baseline "$work/old<script>alert(7)<.sarif" "$hostile"
+for name in tank uart_driver lock_order hostile; do look "$name"; done
+for number in 1 2 3 5 7 8 9; do
+    grep -aqF "alert($number)" "$work/dom" || grep -aqF "alert('$number')" "$work/dom" ||
+        { echo "hostile: the text with the number $number is not there" && exit 1; }
+done
 
 # Four tasks that divide in each tenth line, and four that divide in each line.
 python3 - "$work" <<'PYTHON'
@@ -60,18 +79,31 @@ for name, lines, every in (("long", 5000, 10), ("many", 10000, 1)):
     with open(f"{sys.argv[1]}/{name}.c", "w", encoding="ascii") as it:
         it.writelines(tasks)
 PYTHON
-# Seconds by the clock: the least of three runs.
-least() { # COMMAND..
+# Seconds by the clock.
+seconds() { # COMMAND..
     local TIMEFORMAT=%R
-    for _ in 1 2 3; do { time "$@" >"$work/out" 2>/dev/null || true; } 2>&1; done | sort -n | head -n 1
+    { time "$@" >"$work/out" 2>/dev/null || true; } 2>&1
+}
+
+least() { # COMMAND..
+    for _ in 1 2 3; do seconds "$@"; done | sort -n | head -n 1
+}
+
+median() { # FILE
+    sort -n -- "$1" | awk '{ of[NR] = $1 } END { printf "%.2f", (of[int((NR + 1) / 2)] + of[int(NR / 2) + 1]) / 2 }'
 }
 
 echo '<!doctype html><title>empty</title>' >"$work/empty.html"
 for name in long many; do
     lines=$(least "$top/analyse" "$work/$name.c")
-    made=$(least make_page "$name" "$work/$name.c")
-    empty=$(least browse --dump-dom "file://$work/empty.html")
-    opens=$(least browse --dump-dom "file://$folder/$name.html")
-    echo "$name: $(wc -c <"$folder/$name.html") bytes, made in $made seconds beside $lines for the lines alone," \
-        "opens in $opens beside $empty for an empty page"
+    make_page "$name" "$work/$name.c"
+    made=$(least "$top/analyse" --sarif="$work/$name.sarif" --html="$folder/$name.html" "$work/$name.c")
+    : >"$work/opens" && : >"$work/empty"
+    for _ in 1 2 3 4 5 6 7 8 9 10; do
+        seconds browse --dump-dom "file://$work/empty.html" >>"$work/empty"
+        seconds browse --dump-dom "file://$folder/$name.html" >>"$work/opens"
+    done
+    echo "$name: lines, log and page in $made seconds beside $lines for the lines alone, the page has" \
+        "$(wc -c <"$folder/$name.html") bytes and opens in $(median "$work/opens") beside" \
+        "$(median "$work/empty") for an empty page (medians of ten rounds in turn)"
 done

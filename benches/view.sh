@@ -5,7 +5,7 @@
 # at the lines of its files, also through a link, from another folder, and under names with blanks, quotes and
 # backslashes. Each example has the report that stands beside it, and the circular waits, ranges and certificate, which
 # benches/answers.sh writes; the projects of several units have rings and races too, and no certificate. The logs of all
-# examples of one file are checked, and have the places of the lines.
+# examples of one file are checked, and have the places of the lines, and their pages have as many rows as alarms.
 set -eu
 here=$(cd "$(dirname "$0")" && pwd)
 top=${here%/*}
@@ -136,6 +136,8 @@ for project in boiler gateway motor; do
     for command in waits rings races ranges; do
         same "$(cat "$project.$command")" "$(told "$top/analyse" "--$command" -- *.c | sed '$d')" "the $command of $project"
     done
+    told "$top/analyse" --html="$work/page" -- *.c >"$work/out"
+    same "$(sed -n 's/^alarms //p' "$project.report")" "$(grep -c '</a></td><td><b>' "$work/page")" "the page of $project"
 done
 
 # Circular waits, ranges and dead places are shown in their files: each object stands in the line that is told.
@@ -150,6 +152,34 @@ wanted=$'a b.h:7:5: note: x is from 0 to 9\na b.h:7:11: note: y is from 0 to 0\n
 wanted+=$'a b.h:8:48: note: no run reaches this [DEAD]\ndead 1'
 same "$wanted"$'\nstatus 0' "$(told "$top/analyse" --preprocessed --ranges "$work/ranges.c")" "ranges and a dead place"
 same $'waits 0\nstatus 0' "$(told "$top/analyse" --preprocessed --waits "$work/ranges.c")" "no circular wait"
+# A page tells each ring once, with links to its locks, and at each of these what the tasks hold and ask for; and what
+# `--ranges` says, in a table and behind the lines of the declarations, which no mark makes to lines with alarms.
+paged() { # FROM TO WORDS..
+    told "$top/analyse" --html="$work/page" "${@:3}" >"$work/out"
+    sed -E "s/<a href='#L([0-9]+)'>([^<]*)<\/a>/\2->\1/g; s/<(tr|table)><td>//g; s/<\/t[dh]><t[dh][^>]*>/, /g
+        s/<div class='line([^']*)' id='L[0-9]+'><span class='number'>([0-9]+)/\2\1 /; s/<\/p>(<p[^>]*>)?/; /g
+        s/<[^>]*>//g; s/&#39;/'/g; s/&gt;/>/g" "$work/page" | sed -n "/^$1/,/^$2/p" | sed '/^$/d; s/ $//'
+}
+wanted=$'a ring of 2 tasks\nWaits at, Task, Holds, Asks for\na b.h:8:34->3, a, m, n\na b.h:9:34->4, b, n, m'
+same "$wanted" "$(paged 'a ring' 'a b.h:9' --preprocessed "$work/waits.c")" "a ring on a page"
+same 1 "$(grep -c 'a ring of 2 tasks' "$work/page")" "a ring stands once"
+wanted=$'Tasks with alarms or waits\nTask, Priority\na, 1\nb, 1'
+same "$wanted" "$(paged Tasks 'b, ' --preprocessed "$work/waits.c")" "the tasks of a ring"
+wait='at column 34: tasks may come to wait for each other for ever, one of them at this lock'
+wanted=$'8 noted __task(1) void a(void){__lock(m);__lock(n);__unlock(n);__unlock(m);}\n'
+wanted+="WAIT $wait;"$'\na holds m and asks for n;\na b.h:9:34->4: b holds n and asks for m;\n'
+wanted+=$'9 noted __task(1) void b(void){__lock(n);__lock(m);__unlock(m);__unlock(n);}\n'
+wanted+="WAIT $wait;"$'\nb holds n and asks for m;\na b.h:8:34->3: a holds m and asks for n;'
+same "$wanted" "$(paged '8 noted' ' *<.body>' --preprocessed "$work/waits.c")" "waits at their lines"
+wanted=$'Ranges of objects\nleast and greatest values in all runs\nDeclared at, Object, Least, Greatest, Races\n'
+wanted+=$'a b.h:7:5->2, x, 0, 9,\na b.h:7:11->2, y, 0, 0,'
+same "$wanted" "$(paged Ranges 'a b.h:7:11' --preprocessed "$work/ranges.c")" "ranges on a page"
+wanted=$'7 int x;int y;\n in all runs x is from 0 to 9, y is 0;\n'
+wanted+=$'8 unreached __task(1) void t(void){x=__input(0,9);if(x>20)y=1;}\nno run reaches this line\'s column 48;'
+same "$wanted" "$(paged 7 ' *<.body>' --preprocessed "$work/ranges.c")" "ranges and a dead place at their lines"
+printf '# 7 "a.h"\nint n;\n__task(2) void a(void) { n = 1; }\n__task(1) void b(void) { n = 0; }\n' >"$work/race.c"
+same "a.h:7:5->2, n, 0, 1, races" "$(paged 'a.h:7:5->2, n' '' --preprocessed "$work/race.c" | head -n 1)" \
+    "the range of an object with a race"
 # Below each alarm stands why: the values of its operands, where pointers may lead, and who comes there.
 noted() { # SOURCE
     printf '# 7 "a.h"\n%b' "$1" >"$work/why.c"
@@ -245,6 +275,11 @@ for source in "$top"/examples/*.c "$top/examples/project/project.c"; do
         "$(placed "$work/log")" "the log of ${source##*/}"
     same "$(told "$top/analyse" "$source" | tail -n 2)" "$(tail -n 2 "$work/form--summary")" \
         "the summary of ${source##*/}"
+    # (of one run the lines, the log and the page; the page has a row for each alarm, and none of them is new)
+    told "$top/analyse" --baseline "$work/log" --sarif="$work/again" --html="$work/page" "$source" >"$work/out"
+    same "$(sed -n 's/^alarms //p' "$work/out")" "$(grep -c '</a></td><td><b>' "$work/page")" "the page of ${source##*/}"
+    same 'status 0' "$(tail -n 1 "$work/out")" "nothing is new in ${source##*/}"
+    python3 "$here/sarif.py" "$work/again"
 done
 
 # Fingerprints stay when lines are put in, when names of other functions change, and when the folder moves; and two equal
