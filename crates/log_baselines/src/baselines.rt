@@ -1,12 +1,14 @@
 //! The log that comes out of a log by an old one.
 
-ghost use Rattle.std.specs.Prelude.{◌≡◌, ℕ, List, Some, None, length, map, option_map, IfOk, IfSome, IsErrOf, string_bytes};
+ghost use Rattle.std.specs.Prelude.{◌≡◌, ℕ, List, Some, None, false, true, length, map, option_map, IfOk, IfSome, IsErrOf, IsTrue, string_bytes};
+ghost use Rattle.std.specs.List.{list_all};
 ghost use Rattle.serde_json.specs.Data.{Data};
 ghost use Rattle.serde_json.specs.View.{view};
 ghost use Rattle.log_baselines.specs.Baselines.{IsBaseline, IsLineOf, IsOutcome, IsParts, IsWrittenBy, all_results, with_results};
 ghost use Rattle.log_baselines.specs.Causes.{HasFlaw, IsCause, IsFlaw, IsValueOf, values_of};
 ghost use Rattle.log_baselines.specs.declared.causes.Cause.{Cause as CauseOf};
 ghost use Rattle.log_baselines.specs.declared.causes.Flaw.{Flaw as FlawOf};
+ghost use Rattle.log_baselines.specs.Suppressions.{is_reasoned};
 ghost use Rattle.log_baselines.specs.reading.Seen.{IsOldCause, new_fail, old_fail, text_seen, value_seen};
 
 use crate::causes::{Cause, Flaw};
@@ -176,6 +178,23 @@ fn outcome_of(
     })
 }
 
+/// The same, with want of memory told as one of what may come in place of a log.
+fn told(
+    alloc: Global,
+    log: &Value,
+    run: &Value,
+    results: Vec<Value>,
+) -> Result<Outcome, BaselineFail>
+    ensures ok { IfOk result (λ outcome. IsWrittenBy (view log.now) (view run.now) (map view results.items)
+        outcome.log.items outcome.standings.items outcome.is_worse) }
+    ensures no_memory { (cause : CauseOf) → IsErrOf result (BaselineFail.Refused cause) → ⊥ }
+{
+    match outcome_of(alloc, log, run, results) {
+        Ok(outcome) => Ok(outcome),
+        Err(_) => Err(BaselineFail::NoMemory),
+    }
+}
+
 /// What comes out of a log by old results.
 fn compared(
     alloc: Global,
@@ -195,11 +214,8 @@ fn compared(
         outcome.log.items outcome.standings.items outcome.is_worse) }
     ensures no_memory { (cause : CauseOf) → IsErrOf result (BaselineFail.Refused cause) → ⊥ }
 {
-    let Ok(results) = all_results(alloc, is_compared, new, remarks, old_keys, olds) else {
-        return Err(BaselineFail::NoMemory);
-    };
-    match outcome_of(alloc, log, new.run, results) {
-        Ok(outcome) => Ok(outcome),
+    match all_results(alloc, is_compared, new, remarks, old_keys, olds) {
+        Ok(results) => told(alloc, log, new.run, results),
         Err(_) => Err(BaselineFail::NoMemory),
     }
 }
@@ -253,7 +269,55 @@ fn old_fail(unread: Unread) -> BaselineFail
     }
 }
 
-/// What comes out of a log by an old one.
+/// What comes out of a log by the parts of an old one.
+fn by_old_parts(
+    alloc: Global,
+    log: &Value,
+    new: &Parts<'_>,
+    remarks: &[Value],
+    olds: &Parts<'_>,
+) -> Result<Outcome, BaselineFail>
+    requires remarks { length remarks.now ≡ length new.now.results.items }
+    requires keys { length new.now.keys.items ≡ length new.now.results.items }
+    requires old { length olds.now.keys.items ≡ length olds.now.results.items }
+    ensures ok { IfOk result (λ outcome. IsTrue (list_all is_reasoned (map value_seen olds.now.results.items))
+        × IsWrittenBy (view log.now) (value_seen new.now.run)
+        (all_results true (map string_bytes new.now.keys.items) (map view remarks.now)
+        (map value_seen new.now.results.items) (map string_bytes olds.now.keys.items)
+        (map value_seen olds.now.results.items)) outcome.log.items outcome.standings.items outcome.is_worse) }
+    ensures refused { (cause : CauseOf) → IsErrOf result (BaselineFail.Refused cause) → (cause ≡ Cause.NoReason)
+        × (list_all is_reasoned (map value_seen olds.now.results.items) ≡ false) }
+{
+    if !are_reasoned(&olds.results) {
+        return Err(BaselineFail::Refused(Cause::NoReason));
+    }
+    compared(alloc, true, log, new, remarks, &olds.keys, &olds.results)
+}
+
+/// What comes out of a log by an old one. (Here and below each function owns one thing, with one way out behind it: how
+/// a value and the parts of a log are let go is proved for each way out.)
+fn by_old_log(
+    alloc: Global,
+    log: &Value,
+    new: &Parts<'_>,
+    remarks: &[Value],
+    old_log: &Value,
+) -> Result<Outcome, BaselineFail>
+    requires remarks { length remarks.now ≡ length new.now.results.items }
+    requires keys { length new.now.keys.items ≡ length new.now.results.items }
+    ensures ok { IfOk result (λ outcome. (old : List ℕ) → IsValueOf old (view old_log.now) → IsOutcome (view log.now)
+        (value_seen new.now.run) (map string_bytes new.now.keys.items) (map view remarks.now)
+        (map value_seen new.now.results.items) (Some old) outcome.log.items outcome.standings.items outcome.is_worse) }
+    ensures refused { (cause : CauseOf) → IsErrOf result (BaselineFail.Refused cause) → (old : List ℕ) →
+        IsValueOf old (view old_log.now) → IsOldCause old cause }
+{
+    match parts_of(alloc, old_log) {
+        Ok(olds) => by_old_parts(alloc, log, new, remarks, &olds),
+        Err(unread) => Err(old_fail(unread)),
+    }
+}
+
+/// What comes out of a log by the bytes of an old one.
 fn by_old(
     alloc: Global,
     log: &Value,
@@ -268,18 +332,10 @@ fn by_old(
         (Some old.now) outcome.log.items outcome.standings.items outcome.is_worse) }
     ensures refused { (cause : CauseOf) → IsErrOf result (BaselineFail.Refused cause) → IsOldCause old.now cause }
 {
-    let old_log = match value_of(alloc, old) {
-        Ok(value) => value,
-        Err(unread) => return Err(old_fail(unread)),
-    };
-    let olds = match parts_of(alloc, &old_log) {
-        Ok(parts) => parts,
-        Err(unread) => return Err(old_fail(unread)),
-    };
-    if !are_reasoned(&olds.results) {
-        return Err(BaselineFail::Refused(Cause::NoReason));
+    match value_of(alloc, old) {
+        Ok(old_log) => by_old_log(alloc, log, new, remarks, &old_log),
+        Err(unread) => Err(old_fail(unread)),
     }
-    compared(alloc, true, log, new, remarks, &olds.keys, &olds.results)
 }
 
 /// What comes out of a log, by an old one where there is one.
@@ -304,6 +360,71 @@ fn by_any(
     }
 }
 
+/// What comes out of a log with remarks on its results, by an old log, where there is one.
+fn by_remarks(
+    alloc: Global,
+    log: &Value,
+    new: &Parts<'_>,
+    remarks: &Value,
+    old: Option<&[u8]>,
+) -> Result<Outcome, BaselineFail>
+    requires parts { IsParts (view log.now) (value_seen new.now.run) (map value_seen new.now.results.items)
+        (map string_bytes new.now.keys.items) }
+    ensures ok { IfOk result (λ outcome. (text told : List ℕ) → IsValueOf text (view log.now) →
+        IsValueOf told (view remarks.now) → IsBaseline text told (option_map text_seen old.entry)
+        outcome.log.items outcome.standings.items outcome.is_worse) }
+    ensures refused { (cause : CauseOf) → IsErrOf result (BaselineFail.Refused cause) → (text told : List ℕ) →
+        IsValueOf text (view log.now) → IsValueOf told (view remarks.now) →
+        IsCause text told (option_map text_seen old.entry) cause }
+{
+    match remarks_in(remarks, new.results.len()) {
+        Some(remarks) => by_any(alloc, log, new, remarks, old),
+        None => Err(BaselineFail::Refused(Cause::OtherRemarks)),
+    }
+}
+
+/// The same, by the bytes of the remarks.
+fn by_parts(
+    alloc: Global,
+    log: &Value,
+    new: &Parts<'_>,
+    remarks: &[u8],
+    old: Option<&[u8]>,
+) -> Result<Outcome, BaselineFail>
+    requires parts { IsParts (view log.now) (value_seen new.now.run) (map value_seen new.now.results.items)
+        (map string_bytes new.now.keys.items) }
+    ensures ok { IfOk result (λ outcome. (text : List ℕ) → IsValueOf text (view log.now) →
+        IsBaseline text remarks.now (option_map text_seen old.entry)
+        outcome.log.items outcome.standings.items outcome.is_worse) }
+    ensures refused { (cause : CauseOf) → IsErrOf result (BaselineFail.Refused cause) → (text : List ℕ) →
+        IsValueOf text (view log.now) → IsCause text remarks.now (option_map text_seen old.entry) cause }
+{
+    match value_of(alloc, remarks) {
+        Ok(told) => by_remarks(alloc, log, new, &told, old),
+        Err(Unread::Flawed(_)) => Err(BaselineFail::Refused(Cause::OtherRemarks)),
+        Err(Unread::NoMemory) => Err(BaselineFail::NoMemory),
+    }
+}
+
+/// The same, of any log.
+fn by_log(
+    alloc: Global,
+    log: &Value,
+    remarks: &[u8],
+    old: Option<&[u8]>,
+) -> Result<Outcome, BaselineFail>
+    ensures ok { IfOk result (λ outcome. (text : List ℕ) → IsValueOf text (view log.now) →
+        IsBaseline text remarks.now (option_map text_seen old.entry)
+        outcome.log.items outcome.standings.items outcome.is_worse) }
+    ensures refused { (cause : CauseOf) → IsErrOf result (BaselineFail.Refused cause) → (text : List ℕ) →
+        IsValueOf text (view log.now) → IsCause text remarks.now (option_map text_seen old.entry) cause }
+{
+    match parts_of(alloc, log) {
+        Ok(parts) => by_parts(alloc, log, &parts, remarks, old),
+        Err(unread) => Err(new_fail(unread)),
+    }
+}
+
 /// The log, in the format SARIF 2.1.0, that comes out of a log with remarks on its results, by an old log, where there is
 /// one.
 pub fn baseline(
@@ -321,21 +442,8 @@ pub fn baseline(
     ensures refused { (cause : CauseOf) → IsErrOf result (BaselineFail.Refused cause) →
         IsCause new.now remarks.now (option_map (λ bytes. bytes.now) old.entry) cause }
 {
-    let log = match value_of(alloc, new) {
-        Ok(value) => value,
-        Err(unread) => return Err(new_fail(unread)),
-    };
-    let parts = match parts_of(alloc, &log) {
-        Ok(parts) => parts,
-        Err(unread) => return Err(new_fail(unread)),
-    };
-    let told = match value_of(alloc, remarks) {
-        Ok(value) => value,
-        Err(Unread::Flawed(_)) => return Err(BaselineFail::Refused(Cause::OtherRemarks)),
-        Err(Unread::NoMemory) => return Err(BaselineFail::NoMemory),
-    };
-    match remarks_in(&told, parts.results.len()) {
-        Some(told) => by_any(alloc, &log, &parts, told, old),
-        None => Err(BaselineFail::Refused(Cause::OtherRemarks)),
+    match value_of(alloc, new) {
+        Ok(log) => by_log(alloc, &log, remarks, old),
+        Err(unread) => Err(new_fail(unread)),
     }
 }
