@@ -1,6 +1,7 @@
 -- What the code tells of the least solution of a source is what the source is answered; and answers come with a whole
 -- text, which sources that are too long have already where only a front of them is known.
-use Rattle.std.proofs.Common.{◌≡◌, ◌∙◌, sym, ap, subst, ℕ, ◌<◌, ◌≤◌, ◌^◌, List, [], ◌∷◌, ◌++◌, length, arith, length-append}
+use Rattle.std.proofs.Common.{◌≡◌, ◌∙◌, sym, ap, subst, ℕ, ◌<◌, ◌≤◌, ◌^◌, List, [], ◌∷◌, ◌++◌, length, map, arith}
+use Rattle.std.proofs.Common.{length-append}
 use Rattle.tm_terms.specs.declared.refusals.Refusal.{Refusal}
 use Rattle.tm_laid.specs.Layouts.{LaidTree}
 use Rattle.program_solutions.specs.program_equations.Programs.{ProgramBodies, IsProgram}
@@ -10,7 +11,7 @@ use Rattle.program_solutions.specs.program_equations.Solutions.{tables_of}
 use Rattle.access_groups.specs.declared.object_access.AccessGroup.{AccessGroup}
 use Rattle.access_groups.proofs.One.{grouped_alarms}
 use Rattle.alarm_contexts.specs.declared.alarm_context.AlarmContexts.{AlarmContexts}
-use Rattle.alarm_contexts.proofs.One.{report_alarms}
+use Rattle.alarm_contexts.proofs.One.{report_alarms, no_races}
 use Rattle.request_circles.specs.declared.rings.Ring.{Ring}
 use Rattle.request_circles.specs.Rings.{ring_places}
 use Rattle.source_programs.specs.LaidSources.{longest_source, IsLaidSource}
@@ -24,19 +25,34 @@ use Rattle.program_streams.specs.declared.statuses.Status.{Status}
 use Rattle.program_streams.specs.declared.statuses.Status.TheVariants.{NoAlarm, Alarms, Refused, Usage, ReadFault}
 use Rattle.program_streams.specs.declared.statuses.Status.TheVariants.{WriteFault, NoMemory}
 use Rattle.program_streams.specs.Statuses.{IsWhole}
-use Rattle.source_findings.specs.Findings.{Solves}
+use Rattle.source_findings.specs.Findings.{Solves, FindsRanges}
+use Rattle.value_ranges.specs.declared.object_bounds.ObjectBounds.{ObjectBounds}
+use Rattle.value_ranges.specs.Ranges.{AreRanges}
+use Rattle.value_ranges.specs.Places.{AreDead}
+use Rattle.sound_core.proofs.Within.{within}
+use Rattle.sound_core.proofs.Reached.{never_listed}
+use Rattle.tm_terms.specs.declared.alarms.Alarm.{Alarm}
+use Rattle.tm_terms.specs.declared.places.Place.{Place}
+use Rattle.lock_waits.specs.Waits.{AreRings}
+use Rattle.access_groups.specs.Groups.{AreGroups}
+use Rattle.alarm_contexts.specs.Contexts.{AreContexts, alarm_of}
+use Rattle.program_reports.specs.Reports.{IsReport}
+use Rattle.program_notes.specs.AlarmTexts.{other_alarms}
+use Rattle.program_notes.proofs.Paired.{paired}
+use Rattle.program_notes.specs.declared.declarations.Declared.{Declared}
 use Rattle.certificate_check.proofs.Sourced.{comes_from}
 use Rattle.source_notes.specs.Names.{task_names, task_priorities, mutex_names, object_names}
 use Rattle.source_notes.specs.RingTexts.{rings_text}
 use Rattle.source_notes.specs.RaceTexts.{groups_text}
 use Rattle.source_notes.specs.AlarmTexts.{alarms_text}
-use Rattle.source_notes.specs.AlarmOperations.{operation_of}
+use Rattle.program_notes.specs.Operations.{operation_of}
 use Rattle.source_notes.specs.declared.names.Names.{Names}
 use Rattle.source_notes.specs.declared.answers.Note.{Note}
-use Rattle.source_notes.specs.declared.answers.Note.TheVariants.{Rings, Races, Alarms as Others}
+use Rattle.source_notes.specs.declared.answers.Note.TheVariants.{Rings, Races, Alarms as Others, Whole}
 use Rattle.source_notes.specs.Notes.{rings_status, races_status, alarms_status, TellsRings, TellsRaces, TellsAlarms}
-use Rattle.source_notes.specs.Notes.{Tells, HasNotes}
-use Rattle.source_notes.specs.reading.Told.{TellsRingsOf, TellsRacesOf, TellsAlarmsOf, TellsOf}
+use Rattle.source_notes.specs.Notes.{FindsRings, FindsRaces, FindsAlarms, Declares, TellsNotes}
+use Rattle.source_notes.specs.Notes.{report_status, Tells, HasNotes}
+use Rattle.source_notes.specs.reading.Told.{TellsRingsOf, TellsRacesOf, TellsAlarmsOf, TellsNotesOf, TellsOf}
 
 module _ (bytes : List ℕ) (p : ProgramBodies) (a : IsAccepted [] bytes p) (few : length a.laid.objects ≤ 2 ^ 32)
     (pair : Pair) (least : IsLeastPair p pair) where
@@ -46,20 +62,66 @@ module _ (bytes : List ℕ) (p : ProgramBodies) (a : IsAccepted [] bytes p) (few
   is : IsProgram p
   is = accepted_is_program [] bytes p a
 
+  -- what each part promises of runs
+  rings_found : (rings : List Ring) → AreRings p (tables_of pair.tables) rings → FindsRings bytes rings
+  unfolding solves
+  rings_found rings are = record {
+    solves = solves;
+    are = are;
+    blocked = λ w reached tasks ring. ring_listed a.laid p (comes_from [] bytes p a) is few pair.tables pair.store
+        least.solution (ring_places rings) are.places w reached tasks ring;
+  }
+
+  races_found : (groups : List AccessGroup) → AreGroups p (tables_of pair.tables) groups → FindsRaces bytes groups
+  unfolding solves
+  races_found groups are = record {
+    solves = solves;
+    are = are;
+    listed = accesses_listed a.laid p (comes_from [] bytes p a) is few pair.tables pair.store least.solution groups are;
+    alarmed = λ report r place. grouped_alarms p (tables_of pair.tables) groups are place report r;
+  }
+
+  -- the program of the solution is the one at hand
+  alarms_found : (alarms : List AlarmContexts) → AreContexts p (tables_of pair.tables) alarms → FindsAlarms bytes alarms
+  unfolding solves
+  alarms_found alarms are = record {
+    solves = solves;
+    are = are;
+    listed = stops_listed a.laid p (comes_from [] bytes p a) is few pair.tables pair.store least.solution alarms are;
+    alarmed = λ report r place class other.
+        report_alarms p (tables_of pair.tables) report alarms r are place class other;
+  }
+
+  paired_found : (alarms : List AlarmContexts) (report : List Alarm) → AreContexts p (tables_of pair.tables) alarms
+      → IsReport p (tables_of pair.tables) report → map alarm_of alarms ≡ other_alarms report
+  paired_found alarms report are r =
+      paired alarms report are.sorted r.sorted (λ place class other.
+      report_alarms p (tables_of pair.tables) report alarms r are place class other)
+      (λ place. no_races p (tables_of pair.tables) alarms are place)
+
+  ranges_found : (bounds : List ObjectBounds) (dead : List Place)
+      → AreRanges p (tables_of pair.tables) pair.store bounds → AreDead p (tables_of pair.tables) dead
+      → FindsRanges bytes bounds dead
+  unfolding solves
+  ranges_found bounds dead ranges places = record {
+    solves = solves;
+    ranges = ranges;
+    places = places;
+    within = λ w reached object cell n h. within a.laid p (comes_from [] bytes p a) is few pair.tables pair.store
+        least.solution bounds ranges w reached object cell n h;
+    nowhere = λ w reached place has body may acts. never_listed a.laid p (comes_from [] bytes p a) is few
+        pair.tables pair.store least.solution w reached dead places place has body may acts;
+  }
+
   module _ (laid : LaidTree) (of : IsLaidSource bytes laid) (names : Names) (are_tasks : names.tasks.items
       ≡ task_names laid) (are_priorities : names.priorities.items ≡ task_priorities laid) (are_mutexes
-      : names.mutexes.items ≡ mutex_names laid) (are_objects : names.objects.items ≡ object_names laid) where
+      : names.mutexes.items ≡ mutex_names laid) (are_objects : names.objects.items ≡ object_names laid)
+      (declared : Declared) (declares : Declares laid declared) where
     rings_told : (status : Status) (text : List ℕ)
         → TellsRingsOf p bytes names.tasks.items names.mutexes.items pair status text → TellsRings bytes status text
-    unfolding solves
     rings_told status text t = record {
       rings = t.rings;
-      finds = record {
-        solves = solves;
-        are = t.are;
-        blocked = λ w reached tasks ring. ring_listed a.laid p (comes_from [] bytes p a) is few pair.tables pair.store
-            least.solution (ring_places t.rings) (let r = t.are in r.places) w reached tasks ring;
-      };
+      finds = rings_found t.rings t.are;
       comes = t.comes;
       laid = laid;
       of = of;
@@ -70,16 +132,9 @@ module _ (bytes : List ℕ) (p : ProgramBodies) (a : IsAccepted [] bytes p) (few
     races_told : (status : Status) (text : List ℕ)
         → TellsRacesOf p bytes names.objects.items names.tasks.items names.mutexes.items pair status text
         → TellsRaces bytes status text
-    unfolding solves
     races_told status text t = record {
       groups = t.groups;
-      finds = record {
-        solves = solves;
-        are = t.are;
-        listed = accesses_listed a.laid p (comes_from [] bytes p a) is few pair.tables pair.store least.solution t.groups
-            t.are;
-        alarmed = λ report r place. grouped_alarms p (tables_of pair.tables) t.groups t.are place report r;
-      };
+      finds = races_found t.groups t.are;
       comes = t.comes;
       laid = laid;
       of = of;
@@ -90,16 +145,10 @@ module _ (bytes : List ℕ) (p : ProgramBodies) (a : IsAccepted [] bytes p) (few
 
     alarms_told : (status : Status) (text : List ℕ) → TellsAlarmsOf p bytes names pair status text
         → TellsAlarms bytes status text
-    unfolding solves
+    unfolding solves alarms_found
     alarms_told status text t = record {
       alarms = t.alarms;
-      finds = record {
-        solves = solves;
-        are = t.are;
-        listed = stops_listed a.laid p (comes_from [] bytes p a) is few pair.tables pair.store least.solution t.alarms t.are;
-        alarmed = λ report r place class other.
-            report_alarms p (tables_of pair.tables) report t.alarms r t.are place class other;
-      };
+      finds = alarms_found t.alarms t.are;
       comes = t.comes;
       laid = laid;
       of = of;
@@ -112,6 +161,32 @@ module _ (bytes : List ℕ) (p : ProgramBodies) (a : IsAccepted [] bytes p) (few
           ∙ ap (λ ms. alarms_text bytes (object_names laid) (task_names laid) (task_priorities laid) ms
           (operation_of p) t.alarms) are_mutexes;
     }
+
+    notes_told : (status : Status) (text : List ℕ) → TellsNotesOf p bytes declared pair status text
+        → TellsNotes bytes status text
+    unfolding solves alarms_found
+    notes_told status text t =
+        let are = t.are in
+        let c = t.contents in
+        let r = c.ranges in
+        let report = c.report in
+        record {
+          contents = c;
+          finds = record {
+            report = record { solves = solves; is = are.report };
+            others = alarms_found c.others.items are.others;
+            paired = paired_found c.others.items report.alarms.items are.others are.report;
+            groups = races_found c.groups.items are.groups;
+            rings = rings_found c.rings.items are.rings;
+            ranges = ranges_found r.bounds.items r.dead.items are.bounds are.dead;
+          };
+          comes = t.comes;
+          laid = laid;
+          of = of;
+          declared = declared;
+          declares = declares;
+          is = t.is;
+        }
 
     -- the status is one of the two
     rings_by : (rings : List Ring) (status : Status) (text : List ℕ) → status ≡ rings_status rings
@@ -135,11 +210,20 @@ module _ (bytes : List ℕ) (p : ProgramBodies) (a : IsAccepted [] bytes p) (few
     alarms_by (alarm ∷ alarms) status text e t =
         subst (λ s. TellsAlarms bytes s text → HasNotes Others bytes s text) (sym e) (λ u. u) t
 
-    pub told : (n : Note) (status : Status) (text : List ℕ) → TellsOf n p bytes names pair status text
+    notes_by : (report : List Alarm) (status : Status) (text : List ℕ) → status ≡ report_status report
+        → TellsNotes bytes status text → HasNotes Whole bytes status text
+    notes_by [] status text e t =
+        subst (λ s. TellsNotes bytes s text → HasNotes Whole bytes s text) (sym e) (λ u. u) t
+    notes_by (alarm ∷ report) status text e t =
+        subst (λ s. TellsNotes bytes s text → HasNotes Whole bytes s text) (sym e) (λ u. u) t
+
+    pub told : (n : Note) (status : Status) (text : List ℕ) → TellsOf n p bytes names declared pair status text
         → HasNotes n bytes status text
     told Rings status text t = rings_by t.rings status text t.comes (rings_told status text t)
     told Races status text t = races_by t.groups status text t.comes (races_told status text t)
     told Others status text t = alarms_by t.alarms status text t.comes (alarms_told status text t)
+    told Whole status text t =
+        let c = t.contents in let r = c.report in notes_by r.alarms.items status text t.comes (notes_told status text t)
 
 -- ## Whole texts
 
@@ -176,6 +260,7 @@ solved_by : (n : Note) (bytes : List ℕ) (status : Status) (text : List ℕ) �
 solved_by Rings bytes status text t = (let f = t.finds in f.solves)
 solved_by Races bytes status text t = (let f = t.finds in f.solves)
 solved_by Others bytes status text t = (let f = t.finds in f.solves)
+solved_by Whole bytes status text t = (let f = t.finds in let r = f.report in r.solves)
 
 pub longer_notes : (n : Note) (bytes more : List ℕ) → longest_source < length bytes → (status : Status) (text : List ℕ)
     → HasNotes n bytes status text → HasNotes n (bytes ++ more) status text

@@ -1,5 +1,5 @@
 -- The texts of alarms with what they stand on. Lines, columns and numbers stand in decimal.
-use Rattle.std.specs.Prelude.{ℕ, zero, suc, ◌-◌, Bool, not, ◌||◌, ◌==◌, cond, List, [], ◌++◌, length, codes, decimal}
+use Rattle.std.specs.Prelude.{ℕ, zero, suc, cond, List, [], ◌++◌, length, codes, decimal}
 use Rattle.std.specs.Prelude.{slice_get, Option, Some, None}
 use Rattle.std.specs.List.{flat_map}
 use Rattle.pointer_dom.specs.Values.{Values}
@@ -9,9 +9,11 @@ use Rattle.tm_terms.specs.Texts.{line_of, class_text}
 use Rattle.flow_graph.specs.declared.operations.Operation.{Operation}
 use Rattle.alarm_contexts.specs.declared.alarm_context.ContextEdge.{ContextEdge}
 use Rattle.alarm_contexts.specs.declared.alarm_context.AlarmContexts.{AlarmContexts}
+use Rattle.notes_json.specs.Operations.{role_at}
+use Rattle.program_notes.specs.Edges.{edge_body, is_first}
 use Rattle.source_notes.specs.declared.names.ObjectName.{ObjectName}
 use Rattle.source_notes.specs.Names.{place_head}
-use Rattle.source_notes.specs.OperationWords.{operation_text, role_at}
+use Rattle.source_notes.specs.OperationWords.{operation_text}
 use Rattle.source_notes.specs.OperandTexts.{word_if, operand_text, flaw_lines}
 
 -- ## Tasks
@@ -35,17 +37,6 @@ priority_text priorities n = or_initial (slice_get priorities n)
 -- NAME PRIORITY, or main initial, behind a blank
 abbrev pub body_text : List ℕ → List Name → List ℕ → ℕ → List ℕ
 body_text bytes tasks priorities n = codes " " ++ (runner_text bytes tasks n ++ priority_text priorities n)
-
--- the body of an edge of a list, by its place in it, and whether it is the first of its body
-abbrev pub body_or_none : Option ContextEdge → ℕ
-body_or_none None = 0
-body_or_none (Some e) = e.body
-
-abbrev pub edge_body : List ContextEdge → ℕ → ℕ
-edge_body edges n = body_or_none (slice_get edges n)
-
-abbrev pub is_first : List ContextEdge → ℕ → Bool
-is_first edges n = (n == 0) || not (edge_body edges (n - 1) == edge_body edges n)
 
 module _ (bytes : List ℕ) (tasks : List Name) (priorities : List ℕ) where
   -- the task of an edge that is the first of its body

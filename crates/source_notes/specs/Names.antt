@@ -20,8 +20,8 @@ abbrev pub function_name : Option TypedFunctionTree → Name
 function_name None = no_name
 function_name (Some f) = f.name
 
--- the names of the tasks of a layout, which are those of their functions, and their priorities; the names of its mutexes,
--- and of its objects, these with the places where they are declared first
+-- the names of the tasks of a layout, which are those of their functions, and their priorities; the names of its
+-- mutexes, and of its objects, these with the places where they are declared first
 abbrev pub task_names : LaidTree → List Name
 task_names laid = (let file = laid.file in
     map (λ (task : TypedTask). function_name (slice_get file.functions task.function)) file.tasks)

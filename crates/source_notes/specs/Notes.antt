@@ -1,6 +1,6 @@
--- What is answered to a source: the rings in which its tasks may come to wait for each other, its races by object, or its
--- other alarms and what they stand on.
-use Rattle.std.specs.Prelude.{◌≡◌, ◌↔◌, ℕ, List, [], ◌∷◌, Contains}
+-- What is answered to a source: the rings in which its tasks may come to wait for each other, its races by object, its
+-- other alarms and what they stand on, or all of this and its ranges and dead places.
+use Rattle.std.specs.Prelude.{◌≡◌, ◌↔◌, ℕ, List, [], ◌∷◌, map, Contains}
 use Rattle.tm_cint.specs.declared.Class.{Class}
 use Rattle.tm_cint.specs.declared.Class.TheVariants.{Race}
 use Rattle.tm_terms.specs.declared.alarms.Alarm.{Alarm}
@@ -15,7 +15,7 @@ use Rattle.program_reports.specs.Reports.{IsReport}
 use Rattle.access_groups.specs.declared.object_access.AccessGroup.{AccessGroup}
 use Rattle.access_groups.specs.Groups.{AreGroups, HasRacingAt}
 use Rattle.alarm_contexts.specs.declared.alarm_context.AlarmContexts.{AlarmContexts}
-use Rattle.alarm_contexts.specs.Contexts.{AreContexts, HasAlarm}
+use Rattle.alarm_contexts.specs.Contexts.{AreContexts, HasAlarm, alarm_of}
 use Rattle.tm_laid.specs.Layouts.{LaidTree}
 use Rattle.source_programs.specs.LaidSources.{IsLaidSource}
 use Rattle.source_programs.specs.Sources.{IsRefused}
@@ -24,19 +24,25 @@ use Rattle.program_streams.specs.declared.statuses.Status.TheVariants.{NoAlarm, 
 use Rattle.program_streams.specs.declared.statuses.Status.TheVariants.{WriteFault, NoMemory}
 use Rattle.sound_core.specs.Accesses.{ListsAccesses}
 use Rattle.sound_core.specs.Stops.{ListsStops}
-use Rattle.source_findings.specs.Findings.{Solves, ListsRings}
+use Rattle.source_findings.specs.Findings.{Solves, ListsRings, FindsRanges}
+use Rattle.program_notes.specs.Declarations.{runners_of, mutexes_of, objects_of}
+use Rattle.program_notes.specs.AlarmTexts.{other_alarms}
+use Rattle.program_notes.specs.NotesTexts.{notes_text}
+use Rattle.program_notes.specs.declared.declarations.Declared.{Declared}
+use Rattle.program_notes.specs.declared.noted.Contents.{Contents}
 use Rattle.source_notes.specs.Names.{task_names, task_priorities, mutex_names, object_names}
 use Rattle.source_notes.specs.RingTexts.{rings_text}
 use Rattle.source_notes.specs.RaceTexts.{groups_text}
 use Rattle.source_notes.specs.AlarmTexts.{alarms_text}
-use Rattle.source_notes.specs.AlarmOperations.{operation_of}
+use Rattle.program_notes.specs.Operations.{operation_of}
 use Rattle.source_notes.specs.declared.answers.Note.{Note}
-use Rattle.source_notes.specs.declared.answers.Note.TheVariants.{Rings, Races, Alarms as Others}
+use Rattle.source_notes.specs.declared.answers.Note.TheVariants.{Rings, Races, Alarms as Others, Whole}
 
 -- ## Rings
 
 -- For each place of a circular wait of the least solution a shortest ring that begins there; and in each world that a
--- run reaches and that has not stopped, each task of each ring of blocked tasks is about to lock at one of these places.
+-- run reaches and that has not stopped, each task of each ring of blocked tasks is about to lock at one of
+-- these places.
 pub record FindsRings (bytes : List ℕ) (rings : List Ring) : Type 0 where
   pub solves : Solves bytes
   pub are : (let s = solves in let pair = s.pair in AreRings s.program (tables_of pair.tables) rings)
@@ -58,9 +64,9 @@ pub record TellsRings (bytes : List ℕ) (status : Status) (text : List ℕ) : T
 -- ## Races
 
 -- The objects with races in the tables of the least solution, each with all accesses to it, racing or not. Each access
--- that a task is about to make to such an object, in a world that a run reaches, is among them, under exactly the mutexes
--- that the task holds, and both sides of each race are, as ones that race; and the report of these tables, which lists
--- each error that occurs in a run, has a race at exactly the places of those that race.
+-- that a task is about to make to such an object, in a world that a run reaches, is among them, under exactly the
+-- mutexes that the task holds, and both sides of each race are, as ones that race; and the report of these tables,
+-- which lists each error that occurs in a run, has a race at exactly the places of those that race.
 pub record FindsRaces (bytes : List ℕ) (groups : List AccessGroup) : Type 0 where
   pub solves : Solves bytes
   pub are : (let s = solves in let pair = s.pair in AreGroups s.program (tables_of pair.tables) groups)
@@ -84,8 +90,8 @@ pub record TellsRaces (bytes : List ℕ) (status : Status) (text : List ℕ) : T
 -- ## Alarms of other classes
 
 -- The alarms in the tables of the least solution, each with its edges and operands, that are not races. Wherever a run
--- stops with an error, one of them tells it: the body that stops stands before one of its edges, with values that lie in
--- its operands. And the report of these tables has of the other classes exactly these.
+-- stops with an error, one of them tells it: the body that stops stands before one of its edges, with values that lie
+-- in its operands. And the report of these tables has of the other classes exactly these.
 pub record FindsAlarms (bytes : List ℕ) (alarms : List AlarmContexts) : Type 0 where
   pub solves : Solves bytes
   pub are : (let s = solves in let pair = s.pair in AreContexts s.program (tables_of pair.tables) alarms)
@@ -104,8 +110,47 @@ pub record TellsAlarms (bytes : List ℕ) (status : Status) (text : List ℕ) : 
   pub comes : status ≡ alarms_status alarms
   pub laid : LaidTree
   pub of : IsLaidSource bytes laid
-  pub is : (let s = finds.solves in text ≡ alarms_text bytes (object_names laid) (task_names laid) (task_priorities laid)
-      (mutex_names laid) (operation_of s.program) alarms)
+  pub is : (let s = finds.solves in text ≡ alarms_text bytes (object_names laid) (task_names laid)
+      (task_priorities laid) (mutex_names laid) (operation_of s.program) alarms)
+
+-- ## All notes
+
+-- the report of a least solution
+pub record FindsReport (bytes : List ℕ) (report : List Alarm) : Type 0 where
+  pub solves : Solves bytes
+  pub is : (let s = solves in let pair = s.pair in IsReport s.program (tables_of pair.tables) report)
+
+-- The report of the least solution, the alarms of it that are not races, in the same order, the races by object, the
+-- rings, and the bounds of objects with the dead places, each with what that promises of runs.
+pub record FindsNotes (bytes : List ℕ) (c : Contents) : Type 0 where
+  pub report : (let r = c.report in FindsReport bytes r.alarms.items)
+  pub others : FindsAlarms bytes c.others.items
+  pub paired : (let r = c.report in map alarm_of c.others.items ≡ other_alarms r.alarms.items)
+  pub groups : FindsRaces bytes c.groups.items
+  pub rings : FindsRings bytes c.rings.items
+  pub ranges : (let r = c.ranges in FindsRanges bytes r.bounds.items r.dead.items)
+
+-- whether there is an alarm
+abbrev pub report_status : List Alarm → Status
+report_status [] = NoAlarm
+report_status (alarm ∷ report) = Alarms
+
+-- what a layout declares
+pub record Declares (laid : LaidTree) (d : Declared) : Type 0 where
+  pub runners : d.runners.items ≡ runners_of laid
+  pub mutexes : d.mutexes.items ≡ mutexes_of laid
+  pub objects : d.objects.items ≡ objects_of laid
+
+pub record TellsNotes (bytes : List ℕ) (status : Status) (text : List ℕ) : Type 0 where
+  pub contents : Contents
+  pub finds : FindsNotes bytes contents
+  pub comes : (let r = contents.report in status ≡ report_status r.alarms.items)
+  pub laid : LaidTree
+  pub of : IsLaidSource bytes laid
+  pub declared : Declared
+  pub declares : Declares laid declared
+  pub is : (let o = finds.others in let s = o.solves in
+      text ≡ notes_text bytes declared (operation_of s.program) contents)
 
 -- ## All
 
@@ -113,6 +158,7 @@ abbrev pub Tells : Note → List ℕ → Status → List ℕ → Type 0
 Tells Rings = TellsRings
 Tells Races = TellsRaces
 Tells Others = TellsAlarms
+Tells Whole = TellsNotes
 
 -- The status and the text that these bytes are answered with.
 abbrev pub HasNotes : Note → List ℕ → Status → List ℕ → Type 0

@@ -11,9 +11,8 @@ use Rattle.pointer_dom.specs.Values.{Values}
 use Rattle.tm_terms.specs.declared.places.Place.{Place}
 use Rattle.tm_terms.specs.Spelling.{text_of}
 use Rattle.tm_terms.specs.Texts.{line_of}
-use Rattle.alarm_contexts.specs.declared.flaws.Flaw.{Flaw}
-use Rattle.alarm_contexts.specs.declared.flaws.Flaw.TheVariants as Flaws
 use Rattle.alarm_contexts.specs.declared.flaws.ObjectFlaw.{ObjectFlaw}
+use Rattle.program_notes.specs.Flaws.{flaw_text}
 use Rattle.source_notes.specs.declared.names.ObjectName.{ObjectName}
 use Rattle.source_notes.specs.Names.{place_head}
 use Rattle.source_notes.specs.RaceTexts.{object_at}
@@ -49,13 +48,6 @@ operand_line place role v =
 -- of SIZE at
 abbrev pub size_text : ℕ → List ℕ
 size_text size = codes " of " ++ (decimal size ++ codes " at")
-
--- what is wrong with a pointer
-abbrev pub flaw_text : Flaw → List ℕ
-flaw_text Flaws.Gone = codes "gone"
-flaw_text Flaws.Offset = codes "offset"
-flaw_text Flaws.Before = codes "before"
-flaw_text Flaws.Behind = codes "behind"
 
 module _ (bytes : List ℕ) (objects : List ObjectName) where
   -- LINE:COL NAME of SIZE at LEAST GREATEST STRIDE: an object where it is declared first, the number of its cells, and

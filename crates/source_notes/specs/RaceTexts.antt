@@ -1,7 +1,6 @@
 -- The texts of races by object. Lines, columns and numbers stand in decimal.
 use Rattle.std.specs.Prelude.{ℕ, Bool, cond, List, [], ◌++◌, length, codes, decimal, slice_get, Option, Some, None}
 use Rattle.std.specs.List.{flat_map}
-use Rattle.tm_terms.specs.declared.places.Place.{Place}
 use Rattle.tm_terms.specs.declared.tokens.Name.{Name}
 use Rattle.tm_terms.specs.Spelling.{text_of}
 use Rattle.tm_terms.specs.Texts.{line_of}

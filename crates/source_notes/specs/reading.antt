@@ -1,3 +1,2 @@
 -- What the code computes: no clause of a public call names it.
-pub mod Operations
 pub mod Told

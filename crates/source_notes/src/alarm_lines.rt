@@ -1,15 +1,17 @@
 //! The lines of alarms.
 ghost use Rattle.std.specs.Prelude.{◌≡◌, ◌++◌, IfOk, OnOk, length, string_bytes};
-ghost use Rattle.source_notes.specs.AlarmTexts.{runner_text, priority_text, body_text, edge_body, is_first, task_at};
+ghost use Rattle.source_notes.specs.AlarmTexts.{runner_text, priority_text, body_text, task_at};
 ghost use Rattle.source_notes.specs.AlarmTexts.{tasks_below, edges_text, head_front, head_back, alarm_head};
 ghost use Rattle.source_notes.specs.AlarmTexts.{operand_at, operands_below, alarm_text, count_line};
 
 use crate::names::Names;
 use crate::operand_lines::{push_flaws, push_operand, word_if};
-use crate::operation_words::{push_operation, role_at};
-use crate::spelling::{place_head, push_bytes, text_of};
+use crate::operation_words::push_operation;
+use crate::spelling::place_head;
 use alarm_contexts::{AlarmContexts, ContextEdge};
 use flow_graph::Operation;
+use notes_json::{push_bytes, role_at, text_of};
+use program_notes::{edge_body, is_first};
 use std::alloc::Global;
 use tm_lattice::NoMemory;
 use tm_terms::{Name, class_word};
@@ -54,23 +56,6 @@ fn push_body(
     push_bytes(text, runner_text(bytes, &names.tasks, number))?;
     push_bytes(text, priority.as_bytes())?;
     Ok(())
-}
-
-/// The body of an edge of a list, by its place in it.
-fn edge_body(edges: &[ContextEdge], at: usize) -> u32
-    ensures { result ≡ edge_body edges.now at }
-{
-    match edges.get(at) {
-        None => 0,
-        Some(edge) => edge.body,
-    }
-}
-
-/// Whether it is the first of its body.
-fn is_first(edges: &[ContextEdge], at: usize) -> bool
-    ensures { result ≡ is_first edges.now at }
-{
-    at == 0 || edge_body(edges, at - 1) != edge_body(edges, at)
 }
 
 /// Appends the task of an edge, where it is the first of that.

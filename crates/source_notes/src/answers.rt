@@ -2,8 +2,9 @@
 ghost use Rattle.std.specs.Prelude.{◌≡◌, IfOk};
 ghost use Rattle.program_solutions.specs.program_systems.ReadPrograms.{program_of};
 ghost use Rattle.program_solutions.specs.LeastReports.{IsLeastPair};
-ghost use Rattle.source_notes.specs.Notes.{HasNotes, rings_status, races_status, alarms_status};
-ghost use Rattle.source_notes.specs.reading.Told.{TellsOf, TellsRingsOf, TellsRacesOf, TellsAlarmsOf};
+ghost use Rattle.source_notes.specs.Notes.{HasNotes, rings_status, races_status, alarms_status, report_status};
+ghost use Rattle.source_notes.specs.reading.Told.{TellsOf, TellsRingsOf, TellsRacesOf, TellsAlarmsOf, TellsNotesOf};
+ghost use Rattle.source_notes.specs.reading.Told.{AreContents};
 
 use crate::alarm_operations::alarms_text;
 use crate::names::{Names, names_of};
@@ -12,13 +13,16 @@ use crate::ring_lines::rings_text;
 use access_groups::{AccessGroup, groups};
 use alarm_contexts::{AlarmContexts, alarm_contexts};
 use lock_waits::rings;
+use program_notes::{Contents, Declared, declared_of, notes_text};
+use program_reports::judge;
 use program_solutions::{Analysis, Solution, solution};
 use program_streams::Status;
 use request_circles::Ring;
 use source_programs::source_program;
 use std::alloc::Global as Heap;
 use tm_lattice::NoMemory;
-use tm_terms::{Fail, refusal_line};
+use tm_terms::{Alarm, Fail, refusal_line};
+use value_ranges::ranges;
 
 /// What the notes are on.
 #[derive(Clone, Copy)]
@@ -29,6 +33,8 @@ pub enum Note {
     Races,
     /// Alarms of values and locks, and what they stand on.
     Alarms,
+    /// All of it, with ranges and dead places, as one line of JSON.
+    Whole,
 }
 
 /// A status and the whole text that goes with it. Names stand in it byte for byte, as in the source.
@@ -65,6 +71,17 @@ fn alarms_status(alarms: &[AlarmContexts]) -> Status
     ensures { result ≡ alarms_status alarms.now }
 {
     if alarms.is_empty() {
+        Status::NoAlarm
+    } else {
+        Status::Alarms
+    }
+}
+
+/// Whether there is an alarm in a report.
+fn report_status(report: &[Alarm]) -> Status
+    ensures { result ≡ report_status report.now }
+{
+    if report.is_empty() {
         Status::NoAlarm
     } else {
         Status::Alarms
@@ -134,23 +151,66 @@ fn alarms_reply(
     })
 }
 
+/// All that a least solution tells.
+fn contents_of(alloc: Heap, analysis: &Analysis, found: &Solution) -> Result<Contents, NoMemory>
+    requires { IsLeastPair (program_of analysis.now) found.now }
+    ensures { IfOk result (λ contents. AreContents (program_of analysis.now) found.now contents) }
+{
+    let (program, facts) = analysis.parts();
+    let report = judge(alloc, program, facts, found.tables(), found.store())?;
+    let others = alarm_contexts(alloc, program, facts, found.tables(), found.store())?;
+    let groups = groups(alloc, program, facts, found.tables(), found.store())?;
+    let rings = rings(alloc, program, found.tables())?;
+    let ranges = ranges(alloc, program, facts, found.tables(), found.store())?;
+    Ok(Contents {
+        report,
+        others,
+        groups,
+        rings,
+        ranges,
+    })
+}
+
+/// All notes on a least solution.
+fn whole_reply(
+    alloc: Heap,
+    bytes: &[u8],
+    declared: &Declared,
+    analysis: &Analysis,
+    found: &Solution,
+) -> Result<NoteReply, NoMemory>
+    requires { IsLeastPair (program_of analysis.now) found.now }
+    ensures { IfOk result (λ reply. TellsNotesOf (program_of analysis.now) bytes.now declared.now
+        found.now reply.status reply.text.items) }
+{
+    let (program, facts) = analysis.parts();
+    let contents = contents_of(alloc, analysis, found)?;
+    let text = notes_text(alloc, bytes, declared, program, facts, &contents)?;
+    Ok(NoteReply {
+        status: report_status(&contents.report.alarms),
+        text,
+    })
+}
+
 /// What a least solution tells.
 fn reply_of(
     alloc: Heap,
     note: Note,
     bytes: &[u8],
     names: &Names,
+    declared: &Declared,
     analysis: &Analysis,
     found: &Solution,
 ) -> Result<NoteReply, NoMemory>
     requires { IsLeastPair (program_of analysis.now) found.now }
-    ensures { IfOk result (λ reply.
-        TellsOf note (program_of analysis.now) bytes.now names.now found.now reply.status reply.text.items) }
+    ensures { IfOk result (λ reply. TellsOf note (program_of analysis.now) bytes.now names.now declared.now
+        found.now reply.status reply.text.items) }
 {
     match note {
         Note::Rings => rings_reply(alloc, bytes, names, analysis, found),
         Note::Races => races_reply(alloc, bytes, names, analysis, found),
         Note::Alarms => alarms_reply(alloc, bytes, names, analysis, found),
+        Note::Whole => whole_reply(alloc, bytes, declared, analysis, found),
     }
 }
 
@@ -162,9 +222,10 @@ pub fn notes_of(alloc: Heap, note: Note, bytes: &[u8]) -> Result<NoteReply, NoMe
     match source_program(alloc, bytes, &[]) {
         Ok(program) => {
             let names = names_of(alloc, &program.laid)?;
+            let declared = declared_of(alloc, &program.laid)?;
             let analysis = Analysis::new(alloc, program)?;
             let found = solution(alloc, &analysis)?;
-            reply_of(alloc, note, bytes, &names, &analysis, &found)
+            reply_of(alloc, note, bytes, &names, &declared, &analysis, &found)
         }
         Err(Fail::Refused(refusal)) => {
             let text = refusal_line(alloc, &refusal)?;

@@ -3,13 +3,15 @@ ghost use Rattle.std.specs.Prelude.{◌≡◌, ◌≢◌, ◌++◌, IfOk, OnOk, 
 ghost use Rattle.strided_dom.specs.Progression.{empty};
 ghost use Rattle.source_notes.specs.OperandTexts.{word_if, some_numbers_text, numbers_text, pointers_text};
 ghost use Rattle.source_notes.specs.OperandTexts.{operand_line, size_text, object_line, object_lines, operand_text};
-ghost use Rattle.source_notes.specs.OperandTexts.{flaw_text, flaw_line, flaw_lines};
+ghost use Rattle.source_notes.specs.OperandTexts.{flaw_line, flaw_lines};
 
 use crate::names::Names;
 use crate::race_lines::object_at;
-use crate::spelling::{place_head, push_bytes, text_of};
-use alarm_contexts::{Flaw, ObjectFlaw};
+use crate::spelling::place_head;
+use alarm_contexts::ObjectFlaw;
+use notes_json::{push_bytes, text_of};
 use pointer_dom::{AbsValue, Offsets, PointerSet};
+use program_notes::flaw_text;
 use std::alloc::Global;
 use strided_dom::Strided;
 use tm_lattice::NoMemory;
@@ -149,18 +151,6 @@ fn push_value_objects(
     match value.pointers() {
         None => Ok(()),
         Some(pointers) => push_objects(alloc, text, bytes, names, pointers),
-    }
-}
-
-/// What is wrong with a pointer.
-fn flaw_text(flaw: Flaw) -> &'static [u8]
-    ensures { result.now ≡ flaw_text flaw }
-{
-    match flaw {
-        Flaw::Gone => b"gone",
-        Flaw::Offset => b"offset",
-        Flaw::Before => b"before",
-        Flaw::Behind => b"behind",
     }
 }
 

@@ -1,69 +1,15 @@
 //! The words of operations that may fail.
 ghost use Rattle.std.specs.Prelude.{◌≡◌, ◌++◌, IfOk, OnOk, string_bytes};
-ghost use Rattle.source_notes.specs.OperationWords.{type_text, binary_text, unary_text, moved_text, typed_text};
+ghost use Rattle.source_notes.specs.OperationWords.{moved_text, typed_text};
 ghost use Rattle.source_notes.specs.OperationWords.{elements_text, cells_text, lock_text, operation_text};
-ghost use Rattle.source_notes.specs.OperationWords.{first_role, second_role, role_at};
 
-use crate::spelling::{name_at, push_bytes};
+use crate::spelling::name_at;
 use flow_graph::Operation;
+use notes_json::{binary_text, push_bytes, type_text, unary_text};
 use std::alloc::Global;
-use tm_cint::{BinOp, IntType};
+use tm_cint::IntType;
 use tm_lattice::NoMemory;
 use tm_terms::Name;
-use tm_typed::Unary;
-
-/// A type (C99 6.7.2).
-fn type_text(of: IntType) -> &'static [u8]
-    ensures { result.now ≡ type_text of }
-{
-    match of {
-        IntType::Bool => b"_Bool",
-        IntType::Char => b"char",
-        IntType::UChar => b"unsigned char",
-        IntType::Short => b"short",
-        IntType::UShort => b"unsigned short",
-        IntType::Int => b"int",
-        IntType::UInt => b"unsigned",
-        IntType::Long => b"long",
-        IntType::ULong => b"unsigned long",
-        IntType::LLong => b"long long",
-        IntType::ULLong => b"unsigned long long",
-    }
-}
-
-/// A binary operator (C99 6.5.5 to 6.5.12).
-fn binary_text(operator: BinOp) -> &'static [u8]
-    ensures { result.now ≡ binary_text operator }
-{
-    match operator {
-        BinOp::Add => b"+",
-        BinOp::Sub => b"-",
-        BinOp::Mul => b"*",
-        BinOp::Div => b"/",
-        BinOp::Rem => b"%",
-        BinOp::Shl => b"<<",
-        BinOp::Shr => b">>",
-        BinOp::And => b"&",
-        BinOp::Or => b"|",
-        BinOp::Xor => b"^",
-        BinOp::Lt => b"<",
-        BinOp::Le => b"<=",
-        BinOp::Gt => b">",
-        BinOp::Ge => b">=",
-        BinOp::Eq => b"==",
-        BinOp::Ne => b"!=",
-    }
-}
-
-/// A unary operator (C99 6.5.3.3).
-fn unary_text(operator: Unary) -> &'static [u8]
-    ensures { result.now ≡ unary_text operator }
-{
-    match operator {
-        Unary::Negate => b"-",
-        Unary::Complement => b"~",
-    }
-}
 
 /// The sign of pointer arithmetic (C99 6.5.6).
 fn moved_text(minus: bool) -> &'static [u8]
@@ -173,42 +119,5 @@ pub(crate) fn push_operation(
             b" unheld",
         ),
         _ => Ok(()),
-    }
-}
-
-/// What the first operand of an operation that may fail is.
-#[tactic(auto, unfolding(crate::specs::OperationWords::first_role))]
-fn first_role(operation: Operation) -> &'static [u8]
-    ensures { result.now ≡ first_role operation }
-{
-    match operation {
-        Operation::Bin { .. } => b"left",
-        Operation::Index { .. } => b"array",
-        Operation::Move { .. } | Operation::Deref { .. } | Operation::Usable { .. } => b"pointer",
-        _ => b"operand",
-    }
-}
-
-/// What the second one is.
-#[tactic(auto, unfolding(crate::specs::OperationWords::second_role))]
-fn second_role(operation: Operation) -> &'static [u8]
-    ensures { result.now ≡ second_role operation }
-{
-    match operation {
-        Operation::Bin { .. } => b"right",
-        Operation::Index { .. } => b"subscript",
-        Operation::Move { .. } => b"offset",
-        _ => b"operand",
-    }
-}
-
-/// What the operand at this place among the operands is.
-pub(crate) fn role_at(operation: Operation, at: usize) -> &'static [u8]
-    ensures { result.now ≡ role_at operation at }
-{
-    if at == 0 {
-        first_role(operation)
-    } else {
-        second_role(operation)
     }
 }

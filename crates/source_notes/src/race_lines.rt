@@ -1,11 +1,13 @@
 //! The lines of races by object.
 ghost use Rattle.std.specs.Prelude.{◌≡◌, ◌++◌, IfOk, OnOk, string_bytes};
-ghost use Rattle.source_notes.specs.RaceTexts.{kind_text, racing_text, races_text, object_at, access_front, access_back};
-ghost use Rattle.source_notes.specs.RaceTexts.{access_line, group_head, group_text, groups_text, count_line};
+ghost use Rattle.source_notes.specs.RaceTexts.{kind_text, racing_text, races_text, object_at, access_front};
+ghost use Rattle.source_notes.specs.RaceTexts.{access_back, access_line, group_head, group_text, groups_text};
+ghost use Rattle.source_notes.specs.RaceTexts.{count_line};
 
 use crate::names::{Names, ObjectName};
-use crate::spelling::{name_at, place_head, push_bytes, push_names, text_of};
+use crate::spelling::{name_at, place_head, push_names};
 use access_groups::{AccessGroup, ObjectAccess};
+use notes_json::{push_bytes, text_of};
 use std::alloc::Global;
 use tm_lattice::NoMemory;
 use tm_terms::{Name, Place};

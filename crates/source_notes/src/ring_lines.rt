@@ -3,7 +3,8 @@ ghost use Rattle.std.specs.Prelude.{◌≡◌, ◌++◌, IfOk, OnOk, string_byte
 ghost use Rattle.source_notes.specs.RingTexts.{request_line, ring_head, ring_text, rings_text, count_line};
 
 use crate::names::Names;
-use crate::spelling::{name_at, place_head, push_bytes, push_names};
+use crate::spelling::{name_at, place_head, push_names};
+use notes_json::push_bytes;
 use request_circles::{Request, Ring};
 use std::alloc::Global;
 use tm_lattice::NoMemory;
@@ -16,7 +17,8 @@ fn push_request(
     names: &Names,
     request: Request,
 ) -> Result<(), NoMemory>
-    ensures { OnOk result (text.new.items ≡ text.old.items ++ request_line bytes.now names.now.tasks.items names.now.mutexes.items request) }
+    ensures { OnOk result (text.new.items ≡ text.old.items ++ request_line bytes.now names.now.tasks.items
+        names.now.mutexes.items request) }
 {
     let head = place_head(alloc, request.place)?;
     push_bytes(text, head.as_bytes())?;
@@ -50,7 +52,8 @@ fn push_ring(
     names: &Names,
     ring: &Ring,
 ) -> Result<(), NoMemory>
-    ensures { OnOk result (text.new.items ≡ text.old.items ++ ring_text bytes.now names.now.tasks.items names.now.mutexes.items ring.now) }
+    ensures { OnOk result (text.new.items ≡ text.old.items ++ ring_text bytes.now names.now.tasks.items
+        names.now.mutexes.items ring.now) }
 {
     let head = ring_head(alloc, ring)?;
     push_bytes(text, head.as_bytes())?;
@@ -77,7 +80,8 @@ pub(crate) fn rings_text(
     names: &Names,
     rings: &[Ring],
 ) -> Result<Vec<u8>, NoMemory>
-    ensures { IfOk result (λ text. text.items ≡ rings_text bytes.now names.now.tasks.items names.now.mutexes.items rings.now) }
+    ensures { IfOk result (λ text. text.items ≡ rings_text bytes.now names.now.tasks.items
+        names.now.mutexes.items rings.now) }
 {
     let mut text = Vec::new(alloc);
     for ring in rings {

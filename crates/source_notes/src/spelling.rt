@@ -1,40 +1,12 @@
 //! Names and places in texts.
 ghost use Rattle.std.specs.Prelude.{◌≡◌, ◌++◌, IfOk, OnOk, string_bytes};
-ghost use Rattle.tm_terms.specs.Spelling.{text_of};
 ghost use Rattle.source_notes.specs.Names.{place_head, name_at, held_name, names_below};
 
+use notes_json::{push_bytes, text_of};
 use request_circles::has_mutex;
 use std::alloc::Global;
 use tm_lattice::NoMemory;
 use tm_terms::{Name, Place};
-
-/// Appends bytes.
-pub(crate) fn push_bytes(text: &mut Vec<u8>, bytes: &[u8]) -> Result<(), NoMemory>
-    ensures { OnOk result (text.new.items ≡ text.old.items ++ bytes.now) }
-{
-    match text.extend_from_slice(bytes) {
-        Ok(()) => Ok(()),
-        Err(_) => Err(NoMemory),
-    }
-}
-
-/// The bytes of a name.
-pub(crate) fn text_of(bytes: &[u8], name: Name) -> &[u8]
-    ensures { result.now ≡ text_of bytes.now name }
-{
-    let start = name.start as usize;
-    let count = name.length as usize;
-    let rest = if start < bytes.len() {
-        &bytes[start..]
-    } else {
-        &[]
-    };
-    if count < rest.len() {
-        &rest[..count]
-    } else {
-        rest
-    }
-}
 
 /// The bytes of a name, if there is one with this number.
 pub(crate) fn name_at<'a>(bytes: &'a [u8], names: &[Name], number: u32) -> &'a [u8]

@@ -11,15 +11,21 @@ use Rattle.access_groups.specs.Groups.{AreGroups}
 use Rattle.alarm_contexts.specs.declared.alarm_context.AlarmContexts.{AlarmContexts}
 use Rattle.alarm_contexts.specs.Contexts.{AreContexts}
 use Rattle.program_streams.specs.declared.statuses.Status.{Status}
-use Rattle.source_notes.specs.Notes.{rings_status, races_status, alarms_status}
+use Rattle.program_reports.specs.Reports.{IsReport}
+use Rattle.value_ranges.specs.Ranges.{AreRanges}
+use Rattle.value_ranges.specs.Places.{AreDead}
+use Rattle.program_notes.specs.NotesTexts.{notes_text}
+use Rattle.program_notes.specs.declared.declarations.Declared.{Declared}
+use Rattle.program_notes.specs.declared.noted.Contents.{Contents}
+use Rattle.source_notes.specs.Notes.{rings_status, races_status, alarms_status, report_status}
 use Rattle.source_notes.specs.RingTexts.{rings_text}
 use Rattle.source_notes.specs.RaceTexts.{groups_text}
 use Rattle.source_notes.specs.AlarmTexts.{alarms_text}
-use Rattle.source_notes.specs.AlarmOperations.{operation_of}
+use Rattle.program_notes.specs.Operations.{operation_of}
 use Rattle.source_notes.specs.declared.names.Names.{Names}
 use Rattle.source_notes.specs.declared.names.ObjectName.{ObjectName}
 use Rattle.source_notes.specs.declared.answers.Note.{Note}
-use Rattle.source_notes.specs.declared.answers.Note.TheVariants.{Rings, Races, Alarms}
+use Rattle.source_notes.specs.declared.answers.Note.TheVariants.{Rings, Races, Alarms, Whole}
 
 pub record TellsRingsOf (p : ProgramBodies) (bytes : List ℕ) (tasks mutexes : List Name) (pair : Pair)
     (status : Status) (text : List ℕ) : Type 0 where
@@ -43,7 +49,24 @@ pub record TellsAlarmsOf (p : ProgramBodies) (bytes : List ℕ) (names : Names) 
   pub is : text ≡ alarms_text bytes names.objects.items names.tasks.items names.priorities.items names.mutexes.items
       (operation_of p) alarms
 
-abbrev pub TellsOf : Note → ProgramBodies → List ℕ → Names → Pair → Status → List ℕ → Type 0
-TellsOf Rings p bytes names = TellsRingsOf p bytes names.tasks.items names.mutexes.items
-TellsOf Races p bytes names = TellsRacesOf p bytes names.objects.items names.tasks.items names.mutexes.items
-TellsOf Alarms p bytes names = TellsAlarmsOf p bytes names
+-- what the tables and the store tell
+pub record AreContents (p : ProgramBodies) (pair : Pair) (c : Contents) : Type 0 where
+  pub report : (let r = c.report in IsReport p (tables_of pair.tables) r.alarms.items)
+  pub others : AreContexts p (tables_of pair.tables) c.others.items
+  pub groups : AreGroups p (tables_of pair.tables) c.groups.items
+  pub rings : AreRings p (tables_of pair.tables) c.rings.items
+  pub bounds : (let r = c.ranges in AreRanges p (tables_of pair.tables) pair.store r.bounds.items)
+  pub dead : (let r = c.ranges in AreDead p (tables_of pair.tables) r.dead.items)
+
+pub record TellsNotesOf (p : ProgramBodies) (bytes : List ℕ) (declared : Declared) (pair : Pair) (status : Status)
+    (text : List ℕ) : Type 0 where
+  pub contents : Contents
+  pub are : AreContents p pair contents
+  pub comes : (let r = contents.report in status ≡ report_status r.alarms.items)
+  pub is : text ≡ notes_text bytes declared (operation_of p) contents
+
+abbrev pub TellsOf : Note → ProgramBodies → List ℕ → Names → Declared → Pair → Status → List ℕ → Type 0
+TellsOf Rings p bytes names declared = TellsRingsOf p bytes names.tasks.items names.mutexes.items
+TellsOf Races p bytes names declared = TellsRacesOf p bytes names.objects.items names.tasks.items names.mutexes.items
+TellsOf Alarms p bytes names declared = TellsAlarmsOf p bytes names
+TellsOf Whole p bytes names declared = TellsNotesOf p bytes declared

@@ -1,7 +1,7 @@
 use Rattle.std.proofs.Common.{◌≡◌, take}
 use Rattle.std.specs.List.{flat_map}
 use Rattle.post_recheck.specs.program_systems.ProgramFacts.{program_with}
-use Rattle.source_notes.specs.AlarmOperations.{operation_of}
+use Rattle.program_notes.specs.Operations.{operation_of}
 use Rattle.source_notes.specs.AlarmTexts.{alarm_text}
 use Rattle.source_notes.proofs.alarm_operations.alarms_text.Given as goal
 

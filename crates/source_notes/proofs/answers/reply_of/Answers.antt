@@ -7,14 +7,23 @@ use Rattle.source_notes.proofs.answers.reply_of.Goals as goal
 pub returns-in-Rings : goal.returns-in-Rings
 returns-in-Rings c =
     subst (λ n. IfOk c.rings_reply.result (λ reply. TellsOf n (program_of c.args.analysis.now) c.args.bytes.now
-    c.args.names.now c.args.found.now reply.status reply.text.items)) (sym c.in-Rings.is) c.rings_reply.ensures
+    c.args.names.now c.args.declared.now c.args.found.now reply.status reply.text.items)) (sym c.in-Rings.is)
+    c.rings_reply.ensures
 
 pub returns-in-Races : goal.returns-in-Races
 returns-in-Races c =
     subst (λ n. IfOk c.races_reply.result (λ reply. TellsOf n (program_of c.args.analysis.now) c.args.bytes.now
-    c.args.names.now c.args.found.now reply.status reply.text.items)) (sym c.in-Races.is) c.races_reply.ensures
+    c.args.names.now c.args.declared.now c.args.found.now reply.status reply.text.items)) (sym c.in-Races.is)
+    c.races_reply.ensures
 
 pub returns-in-Alarms : goal.returns-in-Alarms
 returns-in-Alarms c =
     subst (λ n. IfOk c.alarms_reply.result (λ reply. TellsOf n (program_of c.args.analysis.now) c.args.bytes.now
-    c.args.names.now c.args.found.now reply.status reply.text.items)) (sym c.in-Alarms.is) c.alarms_reply.ensures
+    c.args.names.now c.args.declared.now c.args.found.now reply.status reply.text.items)) (sym c.in-Alarms.is)
+    c.alarms_reply.ensures
+
+pub returns-in-Whole : goal.returns-in-Whole
+returns-in-Whole c =
+    subst (λ n. IfOk c.whole_reply.result (λ reply. TellsOf n (program_of c.args.analysis.now) c.args.bytes.now
+    c.args.names.now c.args.declared.now c.args.found.now reply.status reply.text.items)) (sym c.in-Whole.is)
+    c.whole_reply.ensures

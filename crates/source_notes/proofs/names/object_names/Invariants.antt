@@ -5,4 +5,5 @@ use Rattle.source_notes.proofs.names.object_names.Given as goal
 -- the names of the objects so far
 abbrev pub invariant-loop-object : goal.invariant-loop-object
 invariant-loop-object l =
-    l.names.items ≡ map (λ (o : LaidObject). record { name = o.name; place = o.place }) (take l.object-index l.object-items)
+    l.names.items ≡ map (λ (o : LaidObject). record { name = o.name; place = o.place })
+    (take l.object-index l.object-items)

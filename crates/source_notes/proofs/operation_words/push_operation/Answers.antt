@@ -7,14 +7,16 @@ pub returns-in-Un : goal.returns-in-Un
 unfolding operation_text
 returns-in-Un c =
     subst (λ x. OnOk c.push_typed.result (c.push_typed.new.text.items ≡ c.args.text.now.items ++ x))
-    (ap (λ w. typed_text w c.in-Un.of) c.unary_text.ensures ∙ ap (operation_text c.args.bytes.now c.args.mutexes.now) (sym c.in-Un.is))
+    (ap (λ w. typed_text w c.in-Un.of) c.unary_text.ensures
+    ∙ ap (operation_text c.args.bytes.now c.args.mutexes.now) (sym c.in-Un.is))
     c.push_typed.ensures
 
 pub returns-in-Bin : goal.returns-in-Bin
 unfolding operation_text
 returns-in-Bin c =
     subst (λ x. OnOk c.push_typed-in-Bin.result (c.push_typed-in-Bin.new.text.items ≡ c.args.text.now.items ++ x))
-    (ap (λ w. typed_text w c.in-Bin.of) c.binary_text.ensures ∙ ap (operation_text c.args.bytes.now c.args.mutexes.now) (sym c.in-Bin.is))
+    (ap (λ w. typed_text w c.in-Bin.of) c.binary_text.ensures
+    ∙ ap (operation_text c.args.bytes.now c.args.mutexes.now) (sym c.in-Bin.is))
     c.push_typed-in-Bin.ensures
 
 pub returns-in-Index : goal.returns-in-Index

@@ -13,7 +13,8 @@ returns c =
     let access = c.args.access in
     five c.args.text.now.items (place_head access.place) (name_at bytes tasks access.task) (kind_text access.stores)
     (codes " holds") (names_below bytes mutexes access.held 16)
-    (c.in_ok-push_bytes.ensures ∙ ap (λ x. c.args.text.now.items ++ x) (c.as_bytes.ensures.value ∙ c.in_ok-head.ensures))
+    (c.in_ok-push_bytes.ensures ∙ ap (λ x. c.args.text.now.items ++ x) (c.as_bytes.ensures.value
+    ∙ c.in_ok-head.ensures))
     (c.in_ok-push_bytes-2.ensures ∙ ap (λ x. c.push_bytes.new.text.items ++ x) (c.name_at.ensures
     ∙ ap (λ ns. name_at bytes ns access.task) c.deref.ensures.value))
     (c.in_ok-push_bytes-3.ensures ∙ ap (λ x. c.push_bytes-2.new.text.items ++ x) c.kind_text.ensures)

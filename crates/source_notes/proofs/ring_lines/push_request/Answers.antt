@@ -12,7 +12,8 @@ returns c =
     let request = c.args.request in
     line c.args.text.now.items (place_head request.place) (name_at bytes tasks request.task) (codes " holds")
     (names_below bytes mutexes request.held 16) (codes " asks ") (name_at bytes mutexes request.mutex) (10 ∷ [])
-    (c.in_ok-push_bytes.ensures ∙ ap (λ x. c.args.text.now.items ++ x) (c.as_bytes.ensures.value ∙ c.in_ok-head.ensures))
+    (c.in_ok-push_bytes.ensures ∙ ap (λ x. c.args.text.now.items ++ x) (c.as_bytes.ensures.value
+    ∙ c.in_ok-head.ensures))
     (c.in_ok-push_bytes-2.ensures ∙ ap (λ x. c.push_bytes.new.text.items ++ x) (c.name_at.ensures
     ∙ ap (λ ns. name_at bytes ns request.task) c.deref.ensures.value))
     c.in_ok-push_bytes-3.ensures (c.in_ok-push_names.ensures ∙ ap (λ ns. c.push_bytes-3.new.text.items

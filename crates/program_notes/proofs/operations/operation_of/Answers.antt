@@ -1,8 +1,8 @@
 use Rattle.std.proofs.Common.{ap, ◌∙◌}
 use Rattle.std.specs.Prelude.{slice_get}
-use Rattle.source_notes.specs.reading.Operations.{in_graphs}
-use Rattle.source_notes.proofs.Operations.{operation_found}
-use Rattle.source_notes.proofs.alarm_operations.operation_of.Goals as goal
+use Rattle.program_notes.specs.reading.Lookups.{in_graphs}
+use Rattle.program_notes.proofs.OperationsFound.{operation_found}
+use Rattle.program_notes.proofs.operations.operation_of.Goals as goal
 
 pub returns : goal.returns
 returns c =

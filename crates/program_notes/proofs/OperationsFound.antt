@@ -10,10 +10,11 @@ use Rattle.post_recheck.specs.task_equations.Bodies.{no_edge, Body}
 use Rattle.post_recheck.specs.body_systems.Facts.{Facts}
 use Rattle.post_recheck.specs.program_systems.Analysable.{IsAnalysable}
 use Rattle.post_recheck.specs.program_systems.ReadPrograms.{ReadProgram, bodies_from}
-use Rattle.post_recheck.specs.program_systems.ProgramFacts.{AllFacts, AreProgramFacts, program_with, read_bodies, read_with}
+use Rattle.post_recheck.specs.program_systems.ProgramFacts.{AllFacts, AreProgramFacts, program_with, read_bodies}
+use Rattle.post_recheck.specs.program_systems.ProgramFacts.{read_with}
 use Rattle.alarm_contexts.specs.declared.alarm_context.ContextEdge.{ContextEdge}
-use Rattle.source_notes.specs.AlarmOperations.{operation_along}
-use Rattle.source_notes.specs.reading.Operations.{or_skip, in_graph, in_graphs}
+use Rattle.program_notes.specs.Operations.{operation_along}
+use Rattle.program_notes.specs.reading.Lookups.{or_skip, in_graph, in_graphs}
 
 -- an edge in a list
 along : (edges : List Edge) (k : ℕ) → or_skip (slice_get edges k) ≡ (let e = get_or edges k no_edge in e.op)

@@ -1,0 +1,153 @@
+//! Tasks, mutexes and objects, and the bounds of what objects hold.
+ghost use Rattle.std.specs.Prelude.{◌≡◌, ◌++◌, IfOk, OnOk, string_bytes};
+ghost use Rattle.notes_json.specs.Names.{is_none, priority_text, task_text, mutex_text, function_text, owner_text};
+ghost use Rattle.notes_json.specs.Names.{object_front, object_text, range_text};
+
+use crate::pieces::{push_bytes, push_number, push_truth, push_word};
+use std::alloc::Global;
+use tm_lattice::NoMemory;
+use tm_terms::Place;
+
+/// Appends the priority of a task, or that it is the initial section.
+fn push_priority(alloc: Global, text: &mut Vec<u8>, priority: Option<u8>) -> Result<(), NoMemory>
+    ensures { OnOk result (text.new.items ≡ text.old.items ++ priority_text priority) }
+{
+    match priority {
+        None => push_bytes(text, b",\"priority\":null}"),
+        Some(found) => {
+            push_number(alloc, text, b",\"priority\":", found as u64)?;
+            push_bytes(text, b"}")
+        }
+    }
+}
+
+/// Whether there is no priority.
+fn is_none(priority: Option<u8>) -> bool
+    ensures { result ≡ is_none priority }
+{
+    match priority {
+        None => true,
+        Some(_) => false,
+    }
+}
+
+/// Appends a task, or the initial section, which has no priority.
+pub fn push_task(
+    alloc: Global,
+    text: &mut Vec<u8>,
+    place: Place,
+    name: &[u8],
+    priority: Option<u8>,
+) -> Result<(), NoMemory>
+    ensures { OnOk result (text.new.items ≡ text.old.items ++ task_text place name.now priority) }
+{
+    push_number(alloc, text, b"{\"col\":", place.col as u64)?;
+    push_truth(text, b",\"initial\":", is_none(priority))?;
+    push_number(alloc, text, b",\"line\":", place.line as u64)?;
+    push_word(text, b",\"name\":\"", name)?;
+    push_priority(alloc, text, priority)?;
+    Ok(())
+}
+
+/// Appends a mutex.
+pub fn push_mutex(
+    alloc: Global,
+    text: &mut Vec<u8>,
+    place: Place,
+    name: &[u8],
+) -> Result<(), NoMemory>
+    ensures { OnOk result (text.new.items ≡ text.old.items ++ mutex_text place name.now) }
+{
+    push_number(alloc, text, b"{\"col\":", place.col as u64)?;
+    push_number(alloc, text, b",\"line\":", place.line as u64)?;
+    push_word(text, b",\"name\":\"", name)?;
+    push_bytes(text, b"}")
+}
+
+/// Appends the function of an object that a task has to itself.
+fn push_function(text: &mut Vec<u8>, function: &[u8], task: Option<u32>) -> Result<(), NoMemory>
+    ensures { OnOk result (text.new.items ≡ text.old.items ++ function_text function.now task) }
+{
+    match task {
+        None => Ok(()),
+        Some(_) => {
+            push_word(text, b"\"function\":\"", function)?;
+            push_bytes(text, b",")?;
+            Ok(())
+        }
+    }
+}
+
+/// Appends whether an object has static storage, and else its task.
+fn push_owner(alloc: Global, text: &mut Vec<u8>, task: Option<u32>) -> Result<(), NoMemory>
+    ensures { OnOk result (text.new.items ≡ text.old.items ++ owner_text task) }
+{
+    match task {
+        None => push_bytes(text, b",\"static\":true}"),
+        Some(found) => {
+            push_number(alloc, text, b",\"static\":false,\"task\":", found as u64)?;
+            push_bytes(text, b"}")?;
+            Ok(())
+        }
+    }
+}
+
+/// Appends what stands of an object up to its line.
+fn push_object_front(
+    alloc: Global,
+    text: &mut Vec<u8>,
+    place: Place,
+    function: &[u8],
+    task: Option<u32>,
+) -> Result<(), NoMemory>
+    ensures { OnOk result (text.new.items ≡ text.old.items ++ object_front place function.now task) }
+{
+    push_number(alloc, text, b"{\"col\":", place.col as u64)?;
+    push_bytes(text, b",")?;
+    push_function(text, function, task)?;
+    push_number(alloc, text, b"\"line\":", place.line as u64)
+}
+
+/// Appends an object of so many cells. One that has not static storage is a parameter or a local object of the
+/// function, and the task has it to itself.
+pub fn push_object(
+    alloc: Global,
+    text: &mut Vec<u8>,
+    place: Place,
+    name: &[u8],
+    cells: u32,
+    function: &[u8],
+    task: Option<u32>,
+) -> Result<(), NoMemory>
+    ensures { OnOk result (text.new.items ≡ text.old.items
+        ++ object_text place name.now cells function.now task) }
+{
+    push_object_front(alloc, text, place, function, task)?;
+    push_word(text, b",\"name\":\"", name)?;
+    push_number(alloc, text, b",\"size\":", cells as u64)?;
+    push_owner(alloc, text, task)
+}
+
+/// The least and the greatest number that an object holds.
+fn range_text(alloc: Global, object: u32, low: i128, high: i128) -> Result<String, NoMemory>
+    ensures { IfOk result (λ text. string_bytes text ≡ range_text object low high) }
+{
+    match format!(in alloc; "{{\"hi\":{high},\"lo\":{low},\"object\":{object}}}") {
+        Ok(text) => Ok(text),
+        Err(_) => Err(NoMemory),
+    }
+}
+
+/// Appends the least and the greatest number that an object holds.
+pub fn push_range(
+    alloc: Global,
+    text: &mut Vec<u8>,
+    object: u32,
+    low: i128,
+    high: i128,
+) -> Result<(), NoMemory>
+    ensures { OnOk result (text.new.items ≡ text.old.items ++ range_text object low high) }
+{
+    let range = range_text(alloc, object, low, high)?;
+    push_bytes(text, range.as_bytes())
+}
