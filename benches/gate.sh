@@ -6,7 +6,8 @@
 #     benches/gate.sh --kept [NAME..]   proves nothing, and tells what is kept
 #     benches/gate.sh --anew            proves all from nothing, one crate after another, for a quiet machine
 #     benches/gate.sh --of ROWS..       tells what a run of `rt ci` took that benches/gate_parts.py watched; of several
-#                                       files the last one that has a part counts
+#                                       files the last one that has a part counts. What no file has keeps its figure of
+#                                       docs/GATE.md, and is marked with °
 #
 # The status is 1 where a crate or the whole is over its budget, where a row is not filled, or where something is not
 # proved. It judges no proof: `rt ci` does.
@@ -59,6 +60,15 @@ row_of() { # CRATE PART
     awk -v crate="$1" -v part="$2" '$1 == crate && $2 == part { found = $3 } END { print found }' "${rows[@]}"
 }
 
+# The same of the table of the document: the columns of its parts are the fourth to the sixth.
+told_of() { # CRATE COLUMN
+    awk -F '|' -v name=" \`$1\` " -v column="$2" '$2 == name {
+        sub(/\(.*/, "", $column)
+        gsub(/[^0-9]/, "", $column)
+        print $column
+    }' docs/GATE.md
+}
+
 lines_in() { # FOLDER..
     find "$@" -type f \( -name '*.rt' -o -name '*.antt' \) -exec cat {} + 2>/dev/null | wc -l
 }
@@ -71,12 +81,20 @@ total=0
 while IFS='|' read -r _ name lines proof tests edits _; do
     name=$(tr -d ' `' <<<"$name")
     lines=${lines// /} proof=${proof// /} tests=${tests// /} edits=${edits// /}
-    [ $way != of ] || { proof=$(row_of "$name" proof) tests=$(row_of "$name" tests) edits=$(row_of "$name" edits); }
     count=$(find "crates/$name/must-fail" -name '*.edit' 2>/dev/null | wc -l)
     ghost=$(lines_in "crates/$name/specs" "crates/$name/proofs")
+    tested=no
+    ! grep -rqs '#\[test\]' "crates/$name/src" || tested=yes
+    old_proof='' old_tests='' old_edits=''
+    if [ $way = of ]; then
+        proof=$(row_of "$name" proof) tests=$(row_of "$name" tests) edits=$(row_of "$name" edits)
+        [ -n "$proof" ] || { proof=$(told_of "$name" 4) && old_proof=${proof:+°}; }
+        [ -n "$tests" ] || [ $tested = no ] || { tests=$(told_of "$name" 5) && old_tests=${tests:+°}; }
+        [ -n "$edits" ] || [ "$count" = 0 ] || { edits=$(told_of "$name" 6) && old_edits=${edits:+°}; }
+    fi
     over=
     [ -n "$proof" ] || over='proof?'
-    [ -n "$tests" ] || ! grep -rqs '#\[test\]' "crates/$name/src" || over="${over:+$over }tests?"
+    [ -n "$tests" ] || [ $tested = no ] || over="${over:+$over }tests?"
     [ -n "$edits" ] || [ "$count" = 0 ] || over="${over:+$over }edits?"
     sum=$((${proof:-0} + ${tests:-0} + ${edits:-0}))
     over=$(awk -v said="$over" -v sum="$sum" -v code="$lines" -v ghost="$ghost" -v a=$each_line -v b=$each_ghost_line \
@@ -86,8 +104,9 @@ while IFS='|' read -r _ name lines proof tests edits _; do
             print said (sum > has ? sprintf("%s%d", said == "" ? "" : " ", sum - has + 0.5) : "") }')
     [ -z "$over" ] || status=1
     total=$((total + sum))
-    [ "$count" = 0 ] || edits="${edits:+$edits }($count)"
-    printf '| `%s` | %d | %s | %s | %s | %d | %s |\n' "$name" "$lines" "$proof" "$tests" "$edits" "$sum" "$over"
+    [ "$count" = 0 ] || edits="${edits:+$edits$old_edits }($count)"
+    printf '| `%s` | %d | %s | %s | %s | %d | %s |\n' "$name" "$lines" "$proof$old_proof" "$tests$old_tests" "$edits" \
+        "$sum" "$over"
 done < <(python3 tools/prove.py --table "$@" | grep '^| `')
 
 ways=$(python3 benches/ways.py | sed -n 1p)
