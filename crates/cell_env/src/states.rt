@@ -12,10 +12,19 @@ use tm_lattice::{Keyed, Lattice, NoMemory};
 
 /// The live temporaries with their copies, and the cells by their numbers. Copies of a state share the cells until
 /// one of them changes.
-#[derive(Drop)]
 pub struct State<V: Lattice> {
     temps: Keyed<TempState<V>>,
     cells: Tree<CellState<V>>,
+}
+
+// By hand: a function that lets one go calls this, and its check does not go through the fields.
+impl<V: Lattice> Drop for State<V> {
+    fn drop(self) {
+        let State {
+            temps: _temps,
+            cells: _cells,
+        } = self;
+    }
 }
 
 impl<V: Lattice> Model for State<V> {

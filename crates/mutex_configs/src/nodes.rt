@@ -25,7 +25,6 @@ pub struct EdgeCopy {
 }
 
 /// The configured graph of a body.
-#[derive(Drop)]
 pub struct ConfiguredGraph {
     /// The nodes that are reached, by rising place, then held set, then found set; each with its number, which is its
     /// index.
@@ -33,4 +32,14 @@ pub struct ConfiguredGraph {
     /// For each edge in order its copies, in the order of the nodes that they leave; of a probe first the answer that
     /// the mutex is held.
     pub copies: Vec<EdgeCopy>,
+}
+
+// By hand: a function that lets one go calls this, and its check does not go through the fields.
+impl Drop for ConfiguredGraph {
+    fn drop(self) {
+        let ConfiguredGraph {
+            nodes: _nodes,
+            copies: _copies,
+        } = self;
+    }
 }

@@ -5,7 +5,6 @@ use crate::paths::CallPath;
 use tm_typed::TypedFile;
 
 /// A typed file with its call paths, objects and cells.
-#[derive(Drop)]
 pub struct Laid {
     pub file: TypedFile,
     /// The functions of the bodies: those of the tasks, then `main` where there is one.
@@ -25,4 +24,23 @@ pub struct Laid {
     pub abstract_cells: Vec<AbstractCell>,
     /// For each cell of static storage, which are the first ones, what it holds before the program runs.
     pub initial: Vec<Initial>,
+}
+
+// By hand: a function that lets one go calls this, and its check does not go through the fields.
+impl Drop for Laid {
+    fn drop(self) {
+        let Laid {
+            file: _file,
+            bodies: _bodies,
+            first_paths: _first_paths,
+            paths: _paths,
+            callees: _callees,
+            first_objects: _first_objects,
+            statics: _statics,
+            objects: _objects,
+            cells: _cells,
+            abstract_cells: _abstract_cells,
+            initial: _initial,
+        } = self;
+    }
 }

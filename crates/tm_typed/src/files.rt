@@ -24,7 +24,6 @@ pub struct StaticCell {
 /// An object of static storage: its name and place in its first declaration, its type, and the cells that its
 /// initialiser gives in rising order, the others being zero or null. One that only bare `extern`s declare is not
 /// defined.
-#[derive(Drop)]
 pub struct TypedStatic {
     pub name: Name,
     pub place: Place,
@@ -32,6 +31,20 @@ pub struct TypedStatic {
     pub defined: bool,
     pub initialised: bool,
     pub given: Vec<StaticCell>,
+}
+
+// By hand: a function that lets one go calls this, and its check does not go through the fields.
+impl Drop for TypedStatic {
+    fn drop(self) {
+        let TypedStatic {
+            name: _name,
+            place: _place,
+            of: _of,
+            defined: _defined,
+            initialised: _initialised,
+            given: _given,
+        } = self;
+    }
 }
 
 /// A parameter or a local object: its name, the place where it is declared, and its type. A parameter without a name
@@ -44,7 +57,6 @@ pub struct LocalEntry {
 }
 
 /// The body of a function or a task.
-#[derive(Drop)]
 pub struct TypedBody {
     /// The parameters, then the local objects in the order of the text.
     pub locals: Vec<LocalEntry>,
@@ -53,15 +65,38 @@ pub struct TypedBody {
     pub statements: Vec<TypedStatement>,
 }
 
+// By hand: a function that lets one go calls this, and its check does not go through the fields.
+impl Drop for TypedBody {
+    fn drop(self) {
+        let TypedBody {
+            locals: _locals,
+            parameters: _parameters,
+            statements: _statements,
+        } = self;
+    }
+}
+
 /// A function or a task: its name and place where it is defined, or else first declared, the types of its result and
 /// its parameters, and its body where it is defined.
-#[derive(Drop)]
 pub struct TypedFunction {
     pub name: Name,
     pub place: Place,
     pub result: u32,
     pub parameters: Vec<u32>,
     pub body: Option<TypedBody>,
+}
+
+// By hand: a function that lets one go calls this, and its check does not go through the fields.
+impl Drop for TypedFunction {
+    fn drop(self) {
+        let TypedFunction {
+            name: _name,
+            place: _place,
+            result: _result,
+            parameters: _parameters,
+            body: _body,
+        } = self;
+    }
 }
 
 /// A task: the function that it runs, and its priority.
@@ -79,7 +114,6 @@ pub struct MutexEntry {
 }
 
 /// A typed file.
-#[derive(Drop)]
 pub struct TypedFile {
     pub types: Vec<TypeEntry>,
     pub structs: Vec<StructEntry>,
@@ -99,4 +133,24 @@ pub struct TypedFile {
     pub labels: Vec<i128>,
     /// All functions, each behind those that it calls.
     pub order: Vec<u32>,
+}
+
+// By hand: a function that lets one go calls this, and its check does not go through the fields.
+impl Drop for TypedFile {
+    fn drop(self) {
+        let TypedFile {
+            types: _types,
+            structs: _structs,
+            statics: _statics,
+            functions: _functions,
+            calls: _calls,
+            tasks: _tasks,
+            mutexes: _mutexes,
+            main: _main,
+            lengths: _lengths,
+            constants: _constants,
+            labels: _labels,
+            order: _order,
+        } = self;
+    }
 }

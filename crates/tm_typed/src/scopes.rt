@@ -63,7 +63,6 @@ pub struct Member {
 
 /// A structure (C99 6.7.2.1). It is opened at its `{` and complete from its `}` on: then its members can be named, and
 /// its size is known.
-#[derive(Drop)]
 pub struct StructEntry {
     pub opened: bool,
     pub complete: bool,
@@ -78,10 +77,35 @@ pub struct StructEntry {
     pub alignment: u32,
 }
 
+// By hand: a function that lets one go calls this, and its check does not go through the fields.
+impl Drop for StructEntry {
+    fn drop(self) {
+        let StructEntry {
+            opened: _opened,
+            complete: _complete,
+            members: _members,
+            cells: _cells,
+            abstract_cells: _abstract_cells,
+            size: _size,
+            alignment: _alignment,
+        } = self;
+    }
+}
+
 /// A function: the types of its result and of its parameters, by their numbers, and whether it has a body so far.
-#[derive(Drop)]
 pub struct FunctionEntry {
     pub result: u32,
     pub parameters: Vec<u32>,
     pub defined: bool,
+}
+
+// By hand: a function that lets one go calls this, and its check does not go through the fields.
+impl Drop for FunctionEntry {
+    fn drop(self) {
+        let FunctionEntry {
+            result: _result,
+            parameters: _parameters,
+            defined: _defined,
+        } = self;
+    }
 }

@@ -4,27 +4,55 @@ use crate::types::Scalar;
 use tm_trees::{IntType, Place};
 
 /// A cell of a local object that an initialiser gives, by its number in the object, with its type and its value.
-#[derive(Drop)]
 pub struct GivenCell {
     pub cell: u32,
     pub scalar: Scalar,
     pub value: Box<Rvalue>,
 }
 
+// By hand: a function that lets one go calls this, and its check does not go through the fields.
+impl Drop for GivenCell {
+    fn drop(self) {
+        let GivenCell {
+            cell: _cell,
+            scalar: _scalar,
+            value: _value,
+        } = self;
+    }
+}
+
 /// What a local object is initialised with: the given cells in rising order, the others being zero or null; and the
 /// place of the `=`.
-#[derive(Drop)]
 pub struct LocalInitialiser {
     pub given: Vec<GivenCell>,
     pub place: Place,
 }
 
+// By hand: a function that lets one go calls this, and its check does not go through the fields.
+impl Drop for LocalInitialiser {
+    fn drop(self) {
+        let LocalInitialiser {
+            given: _given,
+            place: _place,
+        } = self;
+    }
+}
+
 /// Where the declaration of a local object is reached: the object, by its number in the body, is cleared, and where it
 /// has an initialiser, each of its cells is stored in order.
-#[derive(Drop)]
 pub struct LocalObject {
     pub object: u32,
     pub initialiser: Option<LocalInitialiser>,
+}
+
+// By hand: a function that lets one go calls this, and its check does not go through the fields.
+impl Drop for LocalObject {
+    fn drop(self) {
+        let LocalObject {
+            object: _object,
+            initialiser: _initialiser,
+        } = self;
+    }
 }
 
 /// A typed statement. A condition is an integer or a pointer.

@@ -43,7 +43,7 @@ returns-then-below c = λ p is same fits checked.
     let below = subst (λ s. IsStoreBelow (rounded_store p.marks c.loop-body.added) s) c.deref.ensures
     (subst (λ r. IsStoreBelow r c.deref.result.now)
     (c.in_ok-round.ensures ∙ ap (λ m. rounded_store m c.loop-body.added) (sym same))
-    (c.below-2.ensures.0 c.if-below.true)) in
+    (c.below.ensures.0 c.if-below.true)) in
     all_covered p is (pair_of c.args.tables.items (arc_value c.args.store)) fits xs checked
     (subst (AreCoveredBelow xs) ends c.loop-body.invariant.0) c.loop-body.added
     (c.loop-body.invariant.1 ∙ ap (joined_by xs) ends) below c.new.result c.new.ensures
@@ -55,7 +55,7 @@ returns-else-below c = λ p is same fits checked.
     store_uncovered p is (pair_of c.args.tables.items (arc_value c.args.store)) fits xs checked
     (subst (AreCoveredBelow xs) ends c.loop-body.invariant.0) c.loop-body.added
     (c.loop-body.invariant.1 ∙ ap (joined_by xs) ends)
-    (λ low. false≢true (sym c.if-below.false ∙ c.below-2.ensures.1
+    (λ low. false≢true (sym c.if-below.false ∙ c.below.ensures.1
     (subst (λ r. IsStoreBelow r c.deref.result.now)
     (sym (c.in_ok-round.ensures ∙ ap (λ m. rounded_store m c.loop-body.added) (sym same)))
     (subst (λ s. IsStoreBelow (rounded_store p.marks c.loop-body.added) s) (sym c.deref.ensures) low))))
