@@ -1,8 +1,7 @@
 //! What `certify` and `check` answer: tables over one driver. Each text is worked by hand from the source and the
 //! grammar of certificates. `benches/forged.py` has many more certificates in which something is changed.
 
-use crate::alone::{expect_alone, owned};
-use analyser::{analyse_alone, asks_workers};
+use crate::alone::{expect_alone, number_alone, owned};
 use std::alloc::Global;
 use std::process::Abort;
 use std::test::Fail;
@@ -85,7 +84,7 @@ static CERTIFICATES: [(&[&str], &str, u8, &str); 16] = [
 
 /// A certificate, what stands in it for the first time, what stands there in its place, the number with which `check`
 /// ends on that, and the text that it writes.
-static CHANGES: [(&str, &str, &str, u8, &str); 7] = [
+static CHANGES: [(&str, &str, &str, u8, &str); 13] = [
     // A number in another spelling, a node that comes twice, a byte behind the end, and an offset beyond its object.
     (DIVISION_CERTIFICATE, "c 0 i 0", "c 0 i 00", 2, NONE),
     (DIVISION_CERTIFICATE, "node 4", "node 3", 2, NONE),
@@ -114,10 +113,66 @@ static CHANGES: [(&str, &str, &str, u8, &str); 7] = [
         1,
         "uncovered store\n",
     ),
+    // Of the states of the task one is missing, or two that follow each other.
+    (
+        STORED_CERTIFICATE,
+        "node 0\nc 0 i 0 0 0\n",
+        "",
+        1,
+        "uncovered 0 0\n",
+    ),
+    (
+        STORED_CERTIFICATE,
+        "node 1\nt 0 p 0 0 0 0 0 0\nc 0 i 0 0 0\n",
+        "",
+        1,
+        "uncovered 0 1\n",
+    ),
+    (
+        STORED_CERTIFICATE,
+        "node 2\nt 0 p 0 0 0 0 0 0\nt 1 i 1 1 0\nc 0 i 0 0 0\n",
+        "",
+        1,
+        "uncovered 0 2\n",
+    ),
+    (
+        STORED_CERTIFICATE,
+        "node 3\nc 0 i 1 1 0\nf 0\n",
+        "",
+        1,
+        "uncovered 0 3\n",
+    ),
+    (
+        STORED_CERTIFICATE,
+        "node 1\nt 0 p 0 0 0 0 0 0\nc 0 i 0 0 0\n\
+node 2\nt 0 p 0 0 0 0 0 0\nt 1 i 1 1 0\nc 0 i 0 0 0\n",
+        "",
+        1,
+        "uncovered 0 1\n",
+    ),
+    (
+        STORED_CERTIFICATE,
+        "node 2\nt 0 p 0 0 0 0 0 0\nt 1 i 1 1 0\nc 0 i 0 0 0\n\
+node 3\nc 0 i 1 1 0\nf 0\n",
+        "",
+        1,
+        "uncovered 0 2\n",
+    ),
 ];
 
 /// Sources that are certified, the number with which the program ends on each, and its report.
-static CERTIFIED: [(&str, u8, &str); 2] = [
+static CERTIFIED: [(&str, u8, &str); 4] = [
+    // A loop, and an initial section that does not end.
+    (
+        "int i;__task(1) void t(void){while(i<10)i=i+1;}",
+        0,
+        "alarms 0\n",
+    ),
+    (
+        "int x;int main(void){while(1);return 0;}__task(1) void t(void){x=1;}",
+        0,
+        "alarms 0\n",
+    ),
     (
         "__mutex m;int x=1;int r;\n\
 __task(2) void hi(void){if(!__islocked(m))r=10/x;}\n\
@@ -163,17 +218,33 @@ fn certificates(rt: HostRuntime) -> Result<(), Fail> {
 }
 
 /// What `certify` writes of a source.
-fn certificate_of(rt: &impl Abort, alloc: Global, source: &str) -> Result<MemorySink, Fail> {
+pub fn certificate_of(rt: &impl Abort, alloc: Global, source: &str) -> Result<MemorySink, Fail> {
     let words = owned(alloc, &["certify"])?;
+    certified_by(rt, alloc, &words, source)
+}
+
+fn certified_by(
+    rt: &impl Abort,
+    alloc: Global,
+    words: &[String],
+    source: &str,
+) -> Result<MemorySink, Fail> {
     let mut out = MemorySink::new(alloc, 512, Vec::new(alloc));
-    if asks_workers(alloc, &words)? {
-        assert!(rt; false, "the words ask for workers");
-    } else {
-        let mut input = MemorySource::new(source.as_bytes().to_vec(alloc)?, 512, Vec::new(alloc));
-        let status = analyse_alone(alloc, &words, &mut input, &mut out);
-        assert_eq!(rt; status.number(), 0);
-    }
+    write_certificate(rt, alloc, words, source, &mut out)?;
     Ok(out)
+}
+
+fn write_certificate(
+    rt: &impl Abort,
+    alloc: Global,
+    words: &[String],
+    source: &str,
+    out: &mut MemorySink,
+) -> Result<(), Fail> {
+    let mut input = MemorySource::new(source.as_bytes().to_vec(alloc)?, 512, Vec::new(alloc));
+    let number = number_alone(rt, alloc, words, &mut input, out)?;
+    assert!(rt; number == 0);
+    Ok(())
 }
 
 /// What `certify` writes of a source, `check` certifies with the report.

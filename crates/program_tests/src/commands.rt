@@ -1,6 +1,6 @@
 //! Words, sources and their answers: a table over one driver.
 
-use crate::alone::{expect_alone, owned};
+use crate::alone::{assert_answer, expect_words_alone, owned};
 use analyser::{analyse, asks_workers};
 use std::alloc::Global;
 use std::process::Abort;
@@ -165,12 +165,28 @@ pub fn expect_words<R: Abort + Threads + Wait + Sync>(
     let mut source = SureSource::new(bytes.to_vec(alloc)?);
     let mut out = SureSink::new(alloc);
     let status = analyse(rt, alloc, words, &mut source, &mut out, &OpenGate);
-    assert_eq!(rt; out.taken(), text);
-    assert_eq!(rt; status.number(), number);
+    assert_answer(rt, out.taken(), text, status.number(), number);
     Ok(())
 }
 
-/// The words have this answer, also on the calling thread alone where they ask for no workers.
+// The words have this answer, also on the calling thread alone where they ask for no workers.
+fn expect_both<R: Abort + Threads + Wait + Sync>(
+    rt: &R,
+    alloc: Global,
+    words: &[String],
+    bytes: &[u8],
+    number: u8,
+    text: &[u8],
+) -> Result<(), Fail> {
+    expect_words(rt, alloc, words, bytes, number, text)?;
+    if asks_workers(alloc, words)? {
+        Ok(())
+    } else {
+        expect_words_alone(rt, alloc, words, bytes, number, text)
+    }
+}
+
+/// The same of words that are given as texts.
 pub fn expect<R: Abort + Threads + Wait + Sync>(
     rt: &R,
     alloc: Global,
@@ -180,19 +196,20 @@ pub fn expect<R: Abort + Threads + Wait + Sync>(
     text: &[u8],
 ) -> Result<(), Fail> {
     let words = owned(alloc, given)?;
-    expect_words(rt, alloc, &words, bytes, number, text)?;
-    if !asks_workers(alloc, &words)? {
-        expect_alone(rt, alloc, given, bytes, number, text)?;
-    }
-    Ok(())
+    expect_both(rt, alloc, &words, bytes, number, text)
+}
+
+fn do_ask(alloc: Global, given: &[&str]) -> Result<bool, Fail> {
+    let words = owned(alloc, given)?;
+    Ok(asks_workers(alloc, &words)?)
 }
 
 #[test]
 fn asking(rt: HostRuntime) -> Result<(), Fail> {
     let alloc = rt.alloc();
     for (given, asks) in &ASKING {
-        let words = owned(alloc, given)?;
-        assert_eq!(rt; asks_workers(alloc, &words)?, *asks);
+        let asked = do_ask(alloc, given)?;
+        assert!(rt; asked == *asks);
     }
     Ok(())
 }

@@ -1,10 +1,12 @@
 //! Workers beside each other, as a gate sees them.
 
-use crate::alone::owned;
+use crate::alone::{assert_answer, owned};
 use analyser::analyse;
 use held_passes::HoldsTheFirst;
 use std::alloc::Global;
+use std::sync::Wait;
 use std::test::Fail;
+use std::thread::Threads;
 use tm_io::{SureSink, SureSource};
 
 /// Two tasks that fill a buffer under a mutex.
@@ -31,12 +33,12 @@ fn is_counted(gate: &HoldsTheFirst, worker: u32, task: u32, text: &[u8], front: 
 #[test]
 fn two_passes_begin_before_the_first_ends(rt: HostRuntime) -> Result<(), Fail> {
     let alloc = rt.alloc();
-    let gate = HoldsTheFirst::after(0);
+    let words = owned(alloc, &["analyse", "--workers", "2", "--history"])?;
     let mut source = SureSource::new(GUARDED.to_vec(alloc)?);
     let mut out = SureSink::new(alloc);
-    let words = owned(alloc, &["analyse", "--workers", "2", "--history"])?;
+    let gate = HoldsTheFirst::after(0);
     let status = analyse(&rt, alloc, &words, &mut source, &mut out, &gate);
-    assert_eq!(rt; status.number(), 0);
+    assert!(rt; status.number() == 0);
     assert!(rt; gate.begun_before_an_end() > 1);
     let text = out.taken();
     assert!(rt;
@@ -45,12 +47,12 @@ fn two_passes_begin_before_the_first_ends(rt: HostRuntime) -> Result<(), Fail> {
     assert!(rt;
         is_counted(&gate, 1, 0, text, b"read 1 0 ") & is_counted(&gate, 1, 1, text, b"read 1 1 ")
     );
-    assert_eq!(rt; gate.begun(), lines_with(text, b"read "));
+    assert!(rt; gate.begun() == lines_with(text, b"read "));
     // Both workers stand in the history.
     assert!(rt; lines_with(text, b"read 0 ") > 0);
     assert!(rt; lines_with(text, b"read 1 ") > 0);
-    assert_eq!(rt; lines_with(text, b"publish "), lines_with(text, b"read "));
-    assert_eq!(rt; lines_with(text, b"alarms 0"), 1);
+    assert!(rt; lines_with(text, b"publish ") == lines_with(text, b"read "));
+    assert!(rt; lines_with(text, b"alarms 0") == 1);
     Ok(())
 }
 
@@ -61,17 +63,26 @@ static BESIDE: [&[&str]; 3] = [
     &["demo", "--workers", "2", "1"],
 ];
 
+/// The number of the status of these words, and how many passes began before the first ended.
+fn begun_beside<R: Threads + Wait + Sync>(
+    rt: &R,
+    alloc: Global,
+    given: &[&str],
+) -> Result<(u8, u64), Fail> {
+    let words = owned(alloc, given)?;
+    let mut source = SureSource::new(GUARDED.to_vec(alloc)?);
+    let mut out = SureSink::new(alloc);
+    let gate = HoldsTheFirst::after(0);
+    let status = analyse(rt, alloc, &words, &mut source, &mut out, &gate);
+    Ok((status.number(), gate.begun_before_an_end()))
+}
+
 #[test]
 fn two_workers_work_where_no_history_is_asked_for(rt: HostRuntime) -> Result<(), Fail> {
-    let alloc = rt.alloc();
     for given in &BESIDE {
-        let gate = HoldsTheFirst::after(0);
-        let mut source = SureSource::new(GUARDED.to_vec(alloc)?);
-        let mut out = SureSink::new(alloc);
-        let words = owned(alloc, given)?;
-        let status = analyse(&rt, alloc, &words, &mut source, &mut out, &gate);
-        assert!(rt; status.number() < 2);
-        assert!(rt; gate.begun_before_an_end() > 1);
+        let (number, begun) = begun_beside(&rt, rt.alloc(), given)?;
+        assert!(rt; number < 2);
+        assert!(rt; begun > 1);
     }
     Ok(())
 }
@@ -100,15 +111,14 @@ fn sixteen_races(alloc: Global) -> Result<String, Fail> {
 #[test]
 fn sixteen_passes_begin_before_the_first_ends(rt: HostRuntime) -> Result<(), Fail> {
     let alloc = rt.alloc();
-    let gate = HoldsTheFirst::until(16);
+    let races = sixteen_races(alloc)?;
     let text = sixteen_tasks(alloc)?;
+    let words = owned(alloc, &["analyse", "--workers", "16"])?;
     let mut source = SureSource::new(text.as_bytes().to_vec(alloc)?);
     let mut out = SureSink::new(alloc);
-    let words = owned(alloc, &["analyse", "--workers", "16"])?;
+    let gate = HoldsTheFirst::until(16);
     let status = analyse(&rt, alloc, &words, &mut source, &mut out, &gate);
     assert!(rt; gate.begun_before_an_end() > 15);
-    let races = sixteen_races(alloc)?;
-    assert_eq!(rt; out.taken(), races.as_bytes());
-    assert_eq!(rt; status.number(), 1);
+    assert_answer(&rt, out.taken(), races.as_bytes(), status.number(), 1);
     Ok(())
 }

@@ -202,11 +202,17 @@ const COUNTING_REPORT: &str = "2:32 RACE\n2:44 RACE\n3:32 RACE\n3:44 RACE\nalarm
 /// so no pass raises a bound by more than one.
 fn counting_words(alloc: Global, workers: &str) -> Result<Vec<String>, Fail> {
     let mut words = owned(alloc, &["analyse", "--history", "--workers", workers])?;
+    push_thresholds(alloc, &mut words)?;
+    Ok(words)
+}
+
+/// Each number up to the top, as a word.
+fn push_thresholds(alloc: Global, words: &mut Vec<String>) -> Result<(), Fail> {
     for number in 0..TOP {
         let next = number.saturating_add(1);
         words.push(format!(in alloc; "{next}")?)?;
     }
-    Ok(words)
+    Ok(())
 }
 
 /// The events of one worker: the tasks take turns, each pass adds one number, up to the top for both; then each task
@@ -232,9 +238,9 @@ fn counting_history(alloc: Global) -> Result<String, Fail> {
 #[test]
 fn a_long_history(rt: HostRuntime) -> Result<(), Fail> {
     let alloc = rt.alloc();
-    let words = counting_words(alloc, "1")?;
     let mut text = counting_history(alloc)?;
     text.push_str(COUNTING_REPORT)?;
+    let words = counting_words(alloc, "1")?;
     expect_words(&rt, alloc, &words, COUNTING, 1, text.as_bytes())
 }
 
@@ -249,8 +255,8 @@ fn a_long_history_of_several_workers(rt: HostRuntime) -> Result<(), Fail> {
     // In whatever order they come, each number takes a pass of its own.
     let readings = lines_with(text, b"read ");
     assert!(rt; readings >= TOP as u64);
-    assert_eq!(rt; lines_with(text, b"publish "), readings);
+    assert!(rt; lines_with(text, b"publish ") == readings);
     assert!(rt; text.ends_with(COUNTING_REPORT.as_bytes()));
-    assert_eq!(rt; status.number(), 1);
+    assert!(rt; status.number() == 1);
     Ok(())
 }

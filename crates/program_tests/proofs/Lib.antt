@@ -1,2 +1,1 @@
 pub mod SameStores
-pub mod Without

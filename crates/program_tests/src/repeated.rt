@@ -1,16 +1,28 @@
 //! A first pass finds its table by slots, and a pass over the store of the pass before it applies no edge.
 ghost use Rattle.std.specs.Prelude.{◌<◌};
 
-use crate::sources::analysed;
 use interfere_set::Store;
+use source_programs::source_program;
 use std::alloc::Global;
 use std::sync::Arc;
 use std::test::Fail;
 use thread_pass::Analysis;
 use tm_lattice::{NoMemory, Passer, Warm};
+use tm_terms::Fail as Refused;
 
 const DIVIDES: &str =
     "int x;int r;__task(2) void hi(void){x=5;r=10/x;}__task(1) void lo(void){x=0;}";
+
+// The analysis of a source, or its refusal.
+fn analysed(alloc: Global, source: &[u8]) -> Result<Analysis, Refused> {
+    match source_program(alloc, source, &[]) {
+        Ok(program) => match Analysis::new(alloc, program) {
+            Ok(analysis) => Ok(analysis),
+            Err(NoMemory) => Err(Refused::NoMemory),
+        },
+        Err(fail) => Err(fail),
+    }
+}
 
 // How many edges are applied by the pass of the first task over the empty store, where it tells, and by the next one
 // over the same store: what both keep and contribute is a clause of theirs.

@@ -1,8 +1,8 @@
 use Rattle.std.proofs.Common.{◌∙◌}
 use Rattle.std.specs.Arc.{arc_value}
 use Rattle.thread_pass.specs.program_systems.ReadPrograms.{program_of}
-use Rattle.pass_tests.proofs.SameStores.{empty_fits, same_fits, same_below}
-use Rattle.pass_tests.proofs.repeated.passed_twice.Goals as goal
+use Rattle.program_tests.proofs.SameStores.{empty_fits, same_fits, same_below}
+use Rattle.program_tests.proofs.repeated.passed_twice.Goals as goal
 
 pub cold-requires-clause-fits : goal.cold-requires-clause-fits
 cold-requires-clause-fits c =
