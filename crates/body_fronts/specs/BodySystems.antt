@@ -13,6 +13,7 @@ use Rattle.sparse_bodies.specs.task_equations.state_fits.Tops.{top_cell, top_sta
 use Rattle.sparse_bodies.specs.task_equations.Bodies.{Body, node_at, live_at}
 use Rattle.sparse_bodies.specs.task_equations.Equations.{cells_at, equations_of}
 use Rattle.sparse_bodies.specs.sparse_tables.Sparse.{Placing}
+use Rattle.sparse_bodies.specs.Carries.{carry_along}
 use Rattle.front_constraints.specs.Systems.{SparseSystem, Numbers}
 use Rattle.body_fronts.specs.FrontForms.{is_seen}
 
@@ -51,6 +52,7 @@ system_of b entry store chosen = record {
   state_of = λ f c. record { temps = f; cells = table_with c chosen.cells };
   scratch = λ x. (let s = chosen.scratch in get s.cells x);
   outward = λ n x c. rounded_where b.marks (cells_at b n) x c;
+  carry = carry_along b store;
   front_height = table_height (temp_height value_height);
   front_limit = λ n. (let q = node_at b n in
       let t = top_state b.laid (live_at b q.place) in table_height (temp_height value_height) t.temps);

@@ -8,6 +8,7 @@ use Rattle.sparse_bodies.specs.task_equations.Bodies.{Body, copy_at}
 use Rattle.sparse_bodies.specs.task_equations.Equations.{action_along, around_along, equations_of}
 use Rattle.sparse_bodies.specs.task_equations.Premises.{FitsBody}
 use Rattle.sparse_bodies.specs.sparse_tables.Sparse.{IsPlaced}
+use Rattle.sparse_bodies.specs.Carries.{carry_along}
 use Rattle.sparse_rows.specs.Checks.{IsChecked}
 use Rattle.sparse_rows.specs.StateParts.{states, state_parts}
 use Rattle.sparse_rows.specs.Traces.{AreCopies}
@@ -20,7 +21,8 @@ use Rattle.body_fronts.specs.BodySystems.{Chosen, system_of}
 pub record IsChosen (b : Body) (entry : Option State) (store : Interferences) (chosen : Chosen) : Type 0 where
   pub node : ℕ
   pub scratch : FitsBody b node chosen.scratch
-  pub placed : IsPlaced states (FitsBody b) (equations_of b entry store) state_parts chosen.place
+  pub placed : IsPlaced states (FitsBody b) (equations_of b entry store) (state_parts (carry_along b store))
+      chosen.place
   pub beyond : (n x : ℕ) → is_seen b x ≡ false → chosen.place.owns n x ≡ true
   pub looked : (e x : ℕ) → e < edges (system_of b entry store chosen) → chosen.place.touches e x ≡ true
       → chosen.place.looks e x ≡ true
@@ -34,4 +36,4 @@ HasTracedCopies copies fresh pending n f = (u : ℕ) → AreCopies copies fresh 
 -- the edge was checked in the state
 abbrev pub ChecksEdge : Body → Interferences → Chosen → (ℕ → ℕ → Bool) → (ℕ → Bool) → (ℕ → ℕ) → ℕ → State → Type 0
 ChecksEdge b store chosen copies fresh pending e d = IsChecked (around_along b (copy_at b e)) (chosen.place.touches e)
-    (chosen.place.looks e) copies fresh pending (action_along b (copy_at b e)) d store
+    (chosen.place.carries e) (chosen.place.looks e) copies fresh pending (action_along b (copy_at b e)) d store

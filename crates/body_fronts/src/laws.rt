@@ -5,6 +5,7 @@ ghost use Rattle.sparse_rows.specs.Traces.{IsTraced};
 ghost use Rattle.sparse_rows.specs.transfer_rows.interfere_set.Stores.{Interferences};
 ghost use Rattle.sparse_rows.specs.transfer_rows.StateForms.{Cell, State, Temp};
 ghost use Rattle.sparse_bodies.specs.sparse_tables.Fronts.{IsExpanded};
+ghost use Rattle.sparse_bodies.specs.Carries.{carry_along};
 ghost use Rattle.sparse_bodies.specs.task_equations.state_fits.temporary_types.Sorts.{Sort};
 ghost use Rattle.sparse_bodies.specs.task_equations.state_fits.Fits.{FitsStore};
 ghost use Rattle.sparse_bodies.specs.task_equations.table_covers.Solutions.{NodeTable, IsLeastSolution};
@@ -43,8 +44,8 @@ pub fn bodies_are_sparse()
         (Allows (system_of b entry store chosen) (ChecksEdge b store chosen copies fresh pending))
         (front_constraints (system_of b entry store chosen)) a
         → (table : NodeTable State)
-        → IsExpanded states (FitsBody b) (equations_of b entry store) state_parts chosen.place (is_seen b)
-        (fronts_of (system_of b entry store chosen) a) table
+        → IsExpanded states (FitsBody b) (equations_of b entry store) (state_parts (carry_along b store))
+        chosen.place (is_seen b) (fronts_of (system_of b entry store chosen) a) table
         → IfSome entry (IsTraced copies fresh pending)
         → ((n : ℕ) → n < nodes (system_of b entry store chosen) → IfSome (table n) (IsTraced copies fresh pending))
         → IsLeastSolution states (FitsBody b) (equations_of b entry store) table }

@@ -24,6 +24,11 @@ module _ {A M : Type 0} (values : lattice.Ghosts A M) (fits : A → Type 0) wher
     pub rising : (v w : A) → fits v → fits w → values.leq v w → values.leq (outward v) (outward w)
     pub idempotent : (v : A) → fits v → outward (outward v) ≡ outward v
 
+  -- what is carried fits, and rises with what it is made of
+  pub record IsCarrying (carry : A → A) : Type 0 where
+    pub carried : (v : A) → fits v → fits (carry v)
+    pub rising : (v w : A) → fits v → fits w → values.leq v w → values.leq (carry v) (carry w)
+
 module _ {V F D L M N : Type 0} (states : lattice.Ghosts V L) (fronts : lattice.Ghosts F M) (cells : lattice.Ghosts D N)
     (suits : ℕ → V → Type 0) (fits_front : ℕ → F → Type 0) (fits_cell : ℕ → D → Type 0) (sys : SparseSystem V F D)
   where
@@ -57,6 +62,8 @@ module _ {V F D L M N : Type 0} (states : lattice.Ghosts V L) (fronts : lattice.
       pub front_values : (n : ℕ) → AreValues fronts (fits_front n) sys.front_height (sys.front_limit n)
       pub cell_values : (x : ℕ) → AreValues cells (fits_cell x) sys.cell_height (sys.cell_limit x)
       pub roundings : (n x : ℕ) → IsRounding cells (fits_cell x) (sys.outward n x)
+      pub carryings : (e x : ℕ) → e < edges sys → sys.is_cell x ≡ true → sys.place.carries e x ≡ true
+          → IsCarrying cells (fits_cell x) (sys.carry e x)
       pub pieces : AreParts states suits sys.equations parts sys.place
       pub placed : IsPlaced states suits sys.equations parts sys.place
       pub filled : AreFilled states suits sys.equations parts sys.place sys.is_cell

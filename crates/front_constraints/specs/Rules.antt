@@ -62,11 +62,16 @@ module _ {V F D : Type 0} (sys : SparseSystem V F D) where
   targets_of (row e) = front_at (to sys e) ∷ open_at e ∷ map (slot_at (to sys e)) (sys.touched e)
   targets_of (flow e x) = slot_at (to sys e) x ∷ []
 
+  -- what an edge makes of what stands at a cell that it does not touch
+  abbrev pub carried_along : ℕ → ℕ → Option (Standing F D) → Option (Standing F D)
+  carried_along e x w = cond (sys.place.carries e x) (option_map (changed_standing (λ f. f) (sys.carry e x)) w) w
+
   -- and what it brings there
   abbrev pub brings : Rule → Assignment (Standing F D) → Variable → Option (Standing F D)
   brings entered a v = part_of sys.equations.entry v
   brings (row e) a v = part_of (brought (sys.equations.after e) (small_at e a)) v
-  brings (flow e x) a v = passed (standing a (open_at e)) (standing a (slot_at (kept_at sys (from sys e) x) x))
+  brings (flow e x) a v =
+      passed (standing a (open_at e)) (carried_along e x (standing a (slot_at (kept_at sys (from sys e) x) x)))
 
   -- a row reads the front of the node that its edge leaves and the slots of the cells at which it may look, a flow
   -- whether its edge is open and where the cell is kept

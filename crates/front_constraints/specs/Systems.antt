@@ -1,6 +1,7 @@
 -- Systems of equations whose states have a front and cells, where each cell is kept, and what the variables and
 -- constraints are by their numbers.
 use Rattle.std.specs.Prelude.{◌≡◌, ℕ, ◌<◌, Bool, true, false, ◌&&◌, List, length, slice_index_or, Option}
+use Rattle.std.specs.Option.{option_map}
 use Rattle.sparse_tables.specs.table_covers.tm_lattice.declared.lattices.Lattice as lattice
 use Rattle.sparse_tables.specs.table_covers.tm_lattice.Tables.{IsBelow}
 use Rattle.sparse_tables.specs.table_covers.Systems.{System, from_of, to_of}
@@ -13,7 +14,7 @@ pub data Variable : Type 0 where
   slot_at : ℕ → ℕ → Variable
 
 -- What stands at the entry comes there; an edge's row brings what it leads to; and a cell flows along an edge that does
--- not touch it.
+-- not touch it, as the edge carries it.
 pub data Rule : Type 0 where
   entered : Rule
   row : ℕ → Rule
@@ -28,9 +29,9 @@ pub record Numbers : Type 0 where
   pub rule : ℕ → Rule
 
 -- The equations; the front of a state, its cells and which these are; the state of a front and cells, and what stands
--- in it at cells that do not count; how a cell is rounded at a node; heights with their limits, of fronts by node and
--- of cells by cell; where each cell is kept; all cells, and those at which an edge may look and that it touches; and
--- the numbers.
+-- in it at cells that do not count; how a cell is rounded at a node, and what an edge makes of one that it carries;
+-- heights with their limits, of fronts by node and of cells by cell; where each cell is kept; all cells, and those at
+-- which an edge may look and that it touches; and the numbers.
 pub record SparseSystem (V F D : Type 0) : Type 0 where
   pub equations : System V
   pub front : V → F
@@ -39,6 +40,7 @@ pub record SparseSystem (V F D : Type 0) : Type 0 where
   pub state_of : F → (ℕ → Option D) → V
   pub scratch : ℕ → Option D
   pub outward : ℕ → ℕ → D → D
+  pub carry : ℕ → ℕ → D → D
   pub front_height : F → ℕ
   pub front_limit : ℕ → ℕ
   pub cell_height : D → ℕ
@@ -116,4 +118,5 @@ module _ {V F D : Type 0} (sys : SparseSystem V F D) where
     cell = sys.cell;
     front_leq = fronts.leq;
     cell_leq = IsBelow cells.leq;
+    carry = λ e x. option_map (sys.carry e x);
   }

@@ -12,6 +12,7 @@ ghost use Rattle.sparse_rows.specs.sparse_tables.Sparse.{Placing, IsPlaced, IsSp
 ghost use Rattle.sparse_rows.specs.StateParts.{states, state_parts};
 ghost use Rattle.sparse_rows.specs.Traces.{IsTraced};
 ghost use Rattle.sparse_rows.specs.Checks.{AreChecked};
+ghost use Rattle.sparse_bodies.specs.Carries.{carry_along};
 
 /// A thin table of a body that is closed in what nodes own, lies there below every closed table in which cells flow,
 /// and each edge of which was checked, is the least solution of the equations of the body.
@@ -19,10 +20,10 @@ pub fn sparse_tables_are_least()
     ensures { (b : Body) (sorts : List Sort) → IsBody b sorts → (tasks : ℕ) (store : Interferences)
         → FitsStore b.laid tasks store → (entry : Option State) → IfSome entry (FitsBody b 0)
         → (place : Placing) (copies : ℕ → ℕ → Bool) (fresh : ℕ → Bool) (pending : ℕ → ℕ) (table : NodeTable State)
-        → IsPlaced states (FitsBody b) (equations_of b entry store) state_parts place
+        → IsPlaced states (FitsBody b) (equations_of b entry store) (state_parts (carry_along b store)) place
         → AreChecked (FitsBody b) (equations_of b entry store) (λ e. around_along b (copy_at b e))
         (λ e. action_along b (copy_at b e)) store place copies fresh pending table
         → IfSome entry (IsTraced copies fresh pending)
-        → IsSparseLeast states (FitsBody b) (equations_of b entry store) state_parts place table
+        → IsSparseLeast states (FitsBody b) (equations_of b entry store) (state_parts (carry_along b store)) place table
         → IsLeastSolution states (FitsBody b) (equations_of b entry store) table }
 {}

@@ -1,6 +1,7 @@
 -- The parts of a state: the temporaries are its front.
-use Rattle.std.specs.Prelude.{ℤ, List, Option}
+use Rattle.std.specs.Prelude.{ℕ, ℤ, List, Option}
 use Rattle.std.specs.FinMap.{get}
+use Rattle.std.specs.Option.{option_map}
 use Rattle.sparse_tables.specs.table_covers.tm_lattice.declared.lattices.Lattice as lattice
 use Rattle.sparse_tables.specs.table_covers.tm_lattice.Tables.{Table, IsBelow, IsTableBelow}
 use Rattle.transfer_rows.specs.cell_env.States.{joined_state, rounded_state}
@@ -19,11 +20,12 @@ states = record {
   nothing = λ s. ⊥;
 }
 
--- the temporaries, and what stands at each cell
-abbrev pub state_parts : Parts State (Table Temp) (Option Cell)
-state_parts = record {
+-- the temporaries, and what stands at each cell, where edges make this of cells that they carry
+abbrev pub state_parts : (ℕ → ℕ → Cell → Cell) → Parts State (Table Temp) (Option Cell)
+state_parts carry = record {
   front = λ s. s.temps;
   cell = λ s x. get s.cells x;
   front_leq = IsTableBelow IsTempUnder;
   cell_leq = IsBelow IsCellUnder;
+  carry = λ e x. option_map (carry e x);
 }

@@ -1,4 +1,4 @@
--- Which cells an operation leaves as they are.
+-- Which cells an operation leaves as they are, and which it changes by themselves alone.
 use Rattle.std.specs.Prelude.{◌≡◌, ℕ, false, Option, Some, None, IfSome}
 use Rattle.std.specs.FinMap.{get}
 use Rattle.transfer_rows.specs.interfere_set.Stores.{Interferences}
@@ -22,7 +22,6 @@ abbrev pub IsNoCopy : Option Temp → ℕ → Type 0
 IsNoCopy None x = Unit {0}
 IsNoCopy (Some e) x = e.copy ≡ Some x → ⊥
 
--- what changes a cell leaves it
 -- the change does nothing to what stands at the cell
 abbrev pub IsKeptBy : (Cell → Cell) → Option Cell → Type 0
 IsKeptBy change None = Unit {0}
@@ -41,3 +40,11 @@ module _ (around : Around) where
   Leaves yields s store x = IsKeptBy aged (get s.cells x)
   Leaves (probes m target false) s store x = IsKeptBy (taken around store m x) (get s.cells x)
   Leaves action s store x = Unit {0}
+
+-- The operation makes of the cell what it makes of each cell by itself, if anything: it is no target, not cleared, and
+-- tested temporaries are no copies of it.
+unfoldable pub Passes : Action → State → ℕ → Type 0
+Passes (refines filter) s x = (t : ℕ) → IsFiltered filter t → IsNoCopy (get s.temps t) x
+Passes (stores spots address source) s x = is_among (targets_at spots (value_of s address).pointers) x ≡ false
+Passes (clears cleared) s x = cleared x ≡ None
+Passes action s x = Unit {0}

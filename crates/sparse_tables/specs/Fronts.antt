@@ -1,6 +1,6 @@
 -- Fronts and slots: what stands at the nodes beside cells, and each cell at the nodes that own it; when they solve the
 -- equations, and the least of these.
-use Rattle.std.specs.Prelude.{◌≡◌, ℕ, ◌<◌, Bool, true, false, Option, Some, None, IfSome}
+use Rattle.std.specs.Prelude.{◌≡◌, ℕ, ◌<◌, Bool, true, false, if◌then◌else◌, Option, Some, None, IfSome}
 use Rattle.table_covers.specs.tm_lattice.declared.lattices.Lattice as lattice
 use Rattle.table_covers.specs.tm_lattice.Tables.{IsBelow}
 use Rattle.table_covers.specs.Systems.{System, from_of, to_of}
@@ -46,13 +46,17 @@ module _ {V F D M : Type 0} (states : lattice.Ghosts V M) (suits : ℕ → V →
     pub front : IsBelow parts.front_leq (Some (parts.front s)) (a.front_of 0)
     pub cells : (x : ℕ) → parts.cell_leq (parts.cell s x) (a.slot_of 0 x)
 
+  -- what an edge makes of a cell that it does not touch
+  abbrev pub carried : ℕ → ℕ → Option D → Option D
+  carried e x c = if place.carries e x then parts.carry e x c else c
+
   -- Fronts and slots at which the entry and each row has arrived, and each cell flows along each open edge that does
-  -- not touch it to where the end of the edge owns it.
+  -- not touch it, as the edge carries it, to where the end of the edge owns it.
   pub record AreMet (a : Fronts F D) : Type 0 where
     pub entry : IfSome sys.entry (IsEntered a)
     pub rows : (e : ℕ) → e < edges → (s : V) → IsStateAt a (from e) s → IfSome (sys.after e s) (IsArrived a e)
     pub flows : (e x : ℕ) → e < edges → a.is_open e ≡ true → place.owns (to e) x ≡ true → place.touches e x ≡ false
-        → parts.cell_leq (a.slot_of (place.kept_at (from e) x) x) (a.slot_of (to e) x)
+        → parts.cell_leq (carried e x (a.slot_of (place.kept_at (from e) x) x)) (a.slot_of (to e) x)
     pub round : (n x : ℕ) (s : V) → n < sys.node_count → place.owns n x ≡ true → IsStateAt a n s
         → parts.cell (sys.outward n s) x ≡ parts.cell s x
 
@@ -89,8 +93,9 @@ module _ {V F D M : Type 0} (states : lattice.Ghosts V M) (suits : ℕ → V →
     pub met : AreMet a
     pub below : (b : Fronts F D) → AreFit fits_front fits_cell b → AreMet b → AreBelow b a → AreBelow a b
 
-  -- What of states is needed besides: each has a value at each cell, what is above something is something, and the
-  -- rounding of a cell depends on that cell alone. There are finitely many cells, and what is none is owned everywhere.
+  -- What of states is needed besides: each has a value at each cell, what is above something is something, the rounding
+  -- of a cell depends on that cell alone, and what is carried is something where something was, and at most what is
+  -- made of more. There are finitely many cells, and what is none is owned everywhere.
   pub record AreFilled : Type 0 where
     pub bound : ℕ
     pub within : (x : ℕ) → is_cell x ≡ true → x < bound
@@ -99,6 +104,11 @@ module _ {V F D M : Type 0} (states : lattice.Ghosts V M) (suits : ℕ → V →
     pub nothing : (c : Option D) → parts.cell_leq None c
     pub rounds : (n x : ℕ) (s t : V) → suits n s → suits n t → parts.cell s x ≡ parts.cell t x
         → parts.cell (sys.outward n s) x ≡ parts.cell (sys.outward n t) x
+    pub carried : (e x : ℕ) (c : Option D) → IsThere c → IsThere (parts.carry e x c)
+    pub carries : (e x n : ℕ) (s t u : V) → e < edges → place.carries e x ≡ true → suits n s → suits (from e) t
+        → suits (to e) u → parts.cell_leq (parts.cell s x) (parts.cell t x)
+        → parts.cell_leq (parts.carry e x (parts.cell t x)) (parts.cell u x)
+        → parts.cell_leq (parts.carry e x (parts.cell s x)) (parts.cell u x)
     pub beyond : (n x : ℕ) → is_cell x ≡ false → place.owns n x ≡ true
 
   -- where a node has a front, each cell has something where it is kept, and so has the node where it is

@@ -1,22 +1,26 @@
 -- Tables whose states have cells, and of which each cell is kept at some nodes alone.
-use Rattle.std.specs.Prelude.{◌≡◌, ℕ, ◌<◌, Bool, true, false, Option, Some, None, IfSome}
+use Rattle.std.specs.Prelude.{◌≡◌, ℕ, ◌<◌, Bool, true, false, if◌then◌else◌, Option, Some, None, IfSome}
 use Rattle.table_covers.specs.tm_lattice.declared.lattices.Lattice as lattice
 use Rattle.table_covers.specs.tm_lattice.Tables.{IsBelow}
 use Rattle.table_covers.specs.Systems.{System, from_of, to_of}
 use Rattle.table_covers.specs.Solutions.{NodeTable, edge_count, along, AreFitting, IsClosedTable}
 
--- what a state says beside its cells, and of each cell, with their orders
+-- what a state says beside its cells, and of each cell, with their orders; and what an edge that carries a cell makes
+-- of it, whatever else stands in the state
 pub record Parts (V F C : Type 0) : Type 1 where
   pub front : V → F
   pub cell : V → ℕ → C
   pub front_leq : F → F → Type 0
   pub cell_leq : C → C → Type 0
+  pub carry : ℕ → ℕ → C → C
 
--- Which cells an edge may change, and at which it may look besides the front; and at which nodes a cell stands: those
--- that own it. At another node it is what it is at the node where it is kept.
+-- Which cells an edge may change by what else stands in the state, at which it may look besides the front, and which
+-- it carries: those it changes one by one. And at which nodes a cell stands: those that own it. At another node it is
+-- what it is at the node where it is kept.
 pub record Placing : Type 0 where
   pub touches : ℕ → ℕ → Bool
   pub looks : ℕ → ℕ → Bool
+  pub carries : ℕ → ℕ → Bool
   pub owns : ℕ → ℕ → Bool
   pub kept_at : ℕ → ℕ → ℕ
 
@@ -47,8 +51,12 @@ module _ {V F C M : Type 0} (states : lattice.Ghosts V M) (suits : ℕ → V →
     -- rounding leaves the front
     pub outward_front : (n : ℕ) (s : V) → suits n s → parts.front (sys.outward n s) ≡ parts.front s
 
-  -- What code has to check of a placing, edge by edge: where a node does not own a cell, no edge to it touches the
-  -- cell, each edge comes from where it is kept at the same node, and it is not rounded there.
+  -- what an edge makes of a cell that it does not touch
+  abbrev pub carried : ℕ → ℕ → C → C
+  carried e x c = if place.carries e x then parts.carry e x c else c
+
+  -- What code has to check of a placing, edge by edge: where a node does not own a cell, no edge to it touches or
+  -- carries the cell, each edge comes from where it is kept at the same node, and it is not rounded there.
   pub record IsPlaced : Type 0 where
     pub within : (n x : ℕ) → n < sys.node_count → place.kept_at n x < sys.node_count
     pub kept : (n x : ℕ) → n < sys.node_count → place.owns (place.kept_at n x) x ≡ true
@@ -56,6 +64,7 @@ module _ {V F C M : Type 0} (states : lattice.Ghosts V M) (suits : ℕ → V →
     pub entry : (x : ℕ) → place.owns 0 x ≡ true
     pub looked : (e x : ℕ) → e < edges → place.touches e x ≡ true → place.looks e x ≡ true
     pub untouched : (e x : ℕ) → e < edges → place.owns (to e) x ≡ false → place.touches e x ≡ false
+    pub uncarried : (e x : ℕ) → e < edges → place.owns (to e) x ≡ false → place.carries e x ≡ false
     pub same : (e x : ℕ) → e < edges → place.owns (to e) x ≡ false
         → place.kept_at (from e) x ≡ place.kept_at (to e) x
     pub plain : (n x : ℕ) (s : V) → n < sys.node_count → suits n s → place.owns n x ≡ false
@@ -63,13 +72,13 @@ module _ {V F C M : Type 0} (states : lattice.Ghosts V M) (suits : ℕ → V →
 
   -- ## Edges
 
-  abbrev pub KeepsCell : ℕ → V → Option V → Type 0
-  KeepsCell x s None = Unit {0}
-  KeepsCell x s (Some t) = parts.cell t x ≡ parts.cell s x
+  abbrev pub CarriesCell : ℕ → ℕ → V → Option V → Type 0
+  CarriesCell e x s None = Unit {0}
+  CarriesCell e x s (Some t) = parts.cell t x ≡ carried e x (parts.cell s x)
 
-  -- the edge leaves in this state each cell as it is that it does not touch
+  -- the edge carries in this state each cell that it does not touch, and leaves those as they are that it does not carry
   abbrev pub IsFramed : ℕ → V → Type 0
-  IsFramed e s = (x : ℕ) → place.touches e x ≡ false → KeepsCell x s (sys.after e s)
+  IsFramed e s = (x : ℕ) → place.touches e x ≡ false → CarriesCell e x s (sys.after e s)
 
   -- each edge does so in the state of the table
   abbrev pub IsFramedIn : NodeTable V → Type 0

@@ -19,6 +19,7 @@ use Rattle.sparse_bodies.specs.task_equations.Premises.{IsBody, FitsBody}
 use Rattle.sparse_bodies.specs.task_equations.laws.Lawful.{equations_are_lawful}
 use Rattle.sparse_bodies.specs.sparse_tables.Fronts.{IsStateAt, IsStandingAt, IsExpanded}
 use Rattle.sparse_bodies.specs.laws.BodyLeast as body_rows
+use Rattle.sparse_bodies.specs.Carries.{carry_along}
 use Rattle.sparse_rows.specs.Checks.{AreChecked}
 use Rattle.sparse_rows.specs.StateParts.{states, state_parts}
 use Rattle.sparse_rows.specs.Traces.{IsTraced}
@@ -67,11 +68,11 @@ module _ (b : Body) (sorts : List Sort) (is : IsBody b sorts) (tasks : ℕ) (sto
       (allowed : AreAllowed (standings fronts cells) (FitsVariable sys (FitsFront b) (FitsCellAt b)) (Allows sys Checks)
       (front_constraints sys) a)
       (table : NodeTable State)
-      (expanded : IsExpanded states (FitsBody b) (equations_of b entry store) state_parts chosen.place (is_seen b)
-      (fronts_of sys a) table) where
+      (expanded : IsExpanded states (FitsBody b) (equations_of b entry store) (state_parts (carry_along b store))
+      chosen.place (is_seen b) (fronts_of sys a) table) where
     abbrev StandsAt : ℕ → State → Type 0
-    StandsAt n d = IsStateAt states (FitsBody b) (equations_of b entry store) state_parts chosen.place (is_seen b)
-        (fronts_of sys a) n d
+    StandsAt n d = IsStateAt states (FitsBody b) (equations_of b entry store) (state_parts (carry_along b store))
+        chosen.place (is_seen b) (fronts_of sys a) n d
 
     some_at : (x : ℕ) (y : Option Cell) → is_seen b x ≡ true → FitsCell b.laid b.task x y → is_some y ≡ true
     some_at x None seen h = absurd (h (seen_so b x seen))
@@ -103,8 +104,8 @@ module _ (b : Body) (sorts : List Sort) (is : IsBody b sorts) (tasks : ℕ) (sto
 
     stands_there : (n : ℕ) → n < nodes sys → (d : State) → table n ≡ Some d → StandsAt n d
     stands_there n lt d at =
-        subst (IsStandingAt states (FitsBody b) (equations_of b entry store) state_parts chosen.place (is_seen b)
-        (fronts_of sys a) n) at (expanded n lt)
+        subst (IsStandingAt states (FitsBody b) (equations_of b entry store) (state_parts (carry_along b store))
+        chosen.place (is_seen b) (fronts_of sys a) n) at (expanded n lt)
 
     -- what was allowed of the constraints was checked of the table's states
     pub are_checked : AreChecked (FitsBody b) (equations_of b entry store) (λ e. around_along b (copy_at b e))
@@ -113,19 +114,20 @@ module _ (b : Body) (sorts : List Sort) (is : IsBody b sorts) (tasks : ℕ) (sto
         let stands = stands_there (from sys e) (law.from_node e lt) d at in
         let r = chosen_is.numbered.rules (row e) lt in
         let passed = subst (λ q. AllowsRule sys Checks q a) r.1.1 (allowed r.0 r.1.0) in
-        checked_by_front (around_along b (copy_at b e)) (chosen.place.touches e) (chosen.place.looks e) copies fresh
-        pending (action_along b (copy_at b e)) store (small_of e d) d refl
+        checked_by_front (around_along b (copy_at b e)) (chosen.place.touches e) (chosen.place.carries e)
+        (chosen.place.looks e) copies fresh pending (action_along b (copy_at b e)) store (small_of e d) d refl
         (subst (λ y. IfSome y (Checks e)) (small_is e lt d stands) passed)
 
     fits_at : (n : ℕ) (y : Option State)
-        → IsStandingAt states (FitsBody b) (equations_of b entry store) state_parts chosen.place (is_seen b)
-        (fronts_of sys a) n y → IfSome y (FitsBody b n)
+        → IsStandingAt states (FitsBody b) (equations_of b entry store) (state_parts (carry_along b store))
+        chosen.place (is_seen b) (fronts_of sys a) n y → IfSome y (FitsBody b n)
     fits_at n None at = tt
     fits_at n (Some s) at = at.fits
 
     kept_at_node : (n : ℕ) (y : Option State)
-        → IsStandingAt states (FitsBody b) (equations_of b entry store) state_parts chosen.place (is_seen b)
-        (fronts_of sys a) n y → IfSome y Traced → IfSome ((fronts_of sys a).front_of n) (Keeps n)
+        → IsStandingAt states (FitsBody b) (equations_of b entry store) (state_parts (carry_along b store))
+        chosen.place (is_seen b) (fronts_of sys a) n y
+        → IfSome y Traced → IfSome ((fronts_of sys a).front_of n) (Keeps n)
     kept_at_node n None at h = subst (λ f. IfSome f (Keeps n)) (sym at) tt
     kept_at_node n (Some s) at h = subst (λ f. IfSome f (Keeps n)) (sym at.front) h.copied
 

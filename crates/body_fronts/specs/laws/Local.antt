@@ -8,6 +8,7 @@ use Rattle.sparse_bodies.specs.task_equations.Bodies.{Body, copy_at}
 use Rattle.sparse_bodies.specs.task_equations.Equations.{action_along, around_along, led, equations_of}
 use Rattle.sparse_bodies.specs.task_equations.Premises.{FitsBody}
 use Rattle.sparse_bodies.specs.sparse_tables.Sparse.{AgreeOn, GiveAlike}
+use Rattle.sparse_bodies.specs.Carries.{carry_along}
 use Rattle.sparse_rows.specs.Looked.{Agree, Alike}
 use Rattle.sparse_rows.specs.StateParts.{states, state_parts}
 use Rattle.sparse_rows.specs.laws.Checked.{checked_looks}
@@ -23,15 +24,20 @@ module _ (b : Body) (entry : Option State) (store : Interferences) (chosen : Cho
   abbrev touch : ℕ → ℕ → Bool
   touch e = chosen.place.touches e
 
+  abbrev carries : ℕ → ℕ → Bool
+  carries e = chosen.place.carries e
+
   abbrev look : ℕ → ℕ → Bool
   look e = chosen.place.looks e
 
-  agreed : (e : ℕ) (s t : State) → AgreeOn states (FitsBody b) (equations_of b entry store) state_parts chosen.place e s t
+  agreed : (e : ℕ) (s t : State)
+      → AgreeOn states (FitsBody b) (equations_of b entry store) (state_parts (carry_along b store)) chosen.place e s t
       → Agree (look e) s t
   agreed e s t h = record { temps = h.front; cells = h.cells }
 
   alike : (e : ℕ) (s t : Option State) → Alike (look e) s t
-      → GiveAlike states (FitsBody b) (equations_of b entry store) state_parts chosen.place e s t
+      → GiveAlike states (FitsBody b) (equations_of b entry store) (state_parts (carry_along b store)) chosen.place e s
+      t
   alike e None None h = tt
   alike e None (Some t) h = absurd h
   alike e (Some s) None h = absurd h
@@ -52,7 +58,7 @@ module _ (b : Body) (entry : Option State) (store : Interferences) (chosen : Cho
         (led_alike e c.to (after (around_along b c) (action_along b c) s store)
         (after (around_along b c) (action_along b c) t store)
         (rows_local (around_along b c) (look e) (action_along b c) s t store
-        (checked_looks (around_along b c) (touch e) (look e) copies fresh pending s d s-fits.form d-fits.form le copied
-        (λ x. looked e x lt) (action_along b c) store checked)
+        (checked_looks (around_along b c) (touch e) (carries e) (look e) copies fresh pending s d s-fits.form
+        d-fits.form le copied (λ x. looked e x lt) (action_along b c) store checked)
         (agreed e s t agree))));
   }

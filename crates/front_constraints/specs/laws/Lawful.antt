@@ -6,6 +6,7 @@ use Rattle.std.specs.Prelude.{[], ◌∷◌, map, is_some, MatchOption}
 use Rattle.std.specs.Option.{option_map}
 use Rattle.std.specs.List.{list_all}
 use Rattle.std.proofs.lemmas.Bool.{cases_Bool, true≢false, false≢true, and_from, and_parts, eq-eqb}
+use Rattle.std.proofs.lemmas.Bool.{cond_both, cond-true, cond-false}
 use Rattle.std.proofs.lemmas.List.{length-map, get_or-map}
 use Rattle.sparse_tables.specs.table_covers.tm_lattice.declared.lattices.Lattice as lattice
 use Rattle.sparse_tables.specs.table_covers.tm_lattice.Tables.{IsBelow}
@@ -16,13 +17,13 @@ use Rattle.least_assignments.specs.Constraints.{IsPointwiseBelow}
 use Rattle.least_assignments.specs.Constraints.{target, target_count}
 use Rattle.front_constraints.specs.declared.standings.Standing.{Standing}
 use Rattle.front_constraints.specs.Standings.{holding, front_in, cell_in, HasParts, IsStandingBelow}
-use Rattle.front_constraints.specs.Standings.{joined_standing}
+use Rattle.front_constraints.specs.Standings.{joined_standing, changed_standing}
 use Rattle.front_constraints.specs.Systems.{SparseSystem, Variable, front_at, open_at, slot_at, Rule, entered, row}
 use Rattle.front_constraints.specs.Systems.{flow}
 use Rattle.front_constraints.specs.Systems.{nodes, edges, from, to, owns, touches, kept_at, is_looked}
 use Rattle.front_constraints.specs.Systems.{IsVariable, IsRule}
 use Rattle.front_constraints.specs.Rules.{standing, seen_at, seen, is_ready, small, small_at, part_of, targets_of}
-use Rattle.front_constraints.specs.Rules.{brings}
+use Rattle.front_constraints.specs.Rules.{brings, carried_along}
 use Rattle.front_constraints.specs.Rules.{passed, is_read, rounded_cell_at, front_limit_at, cell_limit_at}
 use Rattle.front_constraints.specs.Rules.{front_constraints}
 use Rattle.front_constraints.specs.Rules.{FitsFrontAt, FitsCellAt, FitsVariable, AllowsRule, Allows}
@@ -363,6 +364,73 @@ module _ {V F D L M N : Type 0} (states : lattice.Ghosts V L) (fronts : lattice.
   passed_rises (Some w) None z z' le le' = absurd le
   passed_rises (Some w) (Some w') z z' le le' = le'
 
+  -- what is carried fits, and rises with what it is made of
+  abbrev Carried : ℕ → ℕ → Option S → Option S
+  Carried e x y = carried_along sys e x y
+
+  changed_fits : (e x m : ℕ) → e < edges sys → sys.is_cell x ≡ true → sys.place.carries e x ≡ true → (y : Option S)
+      → IfSome y (FitsAt (slot_at m x))
+      → IfSome (option_map (changed_standing (λ f. f) (sys.carry e x)) y) (FitsAt (slot_at m x))
+  changed_fits e x m lt cell carries None h = tt
+  changed_fits e x m lt cell carries (Some w) h = record {
+    front = none_fits w.front h.front;
+    cell = fits_on w.cell h.cell;
+  }
+    where
+      none_fits : (y : Option F) → IfSome y (FrontOk (slot_at m x))
+          → IfSome (option_map (λ (f : F). f) y) (FrontOk (slot_at m x))
+      none_fits None h = tt
+      none_fits (Some f) h = h
+
+      fits_on : (y : Option D) → IfSome y (fits_cell x) → IfSome (option_map (sys.carry e x) y) (fits_cell x)
+      fits_on None h = tt
+      fits_on (Some d) h = (is.carryings e x lt cell carries).carried d h
+
+  carried_fits : (e x m : ℕ) → e < edges sys → sys.is_cell x ≡ true → (y : Option S) → IfSome y (FitsAt (slot_at m x))
+      → IfSome (Carried e x y) (FitsAt (slot_at m x))
+  carried_fits e x m lt cell y h =
+      cond_both (sys.place.carries e x) (option_map (changed_standing (λ f. f) (sys.carry e x)) y) y
+      (λ z. IfSome z (FitsAt (slot_at m x))) (λ carries. changed_fits e x m lt cell carries y h) (λ other. h)
+
+  changed_rises : (e x m : ℕ) → e < edges sys → sys.is_cell x ≡ true → sys.place.carries e x ≡ true → (y z : Option S)
+      → IfSome y (FitsAt (slot_at m x)) → IfSome z (FitsAt (slot_at m x)) → Below y z
+      → Below (option_map (changed_standing (λ f. f) (sys.carry e x)) y)
+      (option_map (changed_standing (λ f. f) (sys.carry e x)) z)
+  changed_rises e x m lt cell carries None z h k le = tt
+  changed_rises e x m lt cell carries (Some v) None h k le = absurd le
+  changed_rises e x m lt cell carries (Some v) (Some w) h k le = record {
+    front = none_rises v.front w.front le.front;
+    cell = rises_on v.cell w.cell h.cell k.cell le.cell;
+  }
+    where
+      none_rises : (y z : Option F) → IsBelow fronts.leq y z
+          → IsBelow fronts.leq (option_map (λ (f : F). f) y) (option_map (λ (f : F). f) z)
+      none_rises None z le = tt
+      none_rises (Some f) None le = absurd le
+      none_rises (Some f) (Some g) le = le
+
+      rises_on : (y z : Option D) → IfSome y (fits_cell x) → IfSome z (fits_cell x) → IsBelow cells.leq y z
+          → IsBelow cells.leq (option_map (sys.carry e x) y) (option_map (sys.carry e x) z)
+      rises_on None z h k le = tt
+      rises_on (Some c) None h k le = absurd le
+      rises_on (Some c) (Some d) h k le = (is.carryings e x lt cell carries).rising c d h k le
+
+  carried_rises : (e x m : ℕ) → e < edges sys → sys.is_cell x ≡ true → (y z : Option S)
+      → IfSome y (FitsAt (slot_at m x)) → IfSome z (FitsAt (slot_at m x)) → Below y z
+      → Below (Carried e x y) (Carried e x z)
+  carried_rises e x m lt cell y z h k le = elim (cases_Bool (sys.place.carries e x)) [
+    | inl carries ↦ subst (λ w. Below w (Carried e x z))
+        (sym (cond-true (sys.place.carries e x) (option_map (changed_standing (λ f. f) (sys.carry e x)) y) y carries))
+        (subst (λ w. Below (option_map (changed_standing (λ f. f) (sys.carry e x)) y) w)
+        (sym (cond-true (sys.place.carries e x) (option_map (changed_standing (λ f. f) (sys.carry e x)) z) z carries))
+        (changed_rises e x m lt cell carries y z h k le))
+    | inr other ↦ subst (λ w. Below w (Carried e x z))
+        (sym (cond-false (sys.place.carries e x) (option_map (changed_standing (λ f. f) (sys.carry e x)) y) y other))
+        (subst (λ w. Below y w)
+        (sym (cond-false (sys.place.carries e x) (option_map (changed_standing (λ f. f) (sys.carry e x)) z) z other))
+        le)
+  ]
+
   brought_fits : (e : ℕ) → e < edges sys → (a : Assignment S) → Fitting a
       → IfSome (brought (sys.equations.after e) (small_at sys e a)) (suits (to sys e))
   brought_fits e lt a fits =
@@ -378,8 +446,9 @@ module _ {V F D L M N : Type 0} (states : lattice.Ghosts V L) (fronts : lattice.
   brings_fits (flow e x) is-r a fits v at =
       let k = kept_at sys (from sys e) x in
       subst (λ w. IfSome (brings sys (flow e x) a v) (FitsAt w)) (sym at)
-      (passed_fits e x (to sys e) k (standing sys a (open_at e)) (standing sys a (slot_at k x))
-      (standing_fits a fits (slot_at k x) (kept_slot (from sys e) x (is.law.from_node e is-r.0) is-r.1)))
+      (passed_fits e x (to sys e) k (standing sys a (open_at e)) (Carried e x (standing sys a (slot_at k x)))
+      (carried_fits e x k is-r.0 is-r.1 (standing sys a (slot_at k x))
+      (standing_fits a fits (slot_at k x) (kept_slot (from sys e) x (is.law.from_node e is-r.0) is-r.1))))
 
   brings_rise : (r : Rule) → IsRule sys r → (a b : Assignment S) → Fitting a → Fitting b → Under a b → (v : Variable)
       → Below (brings sys r a v) (brings sys r b v)
@@ -395,9 +464,13 @@ module _ {V F D L M N : Type 0} (states : lattice.Ghosts V L) (fronts : lattice.
       (small_at_rises e is-r a b a-fits b-fits (standing_below a b le))) v
   brings_rise (flow e x) is-r a b a-fits b-fits le v =
       let k = kept_at sys (from sys e) x in
-      passed_rises (standing sys a (open_at e)) (standing sys b (open_at e)) (standing sys a (slot_at k x))
-      (standing sys b (slot_at k x)) (standing_below a b le (open_at e) is-r.0)
-      (standing_below a b le (slot_at k x) (kept_slot (from sys e) x (is.law.from_node e is-r.0) is-r.1))
+      let slot = kept_slot (from sys e) x (is.law.from_node e is-r.0) is-r.1 in
+      passed_rises (standing sys a (open_at e)) (standing sys b (open_at e))
+      (Carried e x (standing sys a (slot_at k x))) (Carried e x (standing sys b (slot_at k x)))
+      (standing_below a b le (open_at e) is-r.0)
+      (carried_rises e x k is-r.0 is-r.1 (standing sys a (slot_at k x)) (standing sys b (slot_at k x))
+      (standing_fits a a-fits (slot_at k x) slot) (standing_fits b b-fits (slot_at k x) slot)
+      (standing_below a b le (slot_at k x) slot))
 
   -- ## What rules read
 
@@ -429,8 +502,8 @@ module _ {V F D L M N : Type 0} (states : lattice.Ghosts V L) (fronts : lattice.
       ap (λ y. part_of sys (brought (sys.equations.after e) y) v) (small_same e is-r a b agree)
   brings_same (flow e x) is-r a b agree v =
       let k = kept_at sys (from sys e) x in
-      ap (λ y. passed y (standing sys a (slot_at k x))) (agree (open_at e) is-r.0 (eq-eqb e e refl))
-      ∙ ap (passed (standing sys b (open_at e))) (agree (slot_at k x)
+      ap (λ y. passed y (Carried e x (standing sys a (slot_at k x)))) (agree (open_at e) is-r.0 (eq-eqb e e refl))
+      ∙ ap (λ y. passed (standing sys b (open_at e)) (Carried e x y)) (agree (slot_at k x)
       (kept_slot (from sys e) x (is.law.from_node e is-r.0) is-r.1)
       (and_from _ _ (eq-eqb x x refl) (eq-eqb k k refl)))
 

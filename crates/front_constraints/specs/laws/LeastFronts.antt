@@ -24,7 +24,7 @@ use Rattle.front_constraints.specs.Systems.{nodes, edges, from, to, owns, touche
 use Rattle.front_constraints.specs.Systems.{parts_of}
 use Rattle.front_constraints.specs.Systems.{IsVariable, IsRule}
 use Rattle.front_constraints.specs.Rules.{standing, seen_at, seen, is_ready, small, small_at, part_of, targets_of}
-use Rattle.front_constraints.specs.Rules.{brings}
+use Rattle.front_constraints.specs.Rules.{brings, carried_along}
 use Rattle.front_constraints.specs.Rules.{passed, rounded_cell_at, front_constraints, FitsVariable, AllowsRule, Allows}
 use Rattle.front_constraints.specs.Rules.{fronts_of}
 use Rattle.front_constraints.specs.Premises.{IsSparseSystem, AreLocal, IsKeptFront, IsRoundCell}
@@ -156,6 +156,38 @@ module _ {V F D L M N : Type 0} (states : lattice.Ghosts V L) (fronts : lattice.
   passed_below : (y z w : Option S) → is_some y ≡ true → Below (passed y z) w → Below z w
   passed_below None z w there le = absurd (false≢true there)
   passed_below (Some u) z w there le = le
+
+  -- what an edge makes of a cell that it does not touch, as a standing and as a cell
+  abbrev carried_cell : ℕ → ℕ → Option D → Option D
+  carried_cell e x c = cond (sys.place.carries e x) (option_map (sys.carry e x) c) c
+
+  carried_in_by : (e x : ℕ) (b : Bool) (y : Option S)
+      → cell_in (cond b (option_map (changed_standing (λ f. f) (sys.carry e x)) y) y)
+      ≡ cond b (option_map (sys.carry e x) (cell_in y)) (cell_in y)
+  carried_in_by e x true None = refl
+  carried_in_by e x true (Some w) = refl
+  carried_in_by e x false y = refl
+
+  carried_in : (e x : ℕ) (y : Option S) → cell_in (carried_along sys e x y) ≡ carried_cell e x (cell_in y)
+  carried_in e x y = carried_in_by e x (sys.place.carries e x) y
+
+  abbrev held : Option D → Option S
+  held y = option_map holding y
+
+  carried_holding_by : (e x : ℕ) (b : Bool) (y : Option D)
+      → cond b (option_map (changed_standing (λ f. f) (sys.carry e x)) (held y)) (held y)
+      ≡ held (cond b (option_map (sys.carry e x) y) y)
+  carried_holding_by e x true None = refl
+  carried_holding_by e x true (Some d) = refl
+  carried_holding_by e x false y = refl
+
+  carried_holding : (e x : ℕ) (y : Option D)
+      → carried_along sys e x (held y) ≡ held (carried_cell e x y)
+  carried_holding e x y = carried_holding_by e x (sys.place.carries e x) y
+
+  nothing_carried_by : (e x : ℕ) (b : Bool) → cond b (option_map (sys.carry e x) None) None ≡ None
+  nothing_carried_by e x true = refl
+  nothing_carried_by e x false = refl
 
   -- a small state and a whole one that has at each cell what the small one has where the edge may look
   whole_agrees : (e : ℕ) (f : F) (c : ℕ → Option D) (s : V) → suits (from sys e) s
@@ -333,15 +365,18 @@ module _ {V F D L M N : Type 0} (states : lattice.Ghosts V L) (fronts : lattice.
 
     flow_met : (e x : ℕ) → e < edges sys → read.is_open e ≡ true → owns sys (to sys e) x ≡ true
         → touches sys e x ≡ false
-        → IsBelow cells.leq (read.slot_of (kept_at sys (from sys e) x) x) (read.slot_of (to sys e) x)
+        → IsBelow cells.leq (carried_cell e x (read.slot_of (kept_at sys (from sys e) x) x))
+        (read.slot_of (to sys e) x)
     flow_met e x lt opens own passes =
         let k = kept_at sys (from sys e) x in
-        slot_holds (to sys e) x (read.slot_of k x)
-        (λ other. cond-false (sys.is_cell x) (cell_in (standing sys a (slot_at k x))) None other)
+        slot_holds (to sys e) x (carried_cell e x (read.slot_of k x))
+        (λ other. ap (carried_cell e x)
+        (cond-false (sys.is_cell x) (cell_in (standing sys a (slot_at k x))) None other)
+        ∙ nothing_carried_by e x (sys.place.carries e x))
         (λ cell. subst (λ y. IsBelow cells.leq y (cell_in (standing sys a (slot_at (to sys e) x))))
-        (sym (slot_is k x cell))
-        (cell_below (standing sys a (slot_at k x)) (standing sys a (slot_at (to sys e) x))
-        (passed_below (standing sys a (open_at e)) (standing sys a (slot_at k x))
+        (carried_in e x (standing sys a (slot_at k x)) ∙ sym (ap (carried_cell e x) (slot_is k x cell)))
+        (cell_below (carried_along sys e x (standing sys a (slot_at k x))) (standing sys a (slot_at (to sys e) x))
+        (passed_below (standing sys a (open_at e)) (carried_along sys e x (standing sys a (slot_at k x)))
         (standing sys a (slot_at (to sys e) x))
         opens (met_at (flow e x) (lt, cell, own, passes) zero (omega arith)))))
 
@@ -691,12 +726,16 @@ module _ {V F D L M N : Type 0} (states : lattice.Ghosts V L) (fronts : lattice.
           let k = kept_at sys (from sys e) x in
           let slot = kept_slot (from sys e) x (is.law.from_node e is-r.0) is-r.1 in
           subst (λ w. Below (brings sys (flow e x) values v) (value_of w)) (sym at)
-          (subst (λ y. Below (passed y (standing sys values (slot_at k x))) (value_of (slot_at (to sys e) x)))
+          (subst (λ y. Below (passed y (carried_along sys e x (standing sys values (slot_at k x))))
+          (value_of (slot_at (to sys e) x)))
           (sym (stands (open_at e) is-r.0))
-          (subst (λ y. Below (passed (value_of (open_at e)) y) (value_of (slot_at (to sys e) x)))
+          (subst (λ y. Below (passed (value_of (open_at e)) (carried_along sys e x y))
+          (value_of (slot_at (to sys e) x)))
           (sym (stands (slot_at k x) slot))
-          (flow_value (cut.is_open e) (cut.slot_of k x) (cut.slot_of (to sys e) x)
-          (λ opens. met.flows e x is-r.0 opens is-r.2 is-r.3))))
+          (subst (λ y. Below (passed (value_of (open_at e)) y) (value_of (slot_at (to sys e) x)))
+          (sym (carried_holding e x (cut.slot_of k x)))
+          (flow_value (cut.is_open e) (carried_cell e x (cut.slot_of k x)) (cut.slot_of (to sys e) x)
+          (λ opens. met.flows e x is-r.0 opens is-r.2 is-r.3)))))
 
       values_met : (k : ℕ) → k < sys.numbers.constraint_count → (j : ℕ) → j < target_count system k
           → Below (system.gives k values j) (values (target system k j))

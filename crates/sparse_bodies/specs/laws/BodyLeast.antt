@@ -25,6 +25,7 @@ use Rattle.sparse_rows.specs.Traces.{IsTraced}
 use Rattle.sparse_rows.specs.laws.Bodies as bodies
 use Rattle.sparse_rows.specs.laws.Bodies.{AreRows, rounded_to}
 use Rattle.sparse_rows.specs.Checks.{AreChecked}
+use Rattle.sparse_bodies.specs.Carries.{carry_along}
 
 led_is : (to : Option ℕ) (y : Option State) → led to y ≡ cond (is_some to) y None
 led_is None y = refl
@@ -71,11 +72,11 @@ module _ (b : Body) (sorts : List Sort) (is : IsBody b sorts) (tasks : ℕ) (sto
 
     -- The law: the least sparse table of a body is the least solution of its equations.
     pub sparse_body_is_least : (place : Placing) (copies : ℕ → ℕ → Bool) (fresh : ℕ → Bool) (pending : ℕ → ℕ) (table : NodeTable State)
-        → IsPlaced states (FitsBody b) (equations_of b entry store) state_parts place
+        → IsPlaced states (FitsBody b) (equations_of b entry store) (state_parts (carry_along b store)) place
         → AreChecked (FitsBody b) (equations_of b entry store) (λ e. around_along b (copy_at b e))
         (λ e. action_along b (copy_at b e)) store place copies fresh pending table
         → IfSome entry (IsTraced copies fresh pending)
-        → IsSparseLeast states (FitsBody b) (equations_of b entry store) state_parts place table
+        → IsSparseLeast states (FitsBody b) (equations_of b entry store) (state_parts (carry_along b store)) place table
         → IsLeastSolution states (FitsBody b) (equations_of b entry store) table
     sparse_body_is_least place copies fresh pending table placed checked traced sparse =
         bodies.checked_is_least (FitsBody b) (equations_of b entry store) (λ e. around_along b (copy_at b e))

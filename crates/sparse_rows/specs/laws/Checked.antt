@@ -17,12 +17,13 @@ use Rattle.transfer_rows.specs.Reports.{targets_of}
 use Rattle.transfer_rows.proofs.RowsRise.{target_rises}
 use Rattle.sparse_rows.specs.Checks.{IsChecked}
 use Rattle.sparse_rows.specs.Looked.{Looks, IsCopyIn}
-use Rattle.sparse_rows.specs.Touched.{Leaves, IsNoCopy, IsKeptBy}
+use Rattle.sparse_rows.specs.Touched.{Leaves, IsNoCopy, IsKeptBy, Passes}
 use Rattle.sparse_rows.specs.Traces.{IsTraced, AreCopies, IsFreshAt, IsPendingAt, Makes}
 
-module _ (around : Around) (touch looks : ℕ → Bool) (copies : ℕ → ℕ → Bool) (fresh : ℕ → Bool) (pending : ℕ → ℕ) where
+module _ (around : Around) (touch carries looks : ℕ → Bool) (copies : ℕ → ℕ → Bool) (fresh : ℕ → Bool)
+    (pending : ℕ → ℕ) where
   abbrev Checked : Action → State → Interferences → Type 0
-  Checked action s store = IsChecked around touch looks copies fresh pending action s store
+  Checked action s store = IsChecked around touch carries looks copies fresh pending action s store
 
   false_where : (b c : Bool) → (b ≡ true → c ≡ true) → c ≡ false → b ≡ false
   false_where true c h other = absurd (true≢false (sym (h refl) ∙ other))
@@ -79,28 +80,47 @@ module _ (around : Around) (touch looks : ℕ → Bool) (copies : ℕ → ℕ �
     release_kept m x same (Some c) h =
         ap (λ (n : ℕ). record c { pending = n }) (without_same c.pending (pending x) m h same)
 
-    -- what was checked above says that the operation leaves below what it does not touch
+    -- what was checked above says that the operation leaves below what it neither touches nor carries
     pub checked_leaves : IsTraced copies fresh pending s → (action : Action) (store : Interferences)
-        → Checked action d store → (x : ℕ) → touch x ≡ false → Leaves around action s store x
+        → Checked action d store → (x : ℕ) → touch x ≡ false → carries x ≡ false → Leaves around action s store x
     unfolding IsChecked Leaves targets_of
-    checked_leaves traced skips store h x other = tt
-    checked_leaves traced (gives target calculation) store h x other = tt
-    checked_leaves traced (refines filter) store h x other =
+    checked_leaves traced skips store h x other still = tt
+    checked_leaves traced (gives target calculation) store h x other still = tt
+    checked_leaves traced (refines filter) store h x other still =
         λ t filtered. no_copy t x (h t filtered) other (get s.temps t) (traced.copied t)
-    checked_leaves traced (loads spots target address) store h x other = tt
-    checked_leaves traced (loads_any spots target address range) store h x other = tt
-    checked_leaves traced (stores spots address source) store h x other =
+    checked_leaves traced (loads spots target address) store h x other still = tt
+    checked_leaves traced (loads_any spots target address range) store h x other still = tt
+    checked_leaves traced (stores spots address source) store h x other still =
         false_where (is_among (targets_at spots (value_of s address).pointers) x) (touch x)
         (λ among. (h x (fewer (stores spots address source) x among)).0) other
-    checked_leaves traced (clears cleared) store h x other = h x other
-    checked_leaves traced (locks m) store h x other =
-        lock_kept store m x (h x other).0 (h x other).1 (get s.cells x) (traced.aged x)
-    checked_leaves traced (unlocks m) store h x other =
-        release_kept m x (h x other) (get s.cells x) (traced.held x)
-    checked_leaves traced yields store h x other = aged_same x (h x other) (get s.cells x) (traced.aged x)
-    checked_leaves traced (probes m target true) store h x other = tt
-    checked_leaves traced (probes m target false) store h x other =
-        any_kept (taken around store m x) (h x other) (get s.cells x)
+    checked_leaves traced (clears cleared) store h x other still = h x other
+    checked_leaves traced (locks m) store h x other still =
+        lock_kept store m x (h x other still).0 (h x other still).1 (get s.cells x) (traced.aged x)
+    checked_leaves traced (unlocks m) store h x other still =
+        release_kept m x (h x other still) (get s.cells x) (traced.held x)
+    checked_leaves traced yields store h x other still = aged_same x (h x other still) (get s.cells x) (traced.aged x)
+    checked_leaves traced (probes m target true) store h x other still = tt
+    checked_leaves traced (probes m target false) store h x other still =
+        any_kept (taken around store m x) (h x other still) (get s.cells x)
+
+    -- and that it writes below no cell that it does not touch
+    pub checked_passes : ((u : ℕ) → AreCopies copies fresh pending u (get s.temps u)) → (action : Action)
+        (store : Interferences) → Checked action d store → (x : ℕ) → touch x ≡ false → Passes action s x
+    unfolding IsChecked Passes targets_of
+    checked_passes copied skips store h x other = tt
+    checked_passes copied (gives target calculation) store h x other = tt
+    checked_passes copied (refines filter) store h x other =
+        λ t filtered. no_copy t x (h t filtered) other (get s.temps t) (copied t)
+    checked_passes copied (loads spots target address) store h x other = tt
+    checked_passes copied (loads_any spots target address range) store h x other = tt
+    checked_passes copied (stores spots address source) store h x other =
+        false_where (is_among (targets_at spots (value_of s address).pointers) x) (touch x)
+        (λ among. (h x (fewer (stores spots address source) x among)).0) other
+    checked_passes copied (clears cleared) store h x other = h x other
+    checked_passes copied (locks m) store h x other = tt
+    checked_passes copied (unlocks m) store h x other = tt
+    checked_passes copied yields store h x other = tt
+    checked_passes copied (probes m target answer) store h x other = tt
 
     -- and that it looks below at no other cells than it may: of the traces this needs copies alone
     pub checked_looks : ((u : ℕ) → AreCopies copies fresh pending u (get s.temps u))

@@ -1,4 +1,5 @@
--- An operation changes no cell that it leaves, in none of its attributes.
+-- An operation changes no cell that it leaves, in none of its attributes, and makes of others that it does not write
+-- what it makes of each by itself.
 use Rattle.std.specs.Prelude.{◌≡◌, ℕ, Bool, true, false, ◌&&◌, ◌||◌, not, cond, eqb, List, [], ◌∷◌, Option, Some, None}
 use Rattle.std.specs.Prelude.{refl, pos}
 use Rattle.std.proofs.Common.{sym, ap, subst, ◌∙◌, inl, inr, IfSome, eqb-true}
@@ -26,7 +27,8 @@ use Rattle.transfer_rows.specs.Rows.{met_where, refined, refined_from, side_refi
 use Rattle.transfer_rows.specs.Rows.{after_filter, loaded, new_copy, after_load_any}
 use Rattle.transfer_rows.specs.Rows.{stored_cell, after_store, taken, after_lock, after_free}
 use Rattle.transfer_rows.specs.Rows.{is_contradicted, holds, effect, arrived, after}
-use Rattle.sparse_rows.specs.Touched.{Leaves, IsNoCopy, IsKeptBy, IfSame}
+use Rattle.sparse_rows.specs.Touched.{Leaves, IsNoCopy, IsKeptBy, IfSame, Passes}
+use Rattle.sparse_rows.specs.Carried.{carried_by}
 
 -- a table changed at each key has at a key what it had, where the change leaves that
 kept_at : (f : ℕ → Cell → Cell) (x : ℕ) (a : Option Cell) → IsKeptBy (f x) a → changed_at f x a ≡ a
@@ -36,6 +38,19 @@ kept_at f x (Some c) h = ap Some h
 changed_same : (f : ℕ → Cell → Cell) (t : Table Cell) (x : ℕ) → IsKeptBy (f x) (get t x)
     → get (changed_table f t) x ≡ get t x
 changed_same f t x h = get-changed_table f t x ∙ kept_at f x (get t x) h
+
+-- and where the change is looked at, what the change makes of it
+changed_is : (f : ℕ → Cell → Cell) (x : ℕ) (a : Option Cell) → changed_at f x a ≡ option_map (f x) a
+changed_is f x None = refl
+changed_is f x (Some c) = refl
+
+changed_map : (f : ℕ → Cell → Cell) (t : Table Cell) (x : ℕ)
+    → get (changed_table f t) x ≡ option_map (f x) (get t x)
+changed_map f t x = get-changed_table f t x ∙ changed_is f x (get t x)
+
+same_map : (a : Option Cell) → a ≡ option_map (λ (c : Cell). c) a
+same_map None = refl
+same_map (Some c) = refl
 
 always_kept : (f : Cell → Cell) (a : Option Cell) → ((c : Cell) → f c ≡ c) → IsKeptBy f a
 always_kept f None h = tt
@@ -205,3 +220,52 @@ module _ (x : ℕ) where
         → IfSame (get s.cells x) x (after around action s store)
     rows_frame action s store h =
         arrived_same (get s.cells x) (effect around action s store) (effect_same action s store h)
+
+    -- ## What is carried
+
+    -- where the operation makes nothing of cells by themselves
+    plain : (s : State) (y : Option State) → IfSame (get s.cells x) x y
+        → IfSame (option_map (λ (c : Cell). c) (get s.cells x)) x y
+    plain s y h = subst (λ a. IfSame a x y) (same_map (get s.cells x)) h
+
+    effect_carries : (action : Action) (s : State) (store : Interferences) → Passes action s x
+        → IfSame (option_map (carried_by around action store x) (get s.cells x)) x (effect around action s store)
+    unfolding effect Leaves Passes carried_by
+    effect_carries skips s store h = plain s (Some s) (effect_same skips s store tt)
+    effect_carries (gives target calculation) s store h =
+        plain s (effect around (gives target calculation) s store) (effect_same (gives target calculation) s store tt)
+    effect_carries (refines filter) s store h =
+        plain s (effect around (refines filter) s store) (effect_same (refines filter) s store h)
+    effect_carries (loads spots target address) s store h =
+        plain s (effect around (loads spots target address) s store)
+        (effect_same (loads spots target address) s store tt)
+    effect_carries (loads_any spots target address range) s store h =
+        plain s (effect around (loads_any spots target address range) s store)
+        (effect_same (loads_any spots target address range) s store tt)
+    effect_carries (stores spots address source) s store h =
+        plain s (effect around (stores spots address source) s store)
+        (effect_same (stores spots address source) s store h)
+    effect_carries (clears cleared) s store h =
+        plain s (effect around (clears cleared) s store) (effect_same (clears cleared) s store h)
+    effect_carries (locks m) s store h =
+        by_cond (holds around m) (option_map (carried_by around (locks m) store x) (get s.cells x)) x None
+        (Some (after_lock around s store m)) tt
+        (changed_map (λ y c. aged (taken around store m y c)) s.cells x)
+    effect_carries (unlocks m) s store h =
+        by_cond (holds around m) (option_map (carried_by around (unlocks m) store x) (get s.cells x)) x
+        (Some (after_unlock s m)) None
+        (changed_map (λ y c. released m c) s.cells x) tt
+    effect_carries yields s store h = changed_map (λ y c. aged c) s.cells x
+    effect_carries (probes m target true) s store h =
+        plain s (effect around (probes m target true) s store) (effect_same (probes m target true) s store tt)
+    effect_carries (probes m target false) s store h =
+        by_cond (holds around m) (option_map (carried_by around (probes m target false) store x) (get s.cells x)) x None
+        (Some (after_free around s store m target)) tt
+        (changed_map (taken around store m) s.cells x)
+
+    -- what an operation does not write is after it what the operation makes of each cell by itself
+    pub rows_carry : (action : Action) (s : State) (store : Interferences) → Passes action s x
+        → IfSame (option_map (carried_by around action store x) (get s.cells x)) x (after around action s store)
+    rows_carry action s store h =
+        arrived_same (option_map (carried_by around action store x) (get s.cells x)) (effect around action s store)
+        (effect_carries action s store h)

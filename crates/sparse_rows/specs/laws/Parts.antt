@@ -29,11 +29,11 @@ same_state s t temps cells =
     ap (λ (p : Table Temp). record { temps = p; cells = s.cells }) temps
     ∙ ap (λ (p : Table Cell). record { temps = t.temps; cells = p }) cells
 
-pub are_parts : (suits : ℕ → State → Type 0) (sys : System State) (place : Placing)
+pub are_parts : (suits : ℕ → State → Type 0) (sys : System State) (carry : ℕ → ℕ → Cell → Cell) (place : Placing)
     → ((n : ℕ) (s : State) → suits n s → IsStateForm s)
     → ((n : ℕ) (s : State) → suits n s → (let t = sys.outward n s in t.temps ≡ s.temps))
-    → AreParts states suits sys state_parts place
-are_parts suits sys place form rounds = record {
+    → AreParts states suits sys (state_parts carry) place
+are_parts suits sys carry place form rounds = record {
   front_rises = λ n s t s-fits t-fits le. le.temps;
   cell_rises = λ n s t s-fits t-fits le x. le.cells x;
   below = λ n s t s-fits t-fits temps cells. record { temps = temps; cells = cells };

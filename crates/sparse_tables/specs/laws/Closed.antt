@@ -1,12 +1,14 @@
 -- A thin table is a closed one where what nodes own is met.
 use Rattle.std.proofs.Common.{◌≡◌, ℕ, zero, suc, ◌<◌, Bool, true, false, Option, Some, None, IfSome, sym, subst, ◌∙◌, refl}
+use Rattle.std.specs.Prelude.{if◌then◌else◌}
+use Rattle.std.proofs.lemmas.Bool.{cond-false}
 use Rattle.table_covers.specs.tm_lattice.declared.lattices.Lattice as lattice
 use Rattle.table_covers.specs.tm_lattice.LatticeLaws.{IsOrder}
 use Rattle.table_covers.specs.tm_lattice.Tables.{IsBelow}
 use Rattle.table_covers.specs.Systems.{System, IsLawfulSystem, from_of, to_of}
 use Rattle.table_covers.specs.Solutions.{NodeTable, brought, entry_at, edge_count, IsClosedTable}
 use Rattle.sparse_tables.specs.Sparse.{Parts, Placing, AreParts, IsPlaced, IsSparseClosed, IsUnderAt}
-use Rattle.sparse_tables.specs.Sparse.{IsOwnBelow, SameCell}
+use Rattle.sparse_tables.specs.Sparse.{IsOwnBelow, SameCell, CarriesCell}
 
 module _ {V F C M : Type 0} (states : lattice.Ghosts V M) (suits : ℕ → V → Type 0) (sys : System V)
     (parts : Parts V F C) (place : Placing)
@@ -35,6 +37,11 @@ module _ {V F C M : Type 0} (states : lattice.Ghosts V M) (suits : ℕ → V →
         | false ↦ other
       ] in
       split (place.owns n x) refl
+
+  -- what an edge does not carry it leaves as it is
+  pub uncarried : (e x : ℕ) (c : C) → place.carries e x ≡ false
+      → (if place.carries e x then parts.carry e x c else c) ≡ c
+  uncarried e x c other = cond-false (place.carries e x) (parts.carry e x c) c other
 
   pub cell_reflexive : (n : ℕ) (s : V) → suits n s → (x : ℕ) → parts.cell_leq (parts.cell s x) (parts.cell s x)
   cell_reflexive n s fits x = made.cell_rises n s s fits fits (order.reflexive s (law.value n s fits)) x
@@ -67,8 +74,9 @@ module _ {V F C M : Type 0} (states : lattice.Ghosts V M) (suits : ℕ → V →
         (λ x. by_ownership (to e) x (parts.cell_leq (parts.cell t x) (parts.cell u x)) (under.cells x)
         (λ other.
         let framed : parts.cell t x ≡ parts.cell s x =
-        subst (λ a. elim a as (λ b. Type 0) [ None ↦ Unit {0} | Some v ↦ parts.cell v x ≡ parts.cell s x ]) brings
-        (closed.framed e lt s at x (placed.untouched e x lt other)) in
+        subst (λ a. CarriesCell states suits sys parts place e x s a) brings
+        (closed.framed e lt s at x (placed.untouched e x lt other))
+        ∙ uncarried e x (parts.cell s x) (placed.uncarried e x lt other) in
         let here : Same x (Some s) (table (place.kept_at (from e) x)) =
         subst (λ a. Same x a (table (place.kept_at (from e) x))) at
         (closed.thin (from e) x (law.from_node e lt)) in

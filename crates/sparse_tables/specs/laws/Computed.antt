@@ -3,17 +3,18 @@ use Rattle.std.proofs.Common.{◌≡◌, ℕ, Bool, true, false, Option, Some, N
 use Rattle.table_covers.specs.tm_lattice.declared.lattices.Lattice as lattice
 use Rattle.table_covers.specs.Systems.{System}
 use Rattle.sparse_tables.specs.Sparse.{Parts, Placing, IsFramed, IsOwnBelow, AgreeOn, GiveAlike, IsLocal}
+use Rattle.sparse_tables.specs.Sparse.{CarriesCell, carried}
 
 module _ {V F C M : Type 0} (states : lattice.Ghosts V M) (suits : ℕ → V → Type 0) (sys : System V)
     (parts : Parts V F C) (place : Placing) where
   -- What a small state, which agrees with the state where the edge may look, brings: the front and the touched cells
-  -- lie below what is owned there, and so do the untouched cells of the state itself.
+  -- lie below what is owned there, and so do the untouched cells of the state itself as the edge carries them.
   pub record IsMetSmall (e n : ℕ) (s t u : V) : Type 0 where
     pub front : parts.front_leq (parts.front t) (parts.front u)
     pub touched : (x : ℕ) → place.owns n x ≡ true → place.touches e x ≡ true
         → parts.cell_leq (parts.cell t x) (parts.cell u x)
     pub passed : (x : ℕ) → place.owns n x ≡ true → place.touches e x ≡ false
-        → parts.cell_leq (parts.cell s x) (parts.cell u x)
+        → parts.cell_leq (carried states suits sys parts place e x (parts.cell s x)) (parts.cell u x)
 
   abbrev pub IsMetBySmall : ℕ → ℕ → V → Option V → Option V → Type 0
   IsMetBySmall e n s None y = Unit {0}
@@ -42,9 +43,8 @@ module _ {V F C M : Type 0} (states : lattice.Ghosts V M) (suits : ℕ → V →
         by_touch e x (parts.cell_leq (parts.cell v x) (parts.cell u x))
         (λ touches. subst (λ c. parts.cell_leq c (parts.cell u x)) (alike.cells x (within x touches)) (met.touched x own touches))
         (λ passes.
-        let same : parts.cell v x ≡ parts.cell s x =
-        subst (λ a. elim a as (λ b. Type 0) [ None ↦ Unit {0} | Some w ↦ parts.cell w x ≡ parts.cell s x ]) is
-        (framed x passes) in
+        let same : parts.cell v x ≡ carried states suits sys parts place e x (parts.cell s x) =
+        subst (CarriesCell states suits sys parts place e x s) is (framed x passes) in
         subst (λ c. parts.cell_leq c (parts.cell u x)) (sym same) (met.passed x own passes));
   }
 

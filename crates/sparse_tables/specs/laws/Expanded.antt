@@ -1,5 +1,5 @@
 -- The expansion of fronts and slots is thin; and where every node owns every cell, sparse tables are all tables.
-use Rattle.std.proofs.Common.{◌≡◌, ℕ, ◌<◌, true, Option, Some, None, IfSome, sym, ap, ◌∙◌, refl}
+use Rattle.std.proofs.Common.{◌≡◌, ℕ, ◌<◌, true, false, Option, Some, None, IfSome, sym, ap, ◌∙◌, refl}
 use Rattle.std.proofs.lemmas.Bool.{true≢false}
 use Rattle.table_covers.specs.tm_lattice.declared.lattices.Lattice as lattice
 use Rattle.table_covers.specs.Systems.{System}
@@ -49,7 +49,13 @@ module _ {V F C M : Type 0} (states : lattice.Ghosts V M) (suits : ℕ → V →
 module _ {V F C M : Type 0} (states : lattice.Ghosts V M) (suits : ℕ → V → Type 0) (sys : System V)
     (parts : Parts V F C) where
   abbrev pub everywhere : Placing
-  everywhere = record { touches = λ e x. true; looks = λ e x. true; owns = λ n x. true; kept_at = λ n x. n }
+  everywhere = record {
+    touches = λ e x. true;
+    looks = λ e x. true;
+    carries = λ e x. false;
+    owns = λ n x. true;
+    kept_at = λ n x. n;
+  }
 
   pub everywhere_placed : IsPlaced states suits sys parts everywhere
   everywhere_placed = record {
@@ -59,6 +65,7 @@ module _ {V F C M : Type 0} (states : lattice.Ghosts V M) (suits : ℕ → V →
     entry = λ x. refl;
     looked = λ e x lt touched. touched;
     untouched = λ e x lt other. absurd (true≢false other);
+    uncarried = λ e x lt other. refl;
     same = λ e x lt other. absurd (true≢false other);
     plain = λ n x s lt fits other. absurd (true≢false other);
   }

@@ -1,13 +1,14 @@
 -- In the least solution each cell flows on from where it is kept.
 use Rattle.std.proofs.Common.{◌≡◌, ℕ, ◌<◌, true, false, Option, Some, None, IfSome, sym, subst}
-use Rattle.std.proofs.Common.{refl}
+use Rattle.std.proofs.Common.{◌∙◌, refl}
 use Rattle.table_covers.specs.tm_lattice.declared.lattices.Lattice as lattice
 use Rattle.table_covers.specs.tm_lattice.LatticeLaws.{IsOrder, IsJoin}
 use Rattle.table_covers.specs.tm_lattice.Tables.{IsBelow}
 use Rattle.table_covers.specs.Systems.{System, IsLawfulSystem, from_of, to_of}
 use Rattle.table_covers.specs.Solutions.{NodeTable, brought, edge_count, IsClosedTable, IsLeastSolution, AreFitting}
 use Rattle.table_covers.specs.laws.Closing as closing
-use Rattle.sparse_tables.specs.Sparse.{Parts, Placing, AreParts, IsPlaced, IsFramedIn, IsFlowing, CellBelow, KeepsCell}
+use Rattle.sparse_tables.specs.Sparse.{Parts, Placing, AreParts, IsPlaced, IsFramedIn, IsFlowing, CellBelow}
+use Rattle.sparse_tables.specs.Sparse.{CarriesCell}
 use Rattle.sparse_tables.specs.laws.Closed as closed
 use Rattle.sparse_tables.specs.laws.Reached as reached
 
@@ -76,8 +77,10 @@ module _ {V F C M : Type 0} (states : lattice.Ghosts V M) (suits : ℕ → V →
         (Flows x (table (place.kept_at (to e) x)) (table (to e)))
         (at_owner (to e) x (law.to_node e lt))
         (λ other. along_to e x lt other s t s-fits t-fits
-        (subst (λ a. KeepsCell states suits sys parts place x s a) brings
-        (framed e lt s at x (placed.untouched e x lt other)))
+        (subst (λ a. CarriesCell states suits sys parts place e x s a) brings
+        (framed e lt s at x (placed.untouched e x lt other))
+        ∙ closed.uncarried states suits sys parts place order law made placed e x (parts.cell s x)
+        (placed.uncarried e x lt other))
         (subst (λ a. Flows x (table (place.kept_at (from e) x)) a) at (flows x))
         (table (to e)) (fits (to e) (law.to_node e lt)) met)
 

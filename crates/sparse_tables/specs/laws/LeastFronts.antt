@@ -1,9 +1,10 @@
 -- The least fronts and slots are those of the least solution.
 use Rattle.std.proofs.Common.{◌≡◌, ℕ, zero, suc, ◌<◌, Bool, true, false, cond, Option, Some, None, IfSome, sym}
 use Rattle.std.proofs.Common.{ap, subst, ◌∙◌, refl, inl, inr, arith}
-use Rattle.std.specs.Prelude.{◌&&◌, is_some}
+use Rattle.std.specs.Prelude.{◌&&◌, is_some, if◌then◌else◌}
 use Rattle.std.specs.Option.{option_map}
 use Rattle.std.proofs.lemmas.Bool.{cases_Bool, cases_eq, false≢true, and_from, and_parts, cond_both, cond-true}
+use Rattle.std.proofs.lemmas.Bool.{cond-false}
 use Rattle.std.proofs.lemmas.Option.{none-some}
 use Rattle.table_covers.specs.tm_lattice.declared.lattices.Lattice as lattice
 use Rattle.table_covers.specs.tm_lattice.LatticeLaws.{IsOrder, IsJoin}
@@ -15,7 +16,7 @@ use Rattle.table_covers.specs.laws.Closing as closing
 use Rattle.table_covers.specs.laws.Iterates as iterates
 use Rattle.sparse_tables.specs.Sparse.{Parts, Placing, AreParts, IsPlaced, IsFramedIn, IsFlowing, IsSparseClosed}
 use Rattle.sparse_tables.specs.Sparse.{SameCell}
-use Rattle.sparse_tables.specs.Sparse.{CellBelow, IsUnderAt, IsOwnBelow, KeepsCell}
+use Rattle.sparse_tables.specs.Sparse.{CellBelow, IsUnderAt, IsOwnBelow, CarriesCell}
 use Rattle.sparse_tables.specs.laws.Bounded as bounded
 use Rattle.sparse_tables.specs.laws.Bounded.{IsKept, IsKeptUnder}
 use Rattle.sparse_tables.specs.laws.Closed as closed
@@ -100,6 +101,9 @@ module _ {V F D M : Type 0} (states : lattice.Ghosts V M) (suits : ℕ → V →
   abbrev Full : Fronts F D → ℕ → Type 0
   Full a n = IsFullAt states suits sys parts place is_cell a n
 
+  abbrev Carried : ℕ → ℕ → Option D → Option D
+  Carried e x c = if place.carries e x then parts.carry e x c else c
+
   abbrev Arrived : Fronts F D → ℕ → V → Type 0
   Arrived a e t = IsArrived states suits sys parts place is_cell a e t
 
@@ -118,6 +122,10 @@ module _ {V F D M : Type 0} (states : lattice.Ghosts V M) (suits : ℕ → V →
   front_there f None le = absurd le
   front_there f (Some g) le = tt
 
+  carried_there : (e x : ℕ) (c : Option D) → IsThere c → IsThere (Carried e x c)
+  carried_there e x c there = cond_both (place.carries e x) (parts.carry e x c) c IsThere
+      (λ is. filled.carried e x c there) (λ other. there)
+
   -- ## Where an edge has arrived from a full node its end is full
 
   module _ (a : Fronts F D) (met : Met a) where
@@ -131,8 +139,9 @@ module _ {V F D M : Type 0} (states : lattice.Ghosts V M) (suits : ℕ → V →
           by_touch e x (IsThere (a.slot_of (to e) x))
               (λ touched. filled.above (parts.cell t x) (a.slot_of (to e) x) (arrived.touched x touched)
               (filled.there (to e) x t t-fits cell))
-              (λ passed. filled.above (a.slot_of (place.kept_at (from e) x) x) (a.slot_of (to e) x)
-              (met.flows e x lt arrived.opened own passed) (full x cell).0),
+              (λ passed. filled.above (Carried e x (a.slot_of (place.kept_at (from e) x) x)) (a.slot_of (to e) x)
+              (met.flows e x lt arrived.opened own passed)
+              (carried_there e x (a.slot_of (place.kept_at (from e) x) x) (full x cell).0)),
           front_there (parts.front t) (a.front_of (to e)) arrived.front,
         ))
         (λ other. subst (λ m. IsThere (a.slot_of m x) × IsThere (a.front_of m)) (placed.same e x lt other)
@@ -319,7 +328,7 @@ module _ {V F D M : Type 0} (states : lattice.Ghosts V M) (suits : ℕ → V →
 
     -- what is brought lies below what stands, in what the end of the edge owns
     under : (e : ℕ) → e < edges → (s t u : V) → StateAt a (from e) s → StateAt a (to e) u → Arrived a e t
-        → ((x : ℕ) → place.touches e x ≡ false → parts.cell t x ≡ parts.cell s x)
+        → ((x : ℕ) → place.touches e x ≡ false → parts.cell t x ≡ Carried e x (parts.cell s x))
         → IsUnderAt states suits sys parts place (to e) t u
     under e lt s t u at there h framed-at = record {
       front = subst (IsBelow parts.front_leq (Some (parts.front t))) there.front h.front;
@@ -328,12 +337,13 @@ module _ {V F D M : Type 0} (states : lattice.Ghosts V M) (suits : ℕ → V →
           ap (λ m. a.slot_of m x) (sym (placed.own (to e) x own)) ∙ sym (there.cells x) in
           subst (λ c. parts.cell_leq (parts.cell t x) c) stands
           (by_touch e x (parts.cell_leq (parts.cell t x) (a.slot_of (to e) x)) (h.touched x)
-          (λ passed. subst (λ c. parts.cell_leq c (a.slot_of (to e) x)) (sym (framed-at x passed ∙ at.cells x))
+          (λ passed. subst (λ c. parts.cell_leq c (a.slot_of (to e) x))
+          (sym (framed-at x passed ∙ ap (Carried e x) (at.cells x)))
           (met.flows e x lt h.opened own passed)));
     }
 
     edge_to : (e : ℕ) → e < edges → (s t : V) → StateAt a (from e) s → Arrived a e t
-        → ((x : ℕ) → place.touches e x ≡ false → parts.cell t x ≡ parts.cell s x)
+        → ((x : ℕ) → place.touches e x ≡ false → parts.cell t x ≡ Carried e x (parts.cell s x))
         → (y : Option V) → IsStandingAt states suits sys parts place is_cell a (to e) y
         → IsOwnBelow states suits sys parts place (to e) (Some t) y
     edge_to e lt s t at h framed-at None there =
@@ -341,7 +351,7 @@ module _ {V F D M : Type 0} (states : lattice.Ghosts V M) (suits : ℕ → V →
     edge_to e lt s t at h framed-at (Some u) there = under e lt s t u at there h framed-at
 
     edge_by : (e : ℕ) → e < edges → (s : V) → StateAt a (from e) s → (y : Option V) → IfSome y (Arrived a e)
-        → ((x : ℕ) → place.touches e x ≡ false → KeepsCell states suits sys parts place x s y)
+        → ((x : ℕ) → place.touches e x ≡ false → CarriesCell states suits sys parts place e x s y)
         → IsOwnBelow states suits sys parts place (to e) y (table (to e))
     edge_by e lt s at None h framed-at = tt
     edge_by e lt s at (Some t) h framed-at =
@@ -441,20 +451,36 @@ module _ {V F D M : Type 0} (states : lattice.Ghosts V M) (suits : ℕ → V →
           touched = λ x touched. cell_under (to e) x t t-fits (low (to e)) (solved.started.fits (to e) to-lt) reaches;
         }
 
-    last_flow : (e x k : ℕ) → (r t : V) → suits (from e) r → suits (to e) t → parts.cell t x ≡ parts.cell r x
+    -- what is at most a cell is carried to at most what that is carried to
+    carried_below : (e x k : ℕ) → e < edges → (q r u : V) → suits k q → suits (from e) r → suits (to e) u
+        → parts.cell_leq (parts.cell q x) (parts.cell r x)
+        → parts.cell_leq (Carried e x (parts.cell r x)) (parts.cell u x)
+        → parts.cell_leq (Carried e x (parts.cell q x)) (parts.cell u x)
+    carried_below e x k lt q r u q-fits r-fits u-fits flow le =
+        cond_both (place.carries e x) (parts.carry e x (parts.cell q x)) (parts.cell q x)
+        (λ c. parts.cell_leq c (parts.cell u x))
+        (λ is. filled.carries e x k q r u lt is q-fits r-fits u-fits flow
+        (subst (λ c. parts.cell_leq c (parts.cell u x))
+        (cond-true (place.carries e x) (parts.carry e x (parts.cell r x)) (parts.cell r x) is) le))
+        (λ other. made.cell_transitive k (from e) (to e) q r u q-fits r-fits u-fits x flow
+        (subst (λ c. parts.cell_leq c (parts.cell u x))
+        (cond-false (place.carries e x) (parts.carry e x (parts.cell r x)) (parts.cell r x) other) le))
+
+    last_flow : (e x k : ℕ) → e < edges → (r t : V) → suits (from e) r → suits (to e) t
+        → parts.cell t x ≡ Carried e x (parts.cell r x)
         → (q u : Option V) → IfSome q (suits k) → IfSome u (suits (to e))
         → CellBelow states suits sys parts place x q (Some r) → Below (Some t) u
-        → parts.cell_leq (cell_of q x) (cell_of u x)
+        → parts.cell_leq (Carried e x (cell_of q x)) (cell_of u x)
     unfolding cell_of
-    last_flow e x k r t r-fits t-fits same None u q-fits u-fits flow le = absurd flow
-    last_flow e x k r t r-fits t-fits same (Some q) None q-fits u-fits flow le = absurd le
-    last_flow e x k r t r-fits t-fits same (Some q) (Some u) q-fits u-fits flow le =
-        made.cell_transitive k (from e) (to e) q r u q-fits r-fits u-fits x flow
+    last_flow e x k lt r t r-fits t-fits same None u q-fits u-fits flow le = absurd flow
+    last_flow e x k lt r t r-fits t-fits same (Some q) None q-fits u-fits flow le = absurd le
+    last_flow e x k lt r t r-fits t-fits same (Some q) (Some u) q-fits u-fits flow le =
+        carried_below e x k lt q r u q-fits r-fits u-fits flow
         (subst (λ c. parts.cell_leq c (parts.cell u x)) same (made.cell_rises (to e) t u t-fits u-fits le x))
 
     by_flow : (e x : ℕ) → e < edges → place.touches e x ≡ false → (y : Option V) → low (from e) ≡ y
         → IfSome y (suits (from e)) → (z : Option V) → brought (sys.after e) y ≡ z → is_some z ≡ true
-        → parts.cell_leq (cell_of (low (place.kept_at (from e) x)) x) (cell_of (low (to e)) x)
+        → parts.cell_leq (Carried e x (cell_of (low (place.kept_at (from e) x)) x)) (cell_of (low (to e)) x)
     by_flow e x lt passed None is fits None brings opened = absurd (false≢true opened)
     by_flow e x lt passed None is fits (Some t) brings opened = absurd (none-some t brings)
     by_flow e x lt passed (Some r) is fits None brings opened = absurd (false≢true opened)
@@ -462,8 +488,8 @@ module _ {V F D M : Type 0} (states : lattice.Ghosts V M) (suits : ℕ → V →
         let k = place.kept_at (from e) x in
         let from-lt = law.from_node e lt in
         let to-lt = law.to_node e lt in
-        last_flow e x k r t fits (subst (λ a. IfSome a (suits (to e))) brings (law.after_fits e r lt fits))
-        (subst (λ a. KeepsCell states suits sys parts place x r a) brings (framed e lt r is x passed))
+        last_flow e x k lt r t fits (subst (λ a. IfSome a (suits (to e))) brings (law.after_fits e r lt fits))
+        (subst (λ a. CarriesCell states suits sys parts place e x r a) brings (framed e lt r is x passed))
         (low k) (low (to e)) (solved.started.fits k (placed.within (from e) x from-lt))
         (solved.started.fits (to e) to-lt)
         (subst (CellBelow states suits sys parts place x (low k)) is (flows (from e) x from-lt))

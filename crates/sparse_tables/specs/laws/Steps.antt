@@ -6,7 +6,7 @@ use Rattle.table_covers.specs.tm_lattice.Tables.{IsBelow}
 use Rattle.table_covers.specs.Systems.{System, IsLawfulSystem, from_of, to_of}
 use Rattle.table_covers.specs.Solutions.{NodeTable, brought, edge_count, IsClosedTable, AreFitting}
 use Rattle.sparse_tables.specs.Sparse.{Parts, Placing, AreParts, IsPlaced, IsFramed, IsFlowing, IsThin, AreOwnBelow}
-use Rattle.sparse_tables.specs.Sparse.{AgreeOn, GiveAlike, IsLocal, KeepsCell}
+use Rattle.sparse_tables.specs.Sparse.{AgreeOn, GiveAlike, IsLocal, CarriesCell, carried}
 use Rattle.sparse_tables.specs.laws.Least as least
 
 module _ {V F C M : Type 0} (states : lattice.Ghosts V M) (suits : ℕ → V → Type 0) (sys : System V)
@@ -21,11 +21,12 @@ module _ {V F C M : Type 0} (states : lattice.Ghosts V M) (suits : ℕ → V →
   to e = to_of sys.links e
 
   -- What is joined into the front and the slots at the end of the edge lies below the state there: of what the row
-  -- gives the front and the touched cells, and of the other cells what they were.
+  -- gives the front and the touched cells, and of the other cells what the edge carries of what they were.
   pub record IsArrived (e : ℕ) (s t u : V) : Type 0 where
     pub front : parts.front_leq (parts.front t) (parts.front u)
     pub touched : (x : ℕ) → place.touches e x ≡ true → parts.cell_leq (parts.cell t x) (parts.cell u x)
-    pub passed : (x : ℕ) → place.touches e x ≡ false → parts.cell_leq (parts.cell s x) (parts.cell u x)
+    pub passed : (x : ℕ) → place.touches e x ≡ false
+        → parts.cell_leq (carried states suits sys parts place e x (parts.cell s x)) (parts.cell u x)
 
   abbrev pub ArrivesBelow : ℕ → V → Option V → Option V → Type 0
   ArrivesBelow e s None y = Unit {0}
@@ -34,7 +35,7 @@ module _ {V F C M : Type 0} (states : lattice.Ghosts V M) (suits : ℕ → V →
 
   by_states : (e : ℕ) → e < edge_count states suits sys → (s : V) (a b y : Option V)
       → GiveAlike states suits sys parts place e a b
-      → ((x : ℕ) → place.touches e x ≡ false → KeepsCell states suits sys parts place x s b)
+      → ((x : ℕ) → place.touches e x ≡ false → CarriesCell states suits sys parts place e x s b)
       → IfSome b (suits (to e)) → IfSome y (suits (to e)) → IsBelow states.leq b y → ArrivesBelow e s a y
   by_states e lt s None b y alike framed b-fits y-fits le = tt
   by_states e lt s (Some t) None y alike framed b-fits y-fits le = absurd alike
