@@ -15,6 +15,7 @@ use Rattle.least_assignments.specs.Constraints.{target_count}
 use Rattle.front_constraints.specs.Systems.{front_at, open_at, slot_at, Rule, flow, edges, from}
 use Rattle.front_constraints.specs.Standings.{cell_in}
 use Rattle.front_constraints.specs.Rules.{standing, passed, seen_at, brings, targets_of, front_constraints}
+use Rattle.front_constraints.specs.Rules.{carried_along}
 use Rattle.slot_numbers.specs.Numberings.{numbers_of}
 use Rattle.body_systems.specs.Systems.{body_of}
 use Rattle.body_fronts.specs.FrontForms.{is_seen}
@@ -72,6 +73,15 @@ passed_not (Some a) y h = absurd (true≢false h)
 kept_where : (t : Bool) (m n : ℕ) → t ≡ true → cond t m n ≡ m
 kept_where true m n h = refl
 kept_where false m n h = absurd (false≢true h)
+
+-- what is carried, and what is not
+pub carried_so : {A : Type 0} (t : Bool) (y w : A) → t ≡ true → cond t y w ≡ y
+carried_so true y w h = refl
+carried_so false y w h = absurd (false≢true h)
+
+pub carried_not : {A : Type 0} (t : Bool) (y w : A) → t ≡ false → cond t y w ≡ w
+carried_not true y w h = absurd (true≢false h)
+carried_not false y w h = refl
 
 -- ## Leading on
 
@@ -164,18 +174,19 @@ module _ (v : SlotSystemOf) (is : IsSlotSystem v) where
 
   module _ (e x : ℕ) (seen : is_seen (body_of v.system) x ≡ true) (a : Values) where
     pub flow_there : is_some (standing (sparse_of v) a (open_at e)) ≡ true
-        → standing (sparse_of v) a (slot_at (kept_in s.tree (from (sparse_of v) e) x) x) ∷ [] ≡ brought_by v (flow e x) a
+        → carried_along (sparse_of v) e x (standing (sparse_of v) a (slot_at (kept_in s.tree (from (sparse_of v) e) x) x))
+        ∷ [] ≡ brought_by v (flow e x) a
     flow_there h = λ i. sym (passed_there (standing (sparse_of v) a (open_at e))
-        (standing (sparse_of v) a (slot_at (cond (is_seen (body_of v.system) x)
-        (kept_in s.tree (from (sparse_of v) e) x) (from (sparse_of v) e)) x)) h
-        ∙ ap (λ n. standing (sparse_of v) a (slot_at n x)) (kept_where (is_seen (body_of v.system) x)
+        (carried_along (sparse_of v) e x (standing (sparse_of v) a (slot_at (cond (is_seen (body_of v.system) x)
+        (kept_in s.tree (from (sparse_of v) e) x) (from (sparse_of v) e)) x))) h
+        ∙ ap (λ n. carried_along (sparse_of v) e x (standing (sparse_of v) a (slot_at n x))) (kept_where (is_seen (body_of v.system) x)
         (kept_in s.tree (from (sparse_of v) e) x) (from (sparse_of v) e) seen)) i ∷ []
 
     pub flow_not : is_some (standing (sparse_of v) a (open_at e)) ≡ false
         → None ∷ [] ≡ brought_by v (flow e x) a
     flow_not h = λ i. sym (passed_not (standing (sparse_of v) a (open_at e))
-        (standing (sparse_of v) a (slot_at (cond (is_seen (body_of v.system) x)
-        (kept_in s.tree (from (sparse_of v) e) x) (from (sparse_of v) e)) x)) h) i ∷ []
+        (carried_along (sparse_of v) e x (standing (sparse_of v) a (slot_at (cond (is_seen (body_of v.system) x)
+        (kept_in s.tree (from (sparse_of v) e) x) (from (sparse_of v) e)) x))) h) i ∷ []
 
 -- ## Answers
 

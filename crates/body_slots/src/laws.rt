@@ -4,7 +4,7 @@ ghost use Rattle.std.specs.FinMap.{get};
 ghost use Rattle.table_covers.specs.tm_lattice.Tables.{Table};
 ghost use Rattle.table_covers.specs.Solutions.{NodeTable, IsLeastSolution};
 ghost use Rattle.sparse_tables.specs.Fronts.{IsExpanded};
-ghost use Rattle.sparse_rows.specs.StateParts.{states, state_parts};
+ghost use Rattle.sparse_rows.specs.StateParts.{states};
 ghost use Rattle.sparse_rows.specs.Looked.{Agree};
 ghost use Rattle.sparse_rows.specs.Traces.{AreCopies, IsTraced};
 ghost use Rattle.least_assignments.specs.Constraints.{Assignment, AreLawful};
@@ -21,7 +21,7 @@ ghost use Rattle.body_fronts.specs.FrontForms.{fronts, cells, FitsFront, FitsCel
 ghost use Rattle.body_fronts.specs.Choices.{IsChosen};
 ghost use Rattle.row_checks.specs.TracedCells.{may_copy, may_be_fresh, may_pend};
 ghost use Rattle.body_slots.specs.Placed.{seen_placing};
-ghost use Rattle.body_slots.specs.Slots.{SlotSystemOf, IsSlotSystem, chosen_of, sparse_of};
+ghost use Rattle.body_slots.specs.Slots.{SlotSystemOf, IsSlotSystem, chosen_of, sparse_of, carrying_parts};
 ghost use Rattle.body_slots.specs.Slots.{PassesRow, AllowsSlots};
 ghost use Rattle.body_slots.specs.Rows.{Values, brought_by, held_in, row_parts, state_parts_at};
 
@@ -44,7 +44,7 @@ pub fn slots_solve_bodies()
         (FitsVariable (sparse_of v) (FitsFront (body_of v.system)) (FitsCellAt (body_of v.system))) (AllowsSlots v)
         (front_constraints (sparse_of v)) a
         → (table : NodeTable State)
-        → (let s = v.slots in IsExpanded states (FitsBody (body_of v.system)) (system_of v.system) state_parts
+        → (let s = v.slots in IsExpanded states (FitsBody (body_of v.system)) (system_of v.system) (carrying_parts v)
         (seen_placing (is_seen (body_of v.system)) s.graph s.tree) (is_seen (body_of v.system))
         (fronts_of (sparse_of v) a) table)
         → (let s = v.slots in IsTraced (may_copy s.traces) (may_be_fresh s.traces) (may_pend s.traces) v.entry)

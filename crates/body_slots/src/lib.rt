@@ -1,7 +1,7 @@
 //! The least table of a body over a store, found by fronts and slots: a cell stands only at the nodes where something
-//! may happen to it. What edges may look at and touch is given, and checked where an edge is applied; where a check
-//! does not pass there is no table, and the body is to be solved otherwise. An edge is applied to a state of the cells
-//! at which it looks alone. How a least assignment is found, what an edge does, and how cells are placed, this crate
+//! may happen to it. What edges may look at, touch and carry is given, and checked where an edge is applied; where a
+//! check does not pass there is no table, and the body is to be solved otherwise. An edge is applied to a state of the
+//! cells at which it looks alone, and cells that it carries flow along it one by one, as it changes each by itself. How a least assignment is found, what an edge does, and how cells are placed, this crate
 //! does not know.
 //!
 //! In `int x, y; __task(1) void t(void) { x = 1; y = 2; }` the edge of the first store touches the cell of `x`, and the

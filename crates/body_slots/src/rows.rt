@@ -6,9 +6,10 @@ ghost use Rattle.std.specs.FinMap.{get, empty};
 ghost use Rattle.cell_placings.specs.CellLists.{is_in};
 ghost use Rattle.cell_placings.specs.OwnerTrees.{kept_in};
 ghost use Rattle.least_assignments.specs.Constraints.{at, AreFitting};
-ghost use Rattle.front_constraints.specs.Standings.{fronted, holding, cell_in, front_in};
+ghost use Rattle.front_constraints.specs.Standings.{fronted, holding, cell_in, front_in, changed_standing};
 ghost use Rattle.front_constraints.specs.Systems.{entered, row, flow, slot_at, edges, from};
 ghost use Rattle.front_constraints.specs.Rules.{front_constraints, FitsVariable, AllowsRule, seen, is_ready, small_at};
+ghost use Rattle.front_constraints.specs.Rules.{carried_along};
 ghost use Rattle.slot_numbers.specs.Numberings.{numbers_of};
 ghost use Rattle.body_fronts.specs.FrontForms.{FitsFront, FitsCellAt};
 ghost use Rattle.body_systems.specs.Systems.{body_of, FitsTemps};
@@ -16,7 +17,8 @@ ghost use Rattle.body_slots.specs.Slots.{sparse_of, PassesRow};
 ghost use Rattle.body_slots.specs.Rows.{Values, brought_by, held_in, state_parts_at, row_parts};
 ghost use Rattle.body_slots.specs.reading.Small.{HasTraced, IsSeenOver, IsPart};
 
-use crate::systems::{SlotSystem, SlotValue};
+use crate::systems::{SlotSystem, SlotValue, has_cell};
+use cell_carries::carried_cell;
 use cell_env::{CellState, State, TempState};
 use front_constraints::Standing;
 use pointer_dom::AbsValue;
@@ -114,6 +116,29 @@ fn copied_at(
     match values.get(variable) {
         Some(Some(value)) => Ok(Some(value.copied(alloc)?)),
         _ => Ok(None),
+    }
+}
+
+// What stands at a variable.
+fn value_at(values: &[Option<SlotValue>], variable: usize) -> Option<&SlotValue>
+    ensures { option_copied result ≡ at values.now variable }
+{
+    match values.get(variable) {
+        Some(Some(value)) => Some(value),
+        _ => None,
+    }
+}
+
+// A copy of the front of what stands at a variable, if it has one.
+fn copied_front(
+    alloc: Global,
+    value: &SlotValue,
+) -> Result<Option<Keyed<TempState<AbsValue>>>, NoMemory>
+    ensures { (let w = value.now in IfOk result (λ front. front ≡ option_map (λ f. f) w.front)) }
+{
+    match &value.front {
+        None => Ok(None),
+        Some(front) => Ok(Some(front.copied(alloc)?)),
     }
 }
 
@@ -292,6 +317,7 @@ impl<'a> SlotSystem<'a> {
         if !is_checked(
             &view,
             touched,
+            &slots.graph.carried[edge],
             &slots.graph.looked[edge],
             &slots.traces,
             &after,
@@ -306,7 +332,7 @@ impl<'a> SlotSystem<'a> {
         }
     }
 
-    /// What a cell brings along an edge that does not touch it.
+    /// What a cell brings along an edge that does not touch it: what the edge makes of it, if it carries the cell.
     pub(crate) fn flow(
         &self,
         alloc: Global,
@@ -323,7 +349,84 @@ impl<'a> SlotSystem<'a> {
         Ok(all)
     }
 
-    // What stands at a cell where it is kept for the node that an edge leaves, where the edge is open.
+    // What an edge makes of what stands at a variable of a cell, if it carries the cell.
+    fn carried(
+        &self,
+        alloc: Global,
+        edge: usize,
+        cell: usize,
+        values: &[Option<SlotValue>],
+        variable: usize,
+    ) -> Result<Option<SlotValue>, NoMemory>
+        requires edge { edge < edges (sparse_of self.now) }
+        requires cell { cell < 4294967296 }
+        ensures { IfOk result (λ brought. brought ≡ carried_along (sparse_of self.now) edge cell (at values.now variable)) }
+    {
+        let slots = self.slots;
+        if !has_cell(&slots.graph.carried, edge, cell) {
+            return copied_at(alloc, values, variable);
+        }
+        match value_at(values, variable) {
+            None => Ok(None),
+            Some(value) => Ok(Some(self.carried_value(alloc, edge, cell, value)?)),
+        }
+    }
+
+    // What an edge that carries a cell makes of what stands there.
+    fn carried_value(
+        &self,
+        alloc: Global,
+        edge: usize,
+        cell: usize,
+        value: &SlotValue,
+    ) -> Result<SlotValue, NoMemory>
+        requires edge { edge < edges (sparse_of self.now) }
+        requires cell { cell < 4294967296 }
+        ensures { (let sys = sparse_of self.now in IfOk result (λ made.
+            made ≡ changed_standing (λ f. f) (sys.carry edge cell) value.now)) }
+    {
+        let front = copied_front(alloc, value)?;
+        let held = self.carried_held(alloc, edge, cell, value)?;
+        Ok(Standing { front, cell: held })
+    }
+
+    // What it makes of the cell, if there is one.
+    fn carried_held(
+        &self,
+        alloc: Global,
+        edge: usize,
+        cell: usize,
+        value: &SlotValue,
+    ) -> Result<Option<CellState<AbsValue>>, NoMemory>
+        requires edge { edge < edges (sparse_of self.now) }
+        requires cell { cell < 4294967296 }
+        ensures { (let sys = sparse_of self.now in let w = value.now in
+            IfOk result (λ held. held ≡ option_map (sys.carry edge cell) w.cell)) }
+    {
+        match &value.cell {
+            None => Ok(None),
+            Some(held) => Ok(Some(self.carried_state(alloc, edge, cell, held)?)),
+        }
+    }
+
+    // What an edge that carries a cell makes of what is said of it.
+    fn carried_state(
+        &self,
+        alloc: Global,
+        edge: usize,
+        cell: usize,
+        held: &CellState<AbsValue>,
+    ) -> Result<CellState<AbsValue>, NoMemory>
+        requires edge { edge < edges (sparse_of self.now) }
+        requires cell { cell < 4294967296 }
+        ensures { (let sys = sparse_of self.now in IfOk result (λ made. made ≡ sys.carry edge cell held.now)) }
+    {
+        let body = self.body;
+        let view = body.view_of(edge);
+        carried_cell(alloc, &view, body.store(), cell as u32, held)
+    }
+
+    // What the edge brings of what stands at a cell where it is kept for the node that it leaves, where it is open.
     fn passed(
         &self,
         alloc: Global,
@@ -340,6 +443,6 @@ impl<'a> SlotSystem<'a> {
             return Ok(None);
         }
         let number = self.kept_number(slots.graph.links[edge].from, cell);
-        copied_at(alloc, values, number)
+        self.carried(alloc, edge, cell, values, number)
     }
 }

@@ -22,9 +22,8 @@ use tm_lattice::NoMemory;
 // The keys of states are numbers of 32 bits.
 const MOST_CELLS: usize = 4_294_967_296;
 
-/// What is computed once of a body: what its edges look at and touch, where its cells are kept, the numbers of the
+/// What is computed once of a body: what its edges look at, touch and carry, where its cells are kept, the numbers of the
 /// variables and constraints, and what may be copied, fresh and pending.
-#[derive(Drop)]
 pub struct BodySlots {
     pub(crate) graph: CellGraph,
     pub(crate) placing: CellPlacing,
@@ -32,6 +31,19 @@ pub struct BodySlots {
     pub(crate) cells: CellSet,
     pub(crate) numbers: SlotNumbers,
     pub(crate) traces: Traces,
+}
+
+// By hand: a function that lets one go calls this, and its check does not go through the fields.
+impl Drop for BodySlots {
+    fn drop(self) {
+        let BodySlots {
+            graph: _graph,
+            placing: _placing,
+            cells: _cells,
+            numbers: _numbers,
+            traces: _traces,
+        } = self;
+    }
 }
 
 impl Model for BodySlots {
@@ -49,13 +61,14 @@ impl Model for BodySlots {
 }
 
 impl BodySlots {
-    /// The slots of a body, by the cells that each copy of its edges may touch and at which it may look, and by what
-    /// may be copied, fresh and pending. None where there is not one set for each copy, the cells cannot be placed so,
+    /// The slots of a body, by the cells that each copy of its edges may touch, that it carries and at which it may look,
+    /// and by what may be copied, fresh and pending. None where there is not one set for each copy, the cells cannot be placed so,
     /// or one of them is not seen by the body.
     pub fn new(
         alloc: Global,
         body: &BodyOverStore,
         touched: Vec<CellSet>,
+        carried: Vec<CellSet>,
         looked: Vec<CellSet>,
         traces: Traces,
     ) -> Result<Option<BodySlots>, NoMemory>
@@ -66,7 +79,8 @@ impl BodySlots {
         if laid.abstract_cells.len() > MOST_CELLS {
             return Ok(None);
         }
-        if touched.len() != configured.copies.len() || looked.len() != configured.copies.len() {
+        let copies = configured.copies.len();
+        if touched.len() != copies || carried.len() != copies || looked.len() != copies {
             return Ok(None);
         }
         let graph = CellGraph {
@@ -74,6 +88,7 @@ impl BodySlots {
             links: links_of(alloc, body)?,
             cells: laid.abstract_cells.len(),
             touched,
+            carried,
             looked,
             rounded: rounded_sets(alloc, body)?,
         };

@@ -50,8 +50,8 @@ impl<'a> Model for SlotSystem<'a> {
     ghost invariant = { λ a. IsSlotSystem (record { system = a.body.now; entry = a.entry.now; slots = a.slots.now }) };
 }
 
-// Whether a cell is in the set of this number.
-fn is_in(sets: &[CellSet], at: usize, cell: usize) -> bool
+/// Whether a cell is in the set of this number.
+pub(crate) fn has_cell(sets: &[CellSet], at: usize, cell: usize) -> bool
     ensures { result ≡ is_in (cells_at sets.now at) cell }
 {
     match sets.get(at) {
@@ -87,7 +87,7 @@ impl<'a> SlotSystem<'a> {
     {
         let slots = self.slots;
         let body = self.body;
-        if !is_in(&slots.graph.rounded, node, cell) {
+        if !has_cell(&slots.graph.rounded, node, cell) {
             return Ok(value);
         }
         let Standing { front, cell: held } = value;

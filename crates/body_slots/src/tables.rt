@@ -1,7 +1,7 @@
 //! The table of an assignment: at each node with a front its state.
 ghost use Rattle.std.specs.Prelude.{◌≡◌, ◌<◌, ℕ, [], length, slice_index_or, None, IfOk, IfSome, IsTrue};
 ghost use Rattle.std.specs.Option.{option_copied};
-ghost use Rattle.sparse_rows.specs.StateParts.{states, state_parts};
+ghost use Rattle.sparse_rows.specs.StateParts.{states};
 ghost use Rattle.sparse_rows.specs.Traces.{IsTraced};
 ghost use Rattle.sparse_tables.specs.Fronts.{IsExpanded};
 ghost use Rattle.least_assignments.specs.Constraints.{at as value_at, AreFitting};
@@ -13,7 +13,7 @@ ghost use Rattle.program_equations.specs.Systems.{FitsBody};
 ghost use Rattle.body_systems.specs.Systems.{body_of, system_of};
 ghost use Rattle.row_checks.specs.TracedCells.{may_copy, may_be_fresh, may_pend};
 ghost use Rattle.body_slots.specs.Placed.{seen_placing};
-ghost use Rattle.body_slots.specs.Slots.{sparse_of};
+ghost use Rattle.body_slots.specs.Slots.{sparse_of, carrying_parts};
 ghost use Rattle.body_slots.specs.reading.Tables.{kept_cell, AreKept, IsPut, IsBefore, IsMadeAt, IsEarlier};
 ghost use Rattle.body_slots.specs.reading.Tables.{state_before};
 
@@ -45,7 +45,7 @@ pub(crate) fn table_of(
         length table.items ≡ (system_of system.now.system).node_count)) }
     ensures expanded { (let b = body_of system.now.system in let s = system.now.slots in
         IfOk result (λ found. IfSome found (λ table.
-        IsExpanded states (FitsBody b) (system_of system.now.system) state_parts
+        IsExpanded states (FitsBody b) (system_of system.now.system) (carrying_parts system.now)
         (seen_placing (is_seen b) s.graph s.tree) (is_seen b)
         (fronts_of (sparse_of system.now) (value_at values.now)) (at table.items)))) }
     ensures traced { (let s = system.now.slots in IfOk result (λ found. IfSome found (λ table.

@@ -87,6 +87,10 @@ fn is_edge_placed(graph: &CellGraph, owners: &Owners, edge: usize) -> bool
     if !are_looked_at(graph, edge) || !are_owned(owners, link.to, touched) {
         return false;
     }
+    let carried = cells_of(&graph.carried, edge);
+    if !are_owned(owners, link.to, carried) {
+        return false;
+    }
     are_fronts_owned(owners, link.from, link.to)
 }
 

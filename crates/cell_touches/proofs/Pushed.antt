@@ -1,6 +1,6 @@
 -- Lists of cells to which one more is put.
 use Rattle.std.specs.Prelude.{◌≡◌, ℕ, zero, suc, ◌==◌, ◌||◌, true, false, List, [], ◌∷◌, ◌++◌, length}
-use Rattle.std.proofs.Common.{subst, ap, inl, inr, arith}
+use Rattle.std.proofs.Common.{subst, ap, sym, inl, inr, arith}
 use Rattle.std.proofs.lemmas.Bool.{eqb-true}
 use Rattle.tm_laid.specs.Layouts.{LaidTree}
 use Rattle.cell_placings.specs.CellLists.{is_in, cells_at}
@@ -27,6 +27,13 @@ both_pushed R (o ∷ one) [] x y each none last same k = absurd cc
 both_pushed R (a ∷ one) (b ∷ other) x y each none last same zero = each 0
 both_pushed R (a ∷ one) (b ∷ other) x y each none last same (suc k) =
     both_pushed R one other x y (λ n. each (suc n)) none last (omega (arith, same)) k
+
+-- the same of two rows of lists that are these
+pub both_moved : (R : List ℕ → List ℕ → Type 0) (one other left right : List (List ℕ)) → one ≡ left → other ≡ right
+    → ((k : ℕ) → R (cells_at left k) (cells_at right k)) → (k : ℕ) → R (cells_at one k) (cells_at other k)
+both_moved R one other left right is too each =
+    subst (λ ls. (k : ℕ) → R (cells_at ls k) (cells_at other k)) (sym is)
+    (subst (λ ls. (k : ℕ) → R (cells_at left k) (cells_at ls k)) (sym too) each)
 
 -- what holds of each cell of a list, and of one more, holds of each cell of the list with this one
 pub all_pushed : (P : ℕ → Type 0) (xs : List ℕ) (y : ℕ) → ((x : ℕ) → is_in xs x ≡ true → P x) → P y

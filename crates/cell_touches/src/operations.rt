@@ -60,6 +60,17 @@ pub(crate) fn is_idle(operation: Operation, answer: bool) -> bool {
     }
 }
 
+/// Whether an operation changes each cell by itself, whatever stands in others and in temporaries.
+pub(crate) fn carries_cells(operation: Operation) -> bool {
+    matches!(
+        operation,
+        Operation::Lock { .. }
+            | Operation::Unlock { .. }
+            | Operation::Yield
+            | Operation::Probe { .. }
+    )
+}
+
 /// Whether an operation leaves the cells at which it looks.
 pub(crate) fn leaves_cells(operation: Operation) -> bool {
     matches!(operation, Operation::Load { .. })

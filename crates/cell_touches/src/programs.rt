@@ -79,23 +79,23 @@ fn body_touches(
         scheduled: &scheduled,
     };
     let cells = cells_of_edges(alloc, &program.laid, known, body, edges)?;
-    let CopiesCells { touched, looked } = cells_of_copies(
-        alloc,
-        edges,
-        &configured.copies,
-        &cells,
-    )?;
+    let CopiesCells {
+        touched,
+        carried,
+        looked,
+    } = cells_of_copies(alloc, edges, &configured.copies, &cells)?;
     Ok(BodyTouches {
         touched,
+        carried,
         looked,
         traces,
     })
 }
 
 /// What the edges of the bodies of a program may do with abstract cells: for each body, those of the tasks and then the
-/// initial section, for each copy of an edge the cells that it may change, those at which it may look, and what states
-/// may say of cells. The body sees all these cells, and an edge looks at what it changes. That an analysis finds no
-/// others, no clause says.
+/// initial section, for each copy of an edge the cells that it may touch, those that it carries, those at which it may
+/// look, and what states may say of cells. The body sees all these cells, and an edge looks at what it touches. That an
+/// analysis finds no others, no clause says.
 pub fn program_touches(alloc: Global, program: &Program) -> Result<Vec<BodyTouches>, NoMemory>
     ensures bodies { IfOk result (λ v. length v.items ≡ length program.now.configured.items) }
     ensures each { IfOk result (λ v. (b : ℕ) (c : AConfigured) (t : ATouches) → b < length v.items

@@ -1,4 +1,4 @@
-//! The cells that a body's locks, unlocks, yields and probes touch.
+//! The cells that a body's locks, unlocks, yields and probes carry.
 
 use crate::cell_lists::{cells_at, has_mutex, mutexes_at, push_all};
 use cell_placings::CellSet;
@@ -6,8 +6,8 @@ use row_checks::Traces;
 use std::alloc::Global;
 use tm_lattice::NoMemory;
 
-/// By mutex the cells that a lock of it touches, those that a probe that finds it free touches, and those that an
-/// unlock of it touches.
+/// By mutex the cells that a lock of it carries, those that a probe that finds it free carries, and those that an
+/// unlock of it carries.
 #[derive(Drop)]
 pub(crate) struct Scheduled {
     locks: Vec<CellSet>,
@@ -37,7 +37,7 @@ fn sets_by_mutex(alloc: Global, mutexes: &[u16], more: &[usize]) -> Result<Vec<C
     Ok(sets)
 }
 
-/// The cells that the scheduler's operations touch in a body with these traces, where others may hand cells over under
+/// The cells that the scheduler's operations carry in a body with these traces, where others may hand cells over under
 /// these mutexes.
 pub(crate) fn scheduled_cells(
     alloc: Global,
@@ -52,17 +52,17 @@ pub(crate) fn scheduled_cells(
 }
 
 impl Scheduled {
-    /// The cells that a lock of a mutex touches: those that others may hand over, and those that may be fresh.
+    /// The cells that a lock of a mutex carries: those that others may hand over, and those that may be fresh.
     pub(crate) fn locked(&self, mutex: u32) -> &[usize] {
         cells_at(&self.locks, mutex as usize)
     }
 
-    /// The cells that a probe touches that finds the mutex free: those that others may hand over.
+    /// The cells that a probe carries that finds the mutex free: those that others may hand over.
     pub(crate) fn found_free(&self, mutex: u32) -> &[usize] {
         cells_at(&self.probes, mutex as usize)
     }
 
-    /// The cells that an unlock of a mutex touches: those at which it may be pending.
+    /// The cells that an unlock of a mutex carries: those at which it may be pending.
     pub(crate) fn unlocked(&self, mutex: u32) -> &[usize] {
         cells_at(&self.unlocks, mutex as usize)
     }

@@ -1,11 +1,11 @@
-//! Which cells the copies of a body's edges touch, and at which they look.
+//! Which cells the copies of a body's edges touch and carry, and at which they look.
 ghost use Rattle.std.specs.Prelude.{◌≡◌, ℕ, length, IfOk};
 ghost use Rattle.tm_laid.specs.Layouts.{LaidTree, laid_tree};
 ghost use Rattle.cell_placings.specs.CellLists.{is_in, cells_at};
 ghost use Rattle.cell_touches.specs.Touches.{AreSeen, IsWithin};
 
 use crate::cell_lists::{cells_at, push_all};
-use crate::operations::{is_idle, leaves_cells};
+use crate::operations::{carries_cells, is_idle, leaves_cells};
 use crate::scheduled::Scheduled;
 use crate::seen::seen_among;
 use cell_placings::CellSet;
@@ -18,31 +18,35 @@ use std::alloc::Global;
 use tm_laid::Laid;
 use tm_lattice::NoMemory;
 
-/// What the edges of a body may do with abstract cells: for each copy of an edge those that it may change, and those at
-/// which it may look, the former among them; and what states may say of cells.
+/// What the edges of a body may do with abstract cells: for each copy of an edge those that it may change by what else
+/// there is, those that it carries, so changes one by one, and those at which it may look, the first among them; and
+/// what states may say of cells.
 #[derive(Drop)]
 pub struct BodyTouches {
     pub touched: Vec<CellSet>,
+    pub carried: Vec<CellSet>,
     pub looked: Vec<CellSet>,
     pub traces: Traces,
 }
 
-// The cells that a copy of an edge may change, and those at which it may look.
+// The cells that a copy of an edge may change, those that it carries, and those at which it may look.
 #[derive(Drop)]
 struct CopyCells {
     touched: CellSet,
+    carried: CellSet,
     looked: CellSet,
 }
 
-/// For each copy of an edge the cells that it may change, and those at which it may look.
+/// For each copy of an edge the cells that it may change, those that it carries, and those at which it may look.
 #[derive(Drop)]
 pub(crate) struct CopiesCells {
     pub(crate) touched: Vec<CellSet>,
+    pub(crate) carried: Vec<CellSet>,
     pub(crate) looked: Vec<CellSet>,
 }
 
 /// What is known of a body: the cells that its edges reach, what states may say of cells, and what its locks, unlocks,
-/// yields and probes touch.
+/// yields and probes carry.
 #[derive(Clone, Copy)]
 pub(crate) struct Known<'a> {
     pub(crate) targets: &'a [CellSet],
@@ -86,7 +90,8 @@ fn tested_cells(
     Ok(cells)
 }
 
-// The cells at which an edge of a body may look, by its number. Where it probes, the mutex is found free.
+// The cells that an edge of a body may change or at which it may look, by its number. Where it probes, the mutex is
+// found free.
 fn cells_of_edge(
     alloc: Global,
     laid: &Laid,
@@ -110,7 +115,8 @@ fn cells_of_edge(
     }
 }
 
-/// For each edge of a body the cells at which it may look. Where it probes, the mutex is found free.
+/// For each edge of a body the cells that it may change or at which it may look. Where it probes, the mutex is found
+/// free.
 pub(crate) fn cells_of_edges(
     alloc: Global,
     laid: &Laid,
@@ -136,7 +142,7 @@ fn copied(alloc: Global, cells: &[usize]) -> Result<CellSet, NoMemory>
     Ok(CellSet::from_cells(list))
 }
 
-// The cells of a copy of an edge with this operation that looks at these cells.
+// The cells of a copy of an edge with this operation that may change these cells, or look at them.
 fn cells_of_copy(
     alloc: Global,
     operation: Operation,
@@ -145,10 +151,19 @@ fn cells_of_copy(
 ) -> Result<CopyCells, NoMemory>
     ensures within { IfOk result (λ both. IsWithin both.touched both.looked) }
     ensures among { IfOk result (λ both. IsWithin both.looked cells.now) }
+    ensures carried { IfOk result (λ both. IsWithin both.carried cells.now) }
 {
     if is_idle(operation, answer) {
         return Ok(CopyCells {
             touched: CellSet::new(alloc),
+            carried: CellSet::new(alloc),
+            looked: CellSet::new(alloc),
+        });
+    }
+    if carries_cells(operation) {
+        return Ok(CopyCells {
+            touched: CellSet::new(alloc),
+            carried: copied(alloc, cells)?,
             looked: CellSet::new(alloc),
         });
     }
@@ -158,7 +173,11 @@ fn cells_of_copy(
     } else {
         copied(alloc, cells)?
     };
-    Ok(CopyCells { touched, looked })
+    Ok(CopyCells {
+        touched,
+        carried: CellSet::new(alloc),
+        looked,
+    })
 }
 
 // The operation of an edge; that of one that there is not does nothing.
@@ -169,8 +188,8 @@ fn operation_at(edges: &[Edge], number: usize) -> Operation {
     }
 }
 
-/// For each copy of a body's edges the cells that it may change and those at which it may look, of the cells at which
-/// the edges look.
+/// For each copy of a body's edges the cells that it may change, those that it carries and those at which it may look,
+/// of the cells that the edges may change or at which they may look.
 pub(crate) fn cells_of_copies(
     alloc: Global,
     edges: &[Edge],
@@ -178,12 +197,16 @@ pub(crate) fn cells_of_copies(
     cells: &[CellSet],
 ) -> Result<CopiesCells, NoMemory>
     ensures touched { IfOk result (λ all. length all.touched.items ≡ length copies.now) }
+    ensures carried { IfOk result (λ all. length all.carried.items ≡ length copies.now) }
     ensures looked { IfOk result (λ all. length all.looked.items ≡ length copies.now) }
     ensures within { IfOk result (λ all. (k : ℕ) → IsWithin (cells_at all.touched.items k) (cells_at all.looked.items k)) }
     ensures seen { IfOk result (λ all. (laid : LaidTree) (body : ℕ) → AreSeen laid body cells.now
         → AreSeen laid body all.looked.items) }
+    ensures seen_carried { IfOk result (λ all. (laid : LaidTree) (body : ℕ) → AreSeen laid body cells.now
+        → AreSeen laid body all.carried.items) }
 {
     let mut touched = Vec::new(alloc);
+    let mut carried = Vec::new(alloc);
     let mut looked = Vec::new(alloc);
     for copy in copies {
         let both = cells_of_copy(
@@ -193,7 +216,12 @@ pub(crate) fn cells_of_copies(
             cells_at(cells, copy.edge),
         )?;
         touched.push(both.touched)?;
+        carried.push(both.carried)?;
         looked.push(both.looked)?;
     }
-    Ok(CopiesCells { touched, looked })
+    Ok(CopiesCells {
+        touched,
+        carried,
+        looked,
+    })
 }

@@ -53,7 +53,7 @@ no_mutex m le =
     omega (arith, more)
 
 -- operations that neither reach cells nor change them pass
-module _ (laid : LaidTree) (task held : ℕ) (answer : Bool) (touched looked : List ℕ) (traces : Traces)
+module _ (laid : LaidTree) (task held : ℕ) (answer : Bool) (touched carried looked : List ℕ) (traces : Traces)
     (targets : List ℕ) (store : Interferences) where
   pub others_pass : (op : Operation)
       → ((to address : ℕ) (scalar : Scalar) (place : Place) → op ≡ Op.Load to address scalar place → ⊥)
@@ -66,7 +66,7 @@ module _ (laid : LaidTree) (task held : ℕ) (answer : Bool) (touched looked : L
       → ((mutex : ℕ) (place : Place) → op ≡ Op.Unlock mutex place → ⊥)
       → (op ≡ Op.Yield → ⊥)
       → ((to mutex : ℕ) (place : Place) → op ≡ Op.Probe to mutex place → ⊥)
-      → true ≡ passes_of laid task held answer op touched looked traces targets store
+      → true ≡ passes_of laid task held answer op touched carried looked traces targets store
   unfolding passes_of
   others_pass (Op.Load to address scalar place) load stores clear usable assume lock unlock yields probe =
       absurd (load to address scalar place refl)
@@ -85,13 +85,13 @@ module _ (laid : LaidTree) (task held : ℕ) (answer : Bool) (touched looked : L
       absurd (probe to mutex place refl)
   others_pass op load stores clear usable assume lock unlock yields probe = refl
 
-module _ (view : EdgeView) (touched looked : List ℕ) (traces : Traces) (given : After) (store : Interferences) where
+module _ (view : EdgeView) (touched carried looked : List ℕ) (traces : Traces) (given : After) (store : Interferences) where
   -- where the answer is that the edge passes, it was checked in each state in which this is its outcome
-  pub checked_after : (r : Bool) → r ≡ passes view touched looked traces given.targets.items store → r ≡ true
+  pub checked_after : (r : Bool) → r ≡ passes view touched carried looked traces given.targets.items store → r ≡ true
       → (s : State) → IsAfter (around_of view) (action_at view) s store given
-      → IsChecked (around_of view) (is_in touched) (is_in looked) (may_copy traces) (may_be_fresh traces)
+      → IsChecked (around_of view) (is_in touched) (is_in carried) (is_in looked) (may_copy traces) (may_be_fresh traces)
       (may_pend traces) (action_at view) s store
   checked_after r is so s after =
-      passes_is_checked (laid_tree view.laid.now) view.task view.held touched looked traces (around_of view) refl refl
+      passes_is_checked (laid_tree view.laid.now) view.task view.held touched carried looked traces (around_of view) refl refl
       (λ x. refl) view.tests_pointer view.answer view.operation s store
-      (sym (ap (λ targets. passes view touched looked traces targets store) after.targets) ∙ sym is ∙ so)
+      (sym (ap (λ targets. passes view touched carried looked traces targets store) after.targets) ∙ sym is ∙ so)

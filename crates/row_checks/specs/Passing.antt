@@ -1,4 +1,4 @@
--- When an edge that reached some cells looked at and touched none but those that it may. No state is spoken of.
+-- When an edge that reached some cells looked at, touched and carried none but those that it may. No state is spoken of.
 use Rattle.std.specs.Prelude.{ℕ, zero, suc, ◌+◌, ◌==◌, Bool, true, ◌&&◌, ◌||◌, not, eqb, bit_or, slice_index_or}
 use Rattle.std.specs.Prelude.{List, length, Option, Some, None}
 use Rattle.std.specs.List.{list_all}
@@ -59,64 +59,66 @@ is_tested_in touched traces (Pointers equal left right) =
 is_tested_in touched traces (Truth holds value) = are_copies_in touched traces value
 is_tested_in touched traces (Case holds label value) = are_copies_in touched traces value
 
--- the cell of the entry is touched, if it is shared
+-- the cell of the entry is in the set, if it is shared
 abbrev pub is_shared_in : LaidTree → List ℕ → ℕ × Values → Bool
-is_shared_in laid touched e = not (is_shared_cell laid e.0) || is_in touched e.0
+is_shared_in laid set e = not (is_shared_cell laid e.0) || is_in set e.0
 
 -- so is each cell of the table, if there is one
 abbrev pub are_cells_in : LaidTree → List ℕ → Option (Table Values) → Bool
-are_cells_in laid touched None = true
-are_cells_in laid touched (Some cells) = list_all (is_shared_in laid touched) (entries cells)
+are_cells_in laid set None = true
+are_cells_in laid set (Some cells) = list_all (is_shared_in laid set) (entries cells)
 
--- the shared cells in which the task of the entry left something under the mutex are touched, if it is another one
+-- the shared cells in which the task of the entry left something under the mutex are in the set, if it is another one
 abbrev pub is_left_in : LaidTree → List ℕ → ℕ → ℕ → ℕ × Table (Table Values) → Bool
-is_left_in laid touched task mutex e = eqb e.0 task || are_cells_in laid touched (get e.1 mutex)
+is_left_in laid set task mutex e = eqb e.0 task || are_cells_in laid set (get e.1 mutex)
 
--- the shared cells in which other tasks left something under the mutex are touched
+-- the shared cells in which other tasks left something under the mutex are in the set
 abbrev pub is_handed_in : LaidTree → List ℕ → ℕ → ℕ → Interferences → Bool
-is_handed_in laid touched task mutex store = list_all (is_left_in laid touched task mutex) (entries store.sync)
+is_handed_in laid set task mutex store = list_all (is_left_in laid set task mutex) (entries store.sync)
 
--- the cells that may be fresh are touched too, for a task that locks the mutex may wait
+-- the cells that may be fresh are in the set too, for a task that locks the mutex may wait
 abbrev pub is_locked_in : LaidTree → List ℕ → Traces → ℕ → ℕ → Interferences → Bool
-is_locked_in laid touched traces task mutex store =
-    are_in touched traces.fresh && is_handed_in laid touched task mutex store
+is_locked_in laid set traces task mutex store =
+    are_in set traces.fresh && is_handed_in laid set task mutex store
 
 -- where the mutex is found held nothing is taken over
 abbrev pub is_probed_in : LaidTree → List ℕ → Bool → ℕ → ℕ → Interferences → Bool
-is_probed_in laid touched answer task mutex store = answer || is_handed_in laid touched task mutex store
+is_probed_in laid set answer task mutex store = answer || is_handed_in laid set task mutex store
 
 -- the mutex is not in the set
 abbrev pub is_kept : ℕ → ℕ → Bool
 is_kept mutex set = without set mutex == set
 
--- the cells at which the mutex may be pending are touched
+-- the cells at which the mutex may be pending are in the set
 abbrev pub is_unlocked_in : List ℕ → List ℕ → ℕ → Bool
-is_unlocked_in touched pending mutex =
-    all_below (λ x. is_kept mutex (slice_index_or pending x 0) || is_in touched x) (length pending)
+is_unlocked_in set pending mutex =
+    all_below (λ x. is_kept mutex (slice_index_or pending x 0) || is_in set x) (length pending)
 
--- An edge of this operation that reaches these targets over the store looks at and touches no cells but those that it
--- may, and makes no copies, fresh cells and pending mutexes but those that there may be.
-unfoldable pub passes_of : LaidTree → ℕ → ℕ → Bool → Operation → List ℕ → List ℕ → Traces → List ℕ → Interferences
-    → Bool
-passes_of laid task held answer (Op.Load to address scalar place) touched looked traces targets store =
+-- An edge of this operation that reaches these targets over the store looks at, touches and changes one by one no cells
+-- but those that it may, and makes no copies, fresh cells and pending mutexes but those that there may be.
+unfoldable pub passes_of : LaidTree → ℕ → ℕ → Bool → Operation → List ℕ → List ℕ → List ℕ → Traces → List ℕ
+    → Interferences → Bool
+passes_of laid task held answer (Op.Load to address scalar place) touched carried looked traces targets store =
     list_all (is_loaded_in looked traces to) targets
-passes_of laid task held answer (Op.Store address value scalar into place) touched looked traces targets store =
+passes_of laid task held answer (Op.Store address value scalar into place) touched carried looked traces targets store =
     list_all (is_stored_in laid touched traces held) targets
-passes_of laid task held answer (Op.Clear object) touched looked traces targets store =
+passes_of laid task held answer (Op.Clear object) touched carried looked traces targets store =
     is_cleared_in laid touched object
-passes_of laid task held answer (Op.Usable pointer place) touched looked traces targets store =
+passes_of laid task held answer (Op.Usable pointer place) touched carried looked traces targets store =
     are_copies_in touched traces pointer
-passes_of laid task held answer (Op.Assume test) touched looked traces targets store = is_tested_in touched traces test
-passes_of laid task held answer (Op.Lock mutex place) touched looked traces targets store =
-    is_locked_in laid touched traces task mutex store
-passes_of laid task held answer (Op.Unlock mutex place) touched looked traces targets store =
-    is_unlocked_in touched traces.pending.items mutex
-passes_of laid task held answer Op.Yield touched looked traces targets store = are_in touched traces.fresh
-passes_of laid task held answer (Op.Probe to mutex place) touched looked traces targets store =
-    is_probed_in laid touched answer task mutex store
-passes_of laid task held answer operation touched looked traces targets store = true
+passes_of laid task held answer (Op.Assume test) touched carried looked traces targets store =
+    is_tested_in touched traces test
+passes_of laid task held answer (Op.Lock mutex place) touched carried looked traces targets store =
+    is_locked_in laid carried traces task mutex store
+passes_of laid task held answer (Op.Unlock mutex place) touched carried looked traces targets store =
+    is_unlocked_in carried traces.pending.items mutex
+passes_of laid task held answer Op.Yield touched carried looked traces targets store = are_in carried traces.fresh
+passes_of laid task held answer (Op.Probe to mutex place) touched carried looked traces targets store =
+    is_probed_in laid carried answer task mutex store
+passes_of laid task held answer operation touched carried looked traces targets store = true
 
 -- an edge that reaches these targets over the store does so
-abbrev pub passes : EdgeView → List ℕ → List ℕ → Traces → List ℕ → Interferences → Bool
-passes view touched looked traces targets store =
-    passes_of (laid_tree view.laid.now) view.task view.held view.answer view.operation touched looked traces targets store
+abbrev pub passes : EdgeView → List ℕ → List ℕ → List ℕ → Traces → List ℕ → Interferences → Bool
+passes view touched carried looked traces targets store =
+    passes_of (laid_tree view.laid.now) view.task view.held view.answer view.operation touched carried looked traces
+    targets store

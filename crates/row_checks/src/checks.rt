@@ -115,29 +115,29 @@ fn is_tested_in(touched: &CellSet, traces: &Traces, test: Test) -> bool
 // Whether the cells that may be fresh are in the set, and those in which other tasks left something under a mutex.
 fn is_locked_in(
     laid: &Laid,
-    touched: &CellSet,
+    set: &CellSet,
     traces: &Traces,
     task: u32,
     mutex: u32,
     store: &Store,
 ) -> bool
-    ensures { result ≡ is_locked_in (laid_tree laid.now) touched.now traces.now task mutex store.now }
+    ensures { result ≡ is_locked_in (laid_tree laid.now) set.now traces.now task mutex store.now }
 {
-    are_in(touched, traces.fresh.cells()) && is_handed_in(laid, touched, task, mutex, store)
+    are_in(set, traces.fresh.cells()) && is_handed_in(laid, set, task, mutex, store)
 }
 
 // Whether the cells in which other tasks left something under a mutex are in the set, where it is found free.
 fn is_probed_in(
     laid: &Laid,
-    touched: &CellSet,
+    set: &CellSet,
     answer: bool,
     task: u32,
     mutex: u32,
     store: &Store,
 ) -> bool
-    ensures { result ≡ is_probed_in (laid_tree laid.now) touched.now answer task mutex store.now }
+    ensures { result ≡ is_probed_in (laid_tree laid.now) set.now answer task mutex store.now }
 {
-    answer || is_handed_in(laid, touched, task, mutex, store)
+    answer || is_handed_in(laid, set, task, mutex, store)
 }
 
 // All mutexes but one, as bits.
@@ -148,29 +148,30 @@ fn all_but(mutex: u32) -> u16
 }
 
 // Whether the cells at which a mutex may be pending are in the set.
-fn is_unlocked_in(touched: &CellSet, traces: &Traces, mutex: u32) -> bool
-    ensures { result ≡ is_unlocked_in touched.now traces.now.pending.items mutex }
+fn is_unlocked_in(set: &CellSet, traces: &Traces, mutex: u32) -> bool
+    ensures { result ≡ is_unlocked_in set.now traces.now.pending.items mutex }
 {
     let others = all_but(mutex);
     for cell in 0..traces.pending.len() {
         let mutexes = traces.pending[cell];
-        if mutexes & others != mutexes && !touched.has(cell) {
+        if mutexes & others != mutexes && !set.has(cell) {
             return false;
         }
     }
     true
 }
 
-// Whether an edge that reaches these targets looks at and touches no cells but those that it may.
+// Whether an edge that reaches these targets looks at, touches and changes one by one no cells but those that it may.
 fn passes(
     view: &EdgeView,
     touched: &CellSet,
+    carried: &CellSet,
     looked: &CellSet,
     traces: &Traces,
     targets: &[u32],
     store: &Store,
 ) -> bool
-    ensures { result ≡ passes view.now touched.now looked.now traces.now targets.now store.now }
+    ensures { result ≡ passes view.now touched.now carried.now looked.now traces.now targets.now store.now }
 {
     match view.operation {
         Operation::Load { to, .. } => are_loaded_in(looked, traces, to, targets),
@@ -179,38 +180,41 @@ fn passes(
         Operation::Usable { pointer, .. } => are_copies_in(touched, traces, pointer),
         Operation::Assume { test } => is_tested_in(touched, traces, test),
         Operation::Lock { mutex, .. } => {
-            is_locked_in(view.laid, touched, traces, view.task, mutex, store)
+            is_locked_in(view.laid, carried, traces, view.task, mutex, store)
         }
-        Operation::Unlock { mutex, .. } => is_unlocked_in(touched, traces, mutex),
-        Operation::Yield => are_in(touched, traces.fresh.cells()),
+        Operation::Unlock { mutex, .. } => is_unlocked_in(carried, traces, mutex),
+        Operation::Yield => are_in(carried, traces.fresh.cells()),
         Operation::Probe { mutex, .. } => {
-            is_probed_in(view.laid, touched, view.answer, view.task, mutex, store)
+            is_probed_in(view.laid, carried, view.answer, view.task, mutex, store)
         }
         _ => true,
     }
 }
 
-/// Whether an edge, applied with this outcome over a store, looked at and touched no cells but those that it may, and
-/// made no copies, fresh cells and pending mutexes but those that there may be. It takes no memory, and time linear in
-/// the cells reached, the lists that it reads and the entries of the store under the mutex, times a logarithm for each
-/// cell that it looks for.
+/// Whether an edge, applied with this outcome over a store, looked at, touched and changed one by one no cells but those
+/// that it may, and made no copies, fresh cells and pending mutexes but those that there may be: what a lock, an unlock,
+/// a wait or a probe changes, it may carry, and what another operation changes, it may touch. It takes no memory, and
+/// time linear in the cells reached, the lists that it reads and the entries of the store under the mutex, times a
+/// logarithm for each cell that it looks for.
 pub fn is_checked(
     view: &EdgeView,
     touched: &CellSet,
+    carried: &CellSet,
     looked: &CellSet,
     traces: &Traces,
     after: &After,
     store: &Store,
 ) -> bool
     ensures decides { result ≡
-        passes view.now touched.now looked.now traces.now after.now.targets.items store.now }
+        passes view.now touched.now carried.now looked.now traces.now after.now.targets.items store.now }
     ensures checks { IsTrue result → (s : State) → IsAfter (around_of view.now) (action_at view.now) s store.now after.now
-        → IsChecked (around_of view.now) (is_in touched.now) (is_in looked.now) (may_copy traces.now)
-        (may_be_fresh traces.now) (may_pend traces.now) (action_at view.now) s store.now }
+        → IsChecked (around_of view.now) (is_in touched.now) (is_in carried.now) (is_in looked.now)
+        (may_copy traces.now) (may_be_fresh traces.now) (may_pend traces.now) (action_at view.now) s store.now }
 {
     passes(
         view,
         touched,
+        carried,
         looked,
         traces,
         after.targets.as_slice(),

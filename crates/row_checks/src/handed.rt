@@ -13,11 +13,11 @@ use tm_laid::Laid;
 use tm_lattice::Keyed;
 
 // Whether those of the cells that are shared are in the set.
-fn are_shared_in(laid: &Laid, touched: &CellSet, cells: &[(u32, AbsValue)]) -> bool
-    ensures { result ≡ list_all (is_shared_in (laid_tree laid.now) touched.now) cells.now }
+fn are_shared_in(laid: &Laid, set: &CellSet, cells: &[(u32, AbsValue)]) -> bool
+    ensures { result ≡ list_all (is_shared_in (laid_tree laid.now) set.now) cells.now }
 {
     for (cell, _) in cells {
-        if is_shared_cell(laid, *cell) && !touched.has(*cell as usize) {
+        if is_shared_cell(laid, *cell) && !set.has(*cell as usize) {
             return false;
         }
     }
@@ -25,12 +25,12 @@ fn are_shared_in(laid: &Laid, touched: &CellSet, cells: &[(u32, AbsValue)]) -> b
 }
 
 // Whether those of the cells of a table that are shared are in the set, if there is one.
-fn are_cells_in(laid: &Laid, touched: &CellSet, cells: Option<&Keyed<AbsValue>>) -> bool
-    ensures { result ≡ are_cells_in (laid_tree laid.now) touched.now (option_copied cells.entry) }
+fn are_cells_in(laid: &Laid, set: &CellSet, cells: Option<&Keyed<AbsValue>>) -> bool
+    ensures { result ≡ are_cells_in (laid_tree laid.now) set.now (option_copied cells.entry) }
 {
     match cells {
         None => true,
-        Some(cells) => are_shared_in(laid, touched, cells.entries()),
+        Some(cells) => are_shared_in(laid, set, cells.entries()),
     }
 }
 
@@ -38,15 +38,15 @@ fn are_cells_in(laid: &Laid, touched: &CellSet, cells: Option<&Keyed<AbsValue>>)
 // set.
 fn are_left_in(
     laid: &Laid,
-    touched: &CellSet,
+    set: &CellSet,
     task: u32,
     mutex: u32,
     entries: &[(u32, Keyed<Keyed<AbsValue>>)],
 ) -> bool
-    ensures { result ≡ list_all (is_left_in (laid_tree laid.now) touched.now task mutex) entries.now }
+    ensures { result ≡ list_all (is_left_in (laid_tree laid.now) set.now task mutex) entries.now }
 {
     for (other, left) in entries {
-        if *other != task && !are_cells_in(laid, touched, left.get(mutex)) {
+        if *other != task && !are_cells_in(laid, set, left.get(mutex)) {
             return false;
         }
     }
@@ -54,14 +54,8 @@ fn are_left_in(
 }
 
 /// Whether the shared cells in which other tasks left something under a mutex are in the set.
-pub(crate) fn is_handed_in(
-    laid: &Laid,
-    touched: &CellSet,
-    task: u32,
-    mutex: u32,
-    store: &Store,
-) -> bool
-    ensures { result ≡ is_handed_in (laid_tree laid.now) touched.now task mutex store.now }
+pub(crate) fn is_handed_in(laid: &Laid, set: &CellSet, task: u32, mutex: u32, store: &Store) -> bool
+    ensures { result ≡ is_handed_in (laid_tree laid.now) set.now task mutex store.now }
 {
-    are_left_in(laid, touched, task, mutex, store.sync().entries())
+    are_left_in(laid, set, task, mutex, store.sync().entries())
 }

@@ -34,12 +34,13 @@ fn slots_of_body(
     };
     let BodyTouches {
         touched,
+        carried,
         looked,
         traces,
     } = of_body;
     let nothing = Store::new(alloc);
     let body = body_over_store(program, facts, number, None, &nothing);
-    BodySlots::new(alloc, &body, touched, looked, traces)
+    BodySlots::new(alloc, &body, touched, carried, looked, traces)
 }
 
 /// For each body, those of the tasks and then the initial section, its slots; none where its cells cannot be placed.

@@ -11,7 +11,7 @@ use Rattle.table_covers.specs.tm_lattice.Tables.{Table}
 use Rattle.table_covers.specs.Solutions.{NodeTable, IsLeastSolution}
 use Rattle.sparse_tables.specs.Sparse.{Placing, IsPlaced}
 use Rattle.sparse_tables.specs.Fronts.{IsExpanded}
-use Rattle.sparse_rows.specs.StateParts.{states, state_parts}
+use Rattle.sparse_rows.specs.StateParts.{states}
 use Rattle.sparse_rows.specs.Traces.{IsTraced}
 use Rattle.cell_placings.specs.CellLists.{is_in, cells_at}
 use Rattle.cell_placings.specs.OwnerTrees.{owns_in, kept_in}
@@ -44,7 +44,7 @@ use Rattle.slot_numbers.specs.Numberings.{numbers_of}
 use Rattle.slot_numbers.specs.laws.Systems.{IsSystemOver, are_numbered, are_cells_listed}
 use Rattle.body_slots.specs.Placed.{seen_placing}
 use Rattle.body_slots.specs.Slots.{Slots, is_rounded_in, chosen_of, SlotSystemOf, IsSlotSystem, sparse_of}
-use Rattle.body_slots.specs.Slots.{PassesRow, AllowsSlots}
+use Rattle.body_slots.specs.Slots.{PassesRow, AllowsSlots, carrying_parts}
 use Rattle.body_slots.specs.laws.SeenPlaced.{is_seen_placed}
 use Rattle.body_slots.specs.laws.Alike.{least_alike}
 
@@ -55,6 +55,7 @@ abbrev rounding_place : Body → Placing
 rounding_place b = record {
   touches = λ e x. false;
   looks = λ e x. false;
+  carries = λ e x. false;
   owns = λ n x. is_rounded_in (rounded_cells b n) x;
   kept_at = λ n x. n;
 }
@@ -87,9 +88,9 @@ module _ (v : SlotSystemOf) (is : IsSlotSystem v) where
       plain_where b (rounding_place b) (λ m y h. unrounded (rounded_cells b m) y h) n x t
       (sym (is.slots.rounded n x lt) ∙ other)
 
-  pub slots_placed : IsPlaced states (FitsBody b) (equations_of b w.entry w.store) state_parts place
+  pub slots_placed : IsPlaced states (FitsBody b) (equations_of b w.entry w.store) (carrying_parts v) place
   slots_placed =
-      is_placed states (FitsBody b) (equations_of b w.entry w.store) state_parts place s.graph
+      is_placed states (FitsBody b) (equations_of b w.entry w.store) (carrying_parts v) place s.graph
       (record { nodes = is.slots.nodes; links = is.slots.links }) placed leaves
 
   beyond : (n x : ℕ) → is_seen b x ≡ false → place.owns n x ≡ true
@@ -174,10 +175,10 @@ module _ (v : SlotSystemOf) (is : IsSlotSystem v) where
   passes_checks e d h = (let c = copy_at b e in
       let q = node_at b c.from in
       let edge = edge_of b c in
-      passes_is_checked b.laid w.task q.held (cells_at s.graph.touched.items e) (cells_at s.graph.looked.items e)
-      s.traces (around_along b c) refl refl (λ x. refl) (tests_pointer b.pointers edge.op) c.answer edge.op d w.store
+      passes_is_checked b.laid w.task q.held (cells_at s.graph.touched.items e) (cells_at s.graph.carried.items e)
+      (cells_at s.graph.looked.items e) s.traces (around_along b c) refl refl (λ x. refl) (tests_pointer b.pointers edge.op) c.answer edge.op d w.store
       (passes_alike (laid_tree w.laid) b.laid refl refl w.task q.held c.answer edge.op
-      (cells_at s.graph.touched.items e) (cells_at s.graph.looked.items e) s.traces
+      (cells_at s.graph.touched.items e) (cells_at s.graph.carried.items e) (cells_at s.graph.looked.items e) s.traces
       (targets_of (action_along b c) d) w.store ∙ h))
 
   passes_some : (e : ℕ) (y : Option State) → IfSome y (PassesRow v e) → IfSome y (Checks e)
@@ -195,7 +196,7 @@ module _ (v : SlotSystemOf) (is : IsSlotSystem v) where
       → IsLeast (standings fronts cells) Fits (AllowsSlots v) (front_constraints (sparse_of v)) a
       → AreAllowed (standings fronts cells) Fits (AllowsSlots v) (front_constraints (sparse_of v)) a
       → (table : NodeTable State)
-      → IsExpanded states (FitsBody b) (equations_of b w.entry w.store) state_parts place (is_seen b)
+      → IsExpanded states (FitsBody b) (equations_of b w.entry w.store) (carrying_parts v) place (is_seen b)
       (fronts_of (sparse_of v) a) table → IsTraced Copies Fresh Pending v.entry
       → ((n : ℕ) → n < length b.nodes → IfSome (table n) (IsTraced Copies Fresh Pending))
       → IsLeastSolution states (FitsBody b) (equations_of b w.entry w.store) table

@@ -64,7 +64,8 @@ module _ (v : SlotSystemOf) (e : ℕ) where
       let q = node_at b copy.from in
       let edge = edge_of b copy in
       ap (λ targets. passes_of (laid_tree w.laid) w.task q.held copy.answer edge.op
-      (cells_at slots.graph.touched.items e) (cells_at slots.graph.looked.items e) slots.traces targets w.store)
+      (cells_at slots.graph.touched.items e) (cells_at slots.graph.carried.items e) (cells_at slots.graph.looked.items e)
+      slots.traces targets w.store)
       (front_targets s t same (action_along b copy))
 
   module _ (is : IsSlotSystem v) (lt : e < edges (sparse_of v)) where
@@ -99,8 +100,8 @@ module _ (v : SlotSystemOf) (e : ℕ) where
     looks_there s fits traced passes = (let w = v.system in
         let slots = v.slots in
         let c = slots_are_chosen v is in
-        checked_looks (around_along b copy) (sys.place.touches e) (sys.place.looks e) (may_copy slots.traces)
-        (may_be_fresh slots.traces) (may_pend slots.traces) s s fits.form fits.form (states_order.reflexive s fits.form)
+        checked_looks (around_along b copy) (sys.place.touches e) (sys.place.carries e) (sys.place.looks e)
+        (may_copy slots.traces) (may_be_fresh slots.traces) (may_pend slots.traces) s s fits.form fits.form (states_order.reflexive s fits.form)
         traced (λ x. c.looked e x lt) (action_along b copy) w.store (passes_checks v is e s passes))
 
     -- The law: from states that are alike where the edge looks a row brings the same.

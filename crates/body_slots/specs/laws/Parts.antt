@@ -93,11 +93,12 @@ module _ (v : SlotSystemOf) (e : ℕ) (d : State) where
   copy = copy_at (body_of w) e
 
   -- what code decides of the edge is what allows its row
-  pub passes_here : (view : EdgeView) → IsViewOf w copy view → (may_touch may_look targets : List ℕ) (traces : Traces)
+  pub passes_here : (view : EdgeView) → IsViewOf w copy view → (may_touch may_carry may_look targets : List ℕ) (traces : Traces)
       (store : Interferences) → may_touch ≡ cells_at slots.graph.touched.items e
-      → may_look ≡ cells_at slots.graph.looked.items e → traces ≡ slots.traces
+      → may_carry ≡ cells_at slots.graph.carried.items e → may_look ≡ cells_at slots.graph.looked.items e
+      → traces ≡ slots.traces
       → targets ≡ reached (action_along (body_of w) copy) d → store ≡ w.store
-      → passes view may_touch may_look traces targets store ≡ row_passes v e d
-  passes_here view is may_touch may_look targets traces store t l r g o =
-      λ i. passes_of (laid_tree (is.laid i)) (is.task i) (is.held i) (is.answer i) (is.operation i) (t i) (l i) (r i)
-      (g i) (o i)
+      → passes view may_touch may_carry may_look traces targets store ≡ row_passes v e d
+  passes_here view is may_touch may_carry may_look targets traces store t k l r g o =
+      λ i. passes_of (laid_tree (is.laid i)) (is.task i) (is.held i) (is.answer i) (is.operation i) (t i) (k i) (l i)
+      (r i) (g i) (o i)

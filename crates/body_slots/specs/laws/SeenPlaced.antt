@@ -57,6 +57,7 @@ module _ (is_cell : ℕ → Bool) (graph : CellGraph) (tree : OwnerTree)
     beyond = λ n x le. owned (is_cell x) (owns_in tree n x) (p.beyond n x le);
     looked = p.looked;
     untouched = λ e x lt h. p.untouched e x lt (not_owned (is_cell x) (owns_in tree (to e) x) h);
+    uncarried = λ e x lt h. p.uncarried e x lt (not_owned (is_cell x) (owns_in tree (to e) x) h);
     same = λ e x lt h. same e x lt (is_cell x) h;
     unrounded = λ n x lt h. p.unrounded n x lt (not_owned (is_cell x) (owns_in tree n x) h);
   }

@@ -6,7 +6,7 @@ use Rattle.table_covers.specs.tm_lattice.Tables.{Table}
 use Rattle.table_covers.specs.Systems.{from_of, to_of}
 use Rattle.sparse_tables.specs.Sparse.{Placing}
 use Rattle.sparse_tables.specs.Fronts.{Fronts, IsThere, IsStateAt, IsStandingAt}
-use Rattle.sparse_rows.specs.StateParts.{states, state_parts}
+use Rattle.sparse_rows.specs.StateParts.{states}
 use Rattle.sparse_rows.specs.Traces.{IsTraced, IsFreshAt, IsPendingAt}
 use Rattle.cell_placings.specs.declared.cell_graphs.CellGraph.{CellGraph}
 use Rattle.cell_placings.specs.CellLists.{is_in}
@@ -20,7 +20,7 @@ use Rattle.row_checks.specs.TracedCells.{may_copy, may_be_fresh, may_pend}
 use Rattle.body_systems.specs.Systems.{body_of, system_of}
 use Rattle.body_fronts.specs.FrontForms.{is_seen}
 use Rattle.body_slots.specs.Placed.{seen_placing}
-use Rattle.body_slots.specs.Slots.{Slots, SlotSystemOf, sparse_of}
+use Rattle.body_slots.specs.Slots.{Slots, SlotSystemOf, sparse_of, carrying_parts}
 
 -- an edge leads to the node from this one, which is before it
 pub record IsEarlier (graph : CellGraph) (n m : ℕ) : Type 0 where
@@ -78,7 +78,7 @@ module _ (v : SlotSystemOf) where
 
     -- the state is that of the node
     abbrev pub IsNodeState : ℕ → State → Type 0
-    IsNodeState n t = IsStateAt states (FitsBody b) (system_of v.system) state_parts place (is_seen b) stood n t
+    IsNodeState n t = IsStateAt states (FitsBody b) (system_of v.system) (carrying_parts v) place (is_seen b) stood n t
 
     -- the state is that of a node before it from which an edge comes
     pub record IsBefore (n : ℕ) (t : State) : Type 0 where
@@ -89,5 +89,5 @@ module _ (v : SlotSystemOf) where
 
     -- what the table has at the node
     pub record IsMadeAt (n : ℕ) (y : Option State) : Type 0 where
-      pub state : IsStandingAt states (FitsBody b) (system_of v.system) state_parts place (is_seen b) stood n y
+      pub state : IsStandingAt states (FitsBody b) (system_of v.system) (carrying_parts v) place (is_seen b) stood n y
       pub traced : IfSome y IsStateTraced

@@ -36,6 +36,12 @@ module _ {V F C M : Type 0} (states : lattice.Ghosts V M) (suits : ℕ → V →
         subst (λ (l : List Link). (e x : ℕ) → e < length l → place.owns (to_of l e) x ≡ false
         → place.touches e x ≡ false) g.links p.untouched
 
+    uncarried : (e x : ℕ) → e < length sys.links → place.owns (to_of sys.links e) x ≡ false
+        → place.carries e x ≡ false
+    uncarried =
+        subst (λ (l : List Link). (e x : ℕ) → e < length l → place.owns (to_of l e) x ≡ false
+        → place.carries e x ≡ false) g.links p.uncarried
+
     same : (e x : ℕ) → e < length sys.links → place.owns (to_of sys.links e) x ≡ false
         → place.kept_at (from_of sys.links e) x ≡ place.kept_at (to_of sys.links e) x
     same =
@@ -50,6 +56,7 @@ module _ {V F C M : Type 0} (states : lattice.Ghosts V M) (suits : ℕ → V →
       entry = p.entry;
       looked = looked;
       untouched = untouched;
+      uncarried = uncarried;
       same = same;
       plain = λ n x s lt fits other. leaves n x s lt fits (p.unrounded n x (counted n lt) other);
     }

@@ -141,32 +141,32 @@ module _ (laid : LaidTree) (touched : List ℕ) (task m x : ℕ) (shared : is_sh
 
 -- ## Edges
 
-module _ (laid : LaidTree) (task held : ℕ) (touched looked : List ℕ) (traces : Traces) (around : Around)
+module _ (laid : LaidTree) (task held : ℕ) (touched carried looked : List ℕ) (traces : Traces) (around : Around)
     (is_task : around.reader.task ≡ task) (is_held : around.reader.held ≡ held)
     (is_shared : (x : ℕ) → around.is_shared x ≡ is_shared_cell laid x) where
   abbrev Checked : Bool → Bool → Operation → State → Interferences → Type 0
-  Checked pointers answer operation s store = IsChecked around (is_in touched) (is_in looked) (may_copy traces)
-      (may_be_fresh traces) (may_pend traces) (action_of laid task pointers answer operation) s store
+  Checked pointers answer operation s store = IsChecked around (is_in touched) (is_in carried) (is_in looked)
+      (may_copy traces) (may_be_fresh traces) (may_pend traces) (action_of laid task pointers answer operation) s store
 
-  -- a cell that is not touched takes nothing over
-  nothing_taken : (m : ℕ) (store : Interferences) → is_handed_in laid touched task m store ≡ true → (x : ℕ)
-      → is_in touched x ≡ false → (b : Bool) → around.is_shared x ≡ b
+  -- a cell that is not carried takes nothing over
+  nothing_taken : (m : ℕ) (store : Interferences) → is_handed_in laid carried task m store ≡ true → (x : ℕ)
+      → is_in carried x ≡ false → (b : Bool) → around.is_shared x ≡ b
       → cond b (handed around.reader.task m x store) no_value ≡ no_value
   nothing_taken m store all x other true is =
       ap (λ t. handed t m x store) is_task
-      ∙ none_handed laid touched task m x (sym (is_shared x) ∙ is) other store all
+      ∙ none_handed laid carried task m x (sym (is_shared x) ∙ is) other store all
   nothing_taken m store all x other false is = refl
 
-  same_taken : (m : ℕ) (store : Interferences) → is_handed_in laid touched task m store ≡ true → (x : ℕ)
-      → is_in touched x ≡ false → (c : Cell) → taken around store m x c ≡ c
+  same_taken : (m : ℕ) (store : Interferences) → is_handed_in laid carried task m store ≡ true → (x : ℕ)
+      → is_in carried x ≡ false → (c : Cell) → taken around store m x c ≡ c
   same_taken m store all x other c =
       ap (λ (v : Values). record c { value = v })
       (ap (joined_values c.value) (nothing_taken m store all x other (around.is_shared x) refl) ∙ join_none c.value)
 
-  none_fresh : are_in touched traces.fresh ≡ true → (x : ℕ) → is_in touched x ≡ false
+  none_fresh : are_in carried traces.fresh ≡ true → (x : ℕ) → is_in carried x ≡ false
       → may_be_fresh traces x ≡ false
-  none_fresh all x other = false_where (may_be_fresh traces x) (is_in touched x)
-      (λ h. each_of (is_in touched) traces.fresh all x (of_in traces.fresh x h)) other
+  none_fresh all x other = false_where (may_be_fresh traces x) (is_in carried x)
+      (λ h. each_of (is_in carried) traces.fresh all x (of_in traces.fresh x h)) other
 
   copies_touched : (t : ℕ) → are_copies_in touched traces t ≡ true → (x : ℕ) → may_copy traces t x ≡ true
       → is_in touched x ≡ true
@@ -201,12 +201,12 @@ module _ (laid : LaidTree) (task held : ℕ) (touched looked : List ℕ) (traces
       let same : first + (x - first) ≡ x = omega (arith, low) in
       absurd (true≢false (sym (subst (λ y. is_in touched y ≡ true) same here) ∙ other))
 
-  kept : (m : ℕ) → is_unlocked_in touched traces.pending.items m ≡ true → (x : ℕ) → is_in touched x ≡ false
+  kept : (m : ℕ) → is_unlocked_in carried traces.pending.items m ≡ true → (x : ℕ) → is_in carried x ≡ false
       → without (may_pend traces x) m ≡ may_pend traces x
   kept m all x other = elim (cases_lt x (length traces.pending.items)) [
     | inl lt ↦ eqb-true (without (may_pend traces x) m) (may_pend traces x)
-        (left_of (is_kept m (may_pend traces x)) (is_in touched x)
-        (each_below (λ y. is_kept m (slice_index_or traces.pending.items y 0) || is_in touched y)
+        (left_of (is_kept m (may_pend traces x)) (is_in carried x)
+        (each_below (λ y. is_kept m (slice_index_or traces.pending.items y 0) || is_in carried y)
         (length traces.pending.items) all x lt) other)
     | inr past ↦ subst (λ p. without p m ≡ p) (sym (get_or_past traces.pending.items x 0 past))
         (and_zero_l (65535 - 2 ^ m))
@@ -214,7 +214,7 @@ module _ (laid : LaidTree) (task held : ℕ) (touched looked : List ℕ) (traces
 
   -- an edge that passes with the cells that it reaches in a state was checked in that state
   pub passes_is_checked : (pointers answer : Bool) (operation : Operation) (s : State) (store : Interferences)
-      → passes_of laid task held answer operation touched looked traces
+      → passes_of laid task held answer operation touched carried looked traces
       (targets_of (action_of laid task pointers answer operation) s) store ≡ true
       → Checked pointers answer operation s store
   unfolding passes_of IsChecked targets_of
@@ -257,31 +257,31 @@ module _ (laid : LaidTree) (task held : ℕ) (touched looked : List ℕ) (traces
       elim at [ inl is ↦ at_copies value t h is | inr none ↦ absurd none ]
   passes_is_checked pointers answer (Op.Assume (Case holds label value)) s store h = λ t at.
       elim at [ inl is ↦ at_copies value t h is | inr none ↦ absurd none ]
-  passes_is_checked pointers answer (Op.Lock mutex place) s store h = λ x other.
-      (let both = and_parts (are_in touched traces.fresh) (is_handed_in laid touched task mutex store) h in
+  passes_is_checked pointers answer (Op.Lock mutex place) s store h = λ x un other.
+      (let both = and_parts (are_in carried traces.fresh) (is_handed_in laid carried task mutex store) h in
       (none_fresh both.0 x other, same_taken mutex store both.1 x other))
-  passes_is_checked pointers answer (Op.Unlock mutex place) s store h = kept mutex h
-  passes_is_checked pointers answer Op.Yield s store h = none_fresh h
+  passes_is_checked pointers answer (Op.Unlock mutex place) s store h = λ x un. kept mutex h x
+  passes_is_checked pointers answer Op.Yield s store h = λ x un. none_fresh h x
   passes_is_checked pointers true (Op.Probe to mutex place) s store h = tt
-  passes_is_checked pointers false (Op.Probe to mutex place) s store h = same_taken mutex store h
+  passes_is_checked pointers false (Op.Probe to mutex place) s store h = λ x un. same_taken mutex store h x
 
 -- ## Layouts
 
 -- of a layout its objects and abstract cells are read alone
 pub passes_alike : (laid other : LaidTree) → other.objects ≡ laid.objects → other.abstract_cells ≡ laid.abstract_cells
-    → (task held : ℕ) (answer : Bool) (operation : Operation) (touched looked : List ℕ) (traces : Traces)
+    → (task held : ℕ) (answer : Bool) (operation : Operation) (touched carried looked : List ℕ) (traces : Traces)
     (targets : List ℕ) (store : Interferences)
-    → passes_of other task held answer operation touched looked traces targets store
-    ≡ passes_of laid task held answer operation touched looked traces targets store
+    → passes_of other task held answer operation touched carried looked traces targets store
+    ≡ passes_of laid task held answer operation touched carried looked traces targets store
 unfolding passes_of
-passes_alike laid other objects cells task held answer operation touched looked traces targets store =
+passes_alike laid other objects cells task held answer operation touched carried looked traces targets store =
     read operation
     ∙ (λ i. passes_of (record laid { objects = objects i; abstract_cells = cells i }) task held answer operation touched
-    looked traces targets store)
+    carried looked traces targets store)
   where
-    read : (op : Operation) → passes_of other task held answer op touched looked traces targets store
+    read : (op : Operation) → passes_of other task held answer op touched carried looked traces targets store
         ≡ passes_of (record laid { objects = other.objects; abstract_cells = other.abstract_cells }) task held answer op
-        touched looked traces targets store
+        touched carried looked traces targets store
     read (Op.Store address value scalar into place) = refl
     read (Op.Clear object) = refl
     read (Op.Lock mutex place) = refl

@@ -23,7 +23,9 @@ returns c = λ other.
     let ensures = c.in_ok-touched.ensures in
     record {
       touched = ensures.touched ∙ (listed ∙ counted);
+      carried = ensures.carried ∙ (listed ∙ counted);
       looked = ensures.looked ∙ (listed ∙ counted);
       within = ensures.within;
       seen = ensures.seen laid body all;
+      seen_carried = ensures.seen_carried laid body all;
     }

@@ -6,4 +6,4 @@ use Rattle.row_checks.proofs.checks.is_unlocked_in.Given as goal
 
 abbrev pub invariant-loop-cell : goal.invariant-loop-cell
 invariant-loop-cell l =
-    all_below (λ x. is_kept l.mutex (slice_index_or l.traces.pending.items x 0) || is_in l.touched x) l.cell ≡ true
+    all_below (λ x. is_kept l.mutex (slice_index_or l.traces.pending.items x 0) || is_in l.set x) l.cell ≡ true

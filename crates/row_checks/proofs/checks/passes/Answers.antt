@@ -10,7 +10,7 @@ returns-in-Load c =
     let a = c.args in
     let view = a.view.now in
     c.are_loaded_in.ensures
-    ∙ sym (ap (λ op. passes_of (laid_tree view.laid.now) view.task view.held view.answer op a.touched.now a.looked.now
+    ∙ sym (ap (λ op. passes_of (laid_tree view.laid.now) view.task view.held view.answer op a.touched.now a.carried.now a.looked.now
     a.traces.now a.targets.now a.store.now) c.in-Load.is)
 
 pub returns-in-Store : goal.returns-in-Store
@@ -19,7 +19,7 @@ returns-in-Store c =
     let a = c.args in
     let view = a.view.now in
     c.are_stored_in.ensures
-    ∙ sym (ap (λ op. passes_of (laid_tree view.laid.now) view.task view.held view.answer op a.touched.now a.looked.now
+    ∙ sym (ap (λ op. passes_of (laid_tree view.laid.now) view.task view.held view.answer op a.touched.now a.carried.now a.looked.now
     a.traces.now a.targets.now a.store.now) c.in-Store.is)
 
 pub returns-in-Clear : goal.returns-in-Clear
@@ -28,7 +28,7 @@ returns-in-Clear c =
     let a = c.args in
     let view = a.view.now in
     c.is_cleared_in.ensures
-    ∙ sym (ap (λ op. passes_of (laid_tree view.laid.now) view.task view.held view.answer op a.touched.now a.looked.now
+    ∙ sym (ap (λ op. passes_of (laid_tree view.laid.now) view.task view.held view.answer op a.touched.now a.carried.now a.looked.now
     a.traces.now a.targets.now a.store.now) c.in-Clear.is)
 
 pub returns-in-Usable : goal.returns-in-Usable
@@ -37,7 +37,7 @@ returns-in-Usable c =
     let a = c.args in
     let view = a.view.now in
     c.are_copies_in.ensures
-    ∙ sym (ap (λ op. passes_of (laid_tree view.laid.now) view.task view.held view.answer op a.touched.now a.looked.now
+    ∙ sym (ap (λ op. passes_of (laid_tree view.laid.now) view.task view.held view.answer op a.touched.now a.carried.now a.looked.now
     a.traces.now a.targets.now a.store.now) c.in-Usable.is)
 
 pub returns-in-Assume : goal.returns-in-Assume
@@ -46,7 +46,7 @@ returns-in-Assume c =
     let a = c.args in
     let view = a.view.now in
     c.is_tested_in.ensures
-    ∙ sym (ap (λ op. passes_of (laid_tree view.laid.now) view.task view.held view.answer op a.touched.now a.looked.now
+    ∙ sym (ap (λ op. passes_of (laid_tree view.laid.now) view.task view.held view.answer op a.touched.now a.carried.now a.looked.now
     a.traces.now a.targets.now a.store.now) c.in-Assume.is)
 
 pub returns-in-Lock : goal.returns-in-Lock
@@ -55,7 +55,7 @@ returns-in-Lock c =
     let a = c.args in
     let view = a.view.now in
     c.is_locked_in.ensures
-    ∙ sym (ap (λ op. passes_of (laid_tree view.laid.now) view.task view.held view.answer op a.touched.now a.looked.now
+    ∙ sym (ap (λ op. passes_of (laid_tree view.laid.now) view.task view.held view.answer op a.touched.now a.carried.now a.looked.now
     a.traces.now a.targets.now a.store.now) c.in-Lock.is)
 
 pub returns-in-Unlock : goal.returns-in-Unlock
@@ -64,7 +64,7 @@ returns-in-Unlock c =
     let a = c.args in
     let view = a.view.now in
     c.is_unlocked_in.ensures
-    ∙ sym (ap (λ op. passes_of (laid_tree view.laid.now) view.task view.held view.answer op a.touched.now a.looked.now
+    ∙ sym (ap (λ op. passes_of (laid_tree view.laid.now) view.task view.held view.answer op a.touched.now a.carried.now a.looked.now
     a.traces.now a.targets.now a.store.now) c.in-Unlock.is)
 
 pub returns-in-Yield : goal.returns-in-Yield
@@ -72,8 +72,8 @@ unfolding passes_of
 returns-in-Yield c =
     let a = c.args in
     let view = a.view.now in
-    c.are_in.ensures ∙ ap (are_in a.touched.now) c.cells.ensures.same
-    ∙ sym (ap (λ op. passes_of (laid_tree view.laid.now) view.task view.held view.answer op a.touched.now a.looked.now
+    c.are_in.ensures ∙ ap (are_in a.carried.now) c.cells.ensures.same
+    ∙ sym (ap (λ op. passes_of (laid_tree view.laid.now) view.task view.held view.answer op a.touched.now a.carried.now a.looked.now
     a.traces.now a.targets.now a.store.now) c.in-Yield.is)
 
 pub returns-in-Probe : goal.returns-in-Probe
@@ -82,7 +82,7 @@ returns-in-Probe c =
     let a = c.args in
     let view = a.view.now in
     c.is_probed_in.ensures
-    ∙ sym (ap (λ op. passes_of (laid_tree view.laid.now) view.task view.held view.answer op a.touched.now a.looked.now
+    ∙ sym (ap (λ op. passes_of (laid_tree view.laid.now) view.task view.held view.answer op a.touched.now a.carried.now a.looked.now
     a.traces.now a.targets.now a.store.now) c.in-Probe.is)
 
 pub returns-in_default : goal.returns-in_default
@@ -90,6 +90,6 @@ returns-in_default c =
     let a = c.args in
     let view = a.view.now in
     let d = c.in_default in
-    others_pass (laid_tree view.laid.now) view.task view.held view.answer a.touched.now a.looked.now a.traces.now
+    others_pass (laid_tree view.laid.now) view.task view.held view.answer a.touched.now a.carried.now a.looked.now a.traces.now
     a.targets.now a.store.now view.operation d.not-Load d.not-Store d.not-Clear d.not-Usable d.not-Assume d.not-Lock
     d.not-Unlock d.not-Yield d.not-Probe

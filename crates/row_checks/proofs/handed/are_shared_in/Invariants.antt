@@ -6,5 +6,5 @@ use Rattle.row_checks.proofs.handed.are_shared_in.Given as goal
 
 abbrev pub invariant-loop-cell : goal.invariant-loop-cell
 invariant-loop-cell l =
-    list_all (is_shared_in (laid_tree l.laid) l.touched) (drop l.cell-index l.cells)
-    ≡ list_all (is_shared_in (laid_tree l.laid) l.touched) l.cells
+    list_all (is_shared_in (laid_tree l.laid) l.set) (drop l.cell-index l.cells)
+    ≡ list_all (is_shared_in (laid_tree l.laid) l.set) l.cells

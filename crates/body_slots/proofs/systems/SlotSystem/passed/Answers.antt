@@ -4,9 +4,10 @@ use Rattle.std.proofs.lemmas.Result.{IfOk-weaker}
 use Rattle.cell_placings.specs.OwnerTrees.{kept_in}
 use Rattle.least_assignments.specs.Constraints.{at}
 use Rattle.front_constraints.specs.Systems.{slot_at, open_at}
+use Rattle.front_constraints.specs.Rules.{carried_along}
 use Rattle.slot_numbers.specs.Numberings.{numbers_of}
 use Rattle.body_systems.specs.Systems.{body_of}
-use Rattle.body_slots.specs.Slots.{Slots, SlotSystemOf, IsSlotSystem}
+use Rattle.body_slots.specs.Slots.{Slots, SlotSystemOf, IsSlotSystem, sparse_of}
 use Rattle.body_slots.proofs.Reading.{link_from, flow_there, flow_not}
 use Rattle.body_slots.proofs.systems.SlotSystem.passed.Goals as goal
 
@@ -42,6 +43,12 @@ returns c =
     let is-open = ap (λ n. is_some (at c.args.values.now n)) (sym number) ∙ sym c.is_there.ensures ∙ c.if-not-is_there.false in
     let slot = c.kept_number-number.ensures
     ∙ ap (λ n. numbers.number (slot_at (kept_in s.tree n c.args.cell) c.args.cell)) from-is in
-    IfOk-weaker c.copied_at.result _ _ (λ copied is.
-    (λ i. (is ∙ ap (λ n. at c.args.values.now n) slot) i ∷ [])
-    ∙ flow_there v keeps c.args.edge c.args.cell seen (at c.args.values.now) is-open) c.copied_at.ensures
+    IfOk-weaker c.carried.result _ _ (λ brought is.
+    (λ i. (is ∙ ap (λ n. carried_along (sparse_of v) c.args.edge c.args.cell (at c.args.values.now n)) slot) i ∷ [])
+    ∙ flow_there v keeps c.args.edge c.args.cell seen (at c.args.values.now) is-open) c.carried.ensures
+
+pub carried-requires-clause-cell : goal.carried-requires-clause-cell
+carried-requires-clause-cell c =
+    let v = c.args.self.now in
+    let keeps = subst IsSlotSystem c.self.view_is c.self.invariant in
+    keeps.slots.small c.args.cell c.requires.cell

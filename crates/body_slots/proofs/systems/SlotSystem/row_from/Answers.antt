@@ -62,12 +62,16 @@ returns-then-not-is_checked c = λ passes.
     (c.index-touched.ensures
     ∙ ap (λ (u : Slots). (let g = u.graph in get_or g.touched.items c.args.edge c.index-touched.result.now)) same)
     keeps.slots.touched_each edge-lt in
-    let looked = set_at s.graph.looked.items c.index.result.now c.args.edge (length b.copies)
+    let carried = set_at s.graph.carried.items c.index.result.now c.args.edge (length b.copies)
     (c.index.ensures
-    ∙ ap (λ (u : Slots). (let g = u.graph in get_or g.looked.items c.args.edge c.index.result.now)) same)
+    ∙ ap (λ (u : Slots). (let g = u.graph in get_or g.carried.items c.args.edge c.index.result.now)) same)
+    keeps.slots.carried_each edge-lt in
+    let looked = set_at s.graph.looked.items c.index-2.result.now c.args.edge (length b.copies)
+    (c.index-2.ensures
+    ∙ ap (λ (u : Slots). (let g = u.graph in get_or g.looked.items c.args.edge c.index-2.result.now)) same)
     keeps.slots.looked_each edge-lt in
     let here = passes_here v c.args.edge small c.view_of-view.result view-is c.index-touched.result.now c.index.result.now
-    after.targets.items c.slots.inside.traces c.store.result.now touched looked (ap (λ (u : Slots). u.traces) same)
+    c.index-2.result.now after.targets.items c.slots.inside.traces c.store.result.now touched carried looked (ap (λ (u : Slots). u.traces) same)
     gives.targets (c.store.ensures.store ∙ ap (λ (w : SystemOf). w.store) w-is) in
     let passing = sym here ∙ sym c.is_checked.ensures.decides in
     true≢false (sym passes ∙ passing ∙ c.if-not-is_checked.true)
@@ -91,18 +95,22 @@ returns-in-Some c =
     (c.index-touched.ensures
     ∙ ap (λ (u : Slots). (let g = u.graph in get_or g.touched.items c.args.edge c.index-touched.result.now)) same)
     keeps.slots.touched_each edge-lt in
-    let looked = set_at s.graph.looked.items c.index.result.now c.args.edge (length b.copies)
+    let carried = set_at s.graph.carried.items c.index.result.now c.args.edge (length b.copies)
     (c.index.ensures
-    ∙ ap (λ (u : Slots). (let g = u.graph in get_or g.looked.items c.args.edge c.index.result.now)) same)
+    ∙ ap (λ (u : Slots). (let g = u.graph in get_or g.carried.items c.args.edge c.index.result.now)) same)
+    keeps.slots.carried_each edge-lt in
+    let looked = set_at s.graph.looked.items c.index-2.result.now c.args.edge (length b.copies)
+    (c.index-2.ensures
+    ∙ ap (λ (u : Slots). (let g = u.graph in get_or g.looked.items c.args.edge c.index-2.result.now)) same)
     keeps.slots.looked_each edge-lt in
     let here = passes_here v c.args.edge small c.view_of-view.result view-is c.index-touched.result.now c.index.result.now
-    after.targets.items c.slots.inside.traces c.store.result.now touched looked (ap (λ (u : Slots). u.traces) same)
+    c.index-2.result.now after.targets.items c.slots.inside.traces c.store.result.now touched carried looked (ap (λ (u : Slots). u.traces) same)
     gives.targets (c.store.ensures.store ∙ ap (λ (w : SystemOf). w.store) w-is) in
     let passing = sym here ∙ sym c.is_checked.ensures.decides in
-    let copy = c.index-2.ensures
-    ∙ ap (λ (k : ConfiguredGraph). get_or k.copies.items c.args.edge c.index-2.result.now)
+    let copy = c.index-3.ensures
+    ∙ ap (λ (k : ConfiguredGraph). get_or k.copies.items c.args.edge c.index-3.result.now)
     (c.configured.ensures ∙ ap (λ (w : SystemOf). w.configured) w-is)
-    ∙ get_or_default b.copies c.args.edge c.index-2.result.now no_copy edge-lt in
+    ∙ get_or_default b.copies c.args.edge c.index-3.result.now no_copy edge-lt in
     let leads = ap (λ (d : EdgeCopy). is_some d.to) (sym copy) ∙ sym c.is_some-leads.ensures in
     let to = (let d = copy_at b c.args.edge in d.to) in
     let reaches = (let d = copy_at b c.args.edge in after_row (around_along b d) (action_along b d) small v.system.store) in (
@@ -132,18 +140,22 @@ returns c =
     (c.index-touched.ensures
     ∙ ap (λ (u : Slots). (let g = u.graph in get_or g.touched.items c.args.edge c.index-touched.result.now)) same)
     keeps.slots.touched_each edge-lt in
-    let looked = set_at s.graph.looked.items c.index.result.now c.args.edge (length b.copies)
+    let carried = set_at s.graph.carried.items c.index.result.now c.args.edge (length b.copies)
     (c.index.ensures
-    ∙ ap (λ (u : Slots). (let g = u.graph in get_or g.looked.items c.args.edge c.index.result.now)) same)
+    ∙ ap (λ (u : Slots). (let g = u.graph in get_or g.carried.items c.args.edge c.index.result.now)) same)
+    keeps.slots.carried_each edge-lt in
+    let looked = set_at s.graph.looked.items c.index-2.result.now c.args.edge (length b.copies)
+    (c.index-2.ensures
+    ∙ ap (λ (u : Slots). (let g = u.graph in get_or g.looked.items c.args.edge c.index-2.result.now)) same)
     keeps.slots.looked_each edge-lt in
     let here = passes_here v c.args.edge small c.view_of-view.result view-is c.index-touched.result.now c.index.result.now
-    after.targets.items c.slots.inside.traces c.store.result.now touched looked (ap (λ (u : Slots). u.traces) same)
+    c.index-2.result.now after.targets.items c.slots.inside.traces c.store.result.now touched carried looked (ap (λ (u : Slots). u.traces) same)
     gives.targets (c.store.ensures.store ∙ ap (λ (w : SystemOf). w.store) w-is) in
     let passing = sym here ∙ sym c.is_checked.ensures.decides in
-    let copy = c.index-2.ensures
-    ∙ ap (λ (k : ConfiguredGraph). get_or k.copies.items c.args.edge c.index-2.result.now)
+    let copy = c.index-3.ensures
+    ∙ ap (λ (k : ConfiguredGraph). get_or k.copies.items c.args.edge c.index-3.result.now)
     (c.configured.ensures ∙ ap (λ (w : SystemOf). w.configured) w-is)
-    ∙ get_or_default b.copies c.args.edge c.index-2.result.now no_copy edge-lt in
+    ∙ get_or_default b.copies c.args.edge c.index-3.result.now no_copy edge-lt in
     let leads = ap (λ (d : EdgeCopy). is_some d.to) (sym copy) ∙ sym c.is_some-leads.ensures in
     let to = (let d = copy_at b c.args.edge in d.to) in
     let reaches = (let d = copy_at b c.args.edge in after_row (around_along b d) (action_along b d) small v.system.store) in
