@@ -1,5 +1,9 @@
 -- How a call of a program ends.
-use Rattle.std.specs.Prelude.{◌≡◌, ◌⊎◌, ℕ}
+use Rattle.std.specs.Prelude.{◌≡◌, ◌⊎◌, ℕ, Bool, true, false}
+use Rattle.tm_io.specs.declared.sinks.Stop.{Stop}
+use Rattle.tm_io.specs.declared.sinks.Stop.TheVariants.{Failed as StopFailed, NoMemory as StopNoMemory}
+use Rattle.program_streams.specs.declared.input.InputError.{InputError}
+use Rattle.program_streams.specs.declared.input.InputError.TheVariants.{Failed, NoMemory as InputNoMemory}
 use Rattle.program_streams.specs.declared.statuses.Status.{Status}
 use Rattle.program_streams.specs.declared.statuses.Status.TheVariants.{NoAlarm, Alarms, Refused, Usage, ReadFault}
 use Rattle.program_streams.specs.declared.statuses.Status.TheVariants.{WriteFault, NoMemory}
@@ -27,3 +31,18 @@ IsWhole NoMemory = ⊥
 -- the statuses that come with a report
 abbrev pub IsReported : Status → Type 0
 IsReported status = (status ≡ NoAlarm) ⊎ (status ≡ Alarms)
+
+-- the status of an answer that is written whole, by whether there is an alarm in it
+abbrev pub shown_status : Bool → Status
+shown_status true = Alarms
+shown_status false = NoAlarm
+
+-- the status of a stream that could not be read
+abbrev pub unread_status : InputError → Status
+unread_status Failed = ReadFault
+unread_status InputNoMemory = NoMemory
+
+-- the status of a stream that took less than the whole text
+abbrev pub unwritten_status : Stop → Status
+unwritten_status StopFailed = WriteFault
+unwritten_status StopNoMemory = NoMemory

@@ -3,9 +3,11 @@
 ghost use Rattle.std.specs.Prelude.{◌≡◌, ◌≤◌, ◌<◌, ◌+◌, ◌^◌, [], IfOk, IsErrOf, IsFalse, IsTrue, OnOk, vec_len};
 ghost use Rattle.std.specs.Io.KnownBytes.{IsAtEnd, prepend_known};
 ghost use Rattle.tm_io.specs.Faults.{Rose};
+ghost use Rattle.program_streams.specs.Statuses.{unread_status};
 ghost use Rattle.program_streams.specs.Streams.{IsRead};
 ghost use Rattle.program_streams.specs.reading.Pieces.{ReadsMore};
 
+use crate::statuses::Status;
 use std::alloc::Global;
 use tm_io::{Failed, Source};
 
@@ -16,6 +18,16 @@ pub enum InputError {
     Failed,
     /// Memory ran out.
     NoMemory,
+}
+
+/// The status of a program whose stream could not be read.
+pub fn unread(error: InputError) -> Status
+    ensures { result ≡ unread_status error }
+{
+    match error {
+        InputError::Failed => Status::ReadFault,
+        InputError::NoMemory => Status::NoMemory,
+    }
 }
 
 /// How many bytes a read asks for at most.

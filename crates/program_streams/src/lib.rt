@@ -11,7 +11,7 @@ mod output;
 mod sending;
 mod statuses;
 
-pub use input::{InputError, read_whole};
+pub use input::{InputError, read_whole, unread};
 pub use output::write_whole;
-pub use sending::send;
+pub use sending::{send, show, tell};
 pub use statuses::Status;

@@ -5,7 +5,7 @@ ghost use Rattle.tm_io.specs.Faults.{Rose};
 ghost use Rattle.refusal_hint.specs.Answers.{Tells, TellsNoMore, hint_text, told_text};
 
 use crate::words::Asked;
-use program_streams::{InputError, Status, read_whole, send};
+use program_streams::{Status, read_whole, send, unread};
 use refusal_hints::{Construct, construct_at, sentence};
 use std::alloc::Global;
 use tm_io::{Sink, Source};
@@ -55,10 +55,7 @@ pub fn answer<S: Source, K: Sink>(alloc: Global, asked: Asked, text: &mut S, out
 {
     let mut bytes = Vec::new(alloc);
     if let Err(error) = read_whole(text, &mut bytes, SOURCE as usize + 1) {
-        return match error {
-            InputError::Failed => Status::ReadFault,
-            InputError::NoMemory => Status::NoMemory,
-        };
+        return unread(error);
     }
     match hint_text(alloc, asked, &bytes) {
         Ok(told) => send(out, told.as_bytes(), Status::NoAlarm),

@@ -1,4 +1,3 @@
 pub mod Answers
-pub mod Statuses
 pub mod Words
 pub mod reading

@@ -7,40 +7,20 @@ ghost use Rattle.log_baselines.specs.Causes.{IsCause, cause_text};
 ghost use Rattle.log_baselines.specs.declared.causes.Cause.{Cause as CauseOf};
 ghost use Rattle.report_baseline.specs.Answers.{IsAnswer, Shows, ShowsNoMore, Tells, old_of};
 ghost use Rattle.report_baseline.specs.reading.Seen.{IsFormed};
-ghost use Rattle.report_baseline.specs.Statuses.{shown_status, unread_status, unwritten_status};
+ghost use Rattle.program_streams.specs.Statuses.{shown_status};
 ghost use Rattle.program_streams.specs.Streams.{TakesFrontOf};
 
 use crate::words::Form;
 use log_baselines::{BaselineFail, Cause, LONGEST_LOG, Outcome, baseline, cause_line};
-use program_streams::{InputError, Status, read_whole, write_whole};
+use program_streams::{Status, read_whole, show as show_text, tell as tell_line, unread};
 use std::alloc::Global;
-use tm_io::{Sink, Source, Stop};
+use tm_io::{Sink, Source};
 
 /// An answer, and whether a result that is to be mended is new and not suppressed.
 #[derive(Drop)]
 struct Reply {
     text: Vec<u8>,
     is_worse: bool,
-}
-
-/// The status of a stream that could not be read.
-fn unread(error: InputError) -> Status
-    ensures { result ≡ unread_status error }
-{
-    match error {
-        InputError::Failed => Status::ReadFault,
-        InputError::NoMemory => Status::NoMemory,
-    }
-}
-
-/// The status of a stream that took less than the whole text.
-fn unwritten(stop: Stop) -> Status
-    ensures { result ≡ unwritten_status stop }
-{
-    match stop {
-        Stop::Failed => Status::WriteFault,
-        Stop::NoMemory => Status::NoMemory,
-    }
 }
 
 /// Writes an answer, and says whether it was taken whole and a result is new.
@@ -51,16 +31,7 @@ fn show<K: Sink>(out: &mut K, reply: &Reply) -> Status
     ensures write { result ≡ Status.WriteFault → Rose (K.faults out.old) (K.faults out.new) }
     ensures others { (result ≢ Status.Refused) × (result ≢ Status.Usage) × (result ≢ Status.ReadFault) }
 {
-    match write_whole(out, &reply.text) {
-        Ok(()) => {
-            if reply.is_worse {
-                Status::Alarms
-            } else {
-                Status::NoAlarm
-            }
-        }
-        Err(stop) => unwritten(stop),
-    }
+    show_text(out, &reply.text, reply.is_worse)
 }
 
 /// Writes why there is no answer.
@@ -71,10 +42,7 @@ fn tell<E: Sink>(alloc: Global, told: &mut E, cause: Cause) -> Status
     ensures other_faults { (result ≢ Status.Usage) × (result ≢ Status.ReadFault) }
 {
     match cause_line(alloc, cause) {
-        Ok(line) => match write_whole(told, line.as_bytes()) {
-            Ok(()) => Status::Refused,
-            Err(stop) => unwritten(stop),
-        },
+        Ok(line) => tell_line(told, line.as_bytes()),
         Err(_) => Status::NoMemory,
     }
 }

@@ -5,36 +5,15 @@ ghost use Rattle.std.specs.Io.KnownBytes.{append_known};
 ghost use Rattle.tm_io.specs.Faults.{Rose};
 ghost use Rattle.report_views.specs.Causes.{cause_text};
 ghost use Rattle.report_page.specs.Answers.{Shows, ShowsNoMore, Tells};
-ghost use Rattle.report_page.specs.Statuses.{unread_status, unwritten_status};
 ghost use Rattle.program_streams.specs.Streams.{TakesFrontOf};
 
 use crate::words::Asked;
-use program_streams::{InputError, Status, read_whole, write_whole};
+use program_streams::{Status, read_whole, send, tell as tell_line, unread};
 use report_pages::{Texts, page};
 use report_views::{Cause, LONGEST_REPORT, LONGEST_TEXT, ViewFail, cause_line};
 use std::alloc::Global;
-use tm_io::{Sink, Source, Stop};
+use tm_io::{Sink, Source};
 use tm_lattice::NoMemory;
-
-/// The status of a stream that could not be read.
-fn unread(error: InputError) -> Status
-    ensures { result ≡ unread_status error }
-{
-    match error {
-        InputError::Failed => Status::ReadFault,
-        InputError::NoMemory => Status::NoMemory,
-    }
-}
-
-/// The status of a stream that took less than the whole text.
-fn unwritten(stop: Stop) -> Status
-    ensures { result ≡ unwritten_status stop }
-{
-    match stop {
-        Stop::Failed => Status::WriteFault,
-        Stop::NoMemory => Status::NoMemory,
-    }
-}
 
 /// Writes a page, and says whether it was taken whole.
 fn show<K: Sink>(out: &mut K, page: &[u8]) -> Status
@@ -44,10 +23,7 @@ fn show<K: Sink>(out: &mut K, page: &[u8]) -> Status
     ensures others { (result ≢ Status.Refused) × (result ≢ Status.Usage) × (result ≢ Status.ReadFault)
         × (result ≢ Status.Alarms) }
 {
-    match write_whole(out, page) {
-        Ok(()) => Status::NoAlarm,
-        Err(stop) => unwritten(stop),
-    }
+    send(out, page, Status::NoAlarm)
 }
 
 /// Writes why there is no page.
@@ -58,10 +34,7 @@ fn tell<E: Sink>(alloc: Global, told: &mut E, cause: Cause) -> Status
         × (result ≢ Status.Alarms) }
 {
     match cause_line(alloc, cause) {
-        Ok(line) => match write_whole(told, line.as_bytes()) {
-            Ok(()) => Status::Refused,
-            Err(stop) => unwritten(stop),
-        },
+        Ok(line) => tell_line(told, line.as_bytes()),
         Err(NoMemory) => Status::NoMemory,
     }
 }

@@ -7,9 +7,9 @@ ghost use Rattle.report_logs.specs.Refusals.{refusal_text};
 ghost use Rattle.report_logs.specs.reading.Seen.{refusal_seen};
 ghost use Rattle.report_view.specs.Answers.{LogsRefusal, LogsRefusalNoMore};
 
-use crate::top::{show_log, unread};
+use crate::top::show_log;
 use crate::words::AskedRefusal;
-use program_streams::{Status, read_whole};
+use program_streams::{Status, read_whole, unread};
 use report_logs::{Frame, Refusal, refusal_log};
 use report_views::{LONGEST_REPORT, LONGEST_TEXT};
 use std::alloc::Global;

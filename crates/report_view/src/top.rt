@@ -7,36 +7,16 @@ ghost use Rattle.report_views.specs.Causes.{cause_text, IsLogCause};
 ghost use Rattle.report_views.specs.declared.causes.Cause.{Cause as CauseOf};
 ghost use Rattle.report_logs.specs.Logs.{IsLog};
 ghost use Rattle.report_view.specs.Answers.{Logs, LogsNoMore, Shows, ShowsNoMore, Tells, TellsNoLog};
-ghost use Rattle.report_view.specs.Statuses.{shown_status, unread_status, unwritten_status};
+ghost use Rattle.program_streams.specs.Statuses.{shown_status};
 ghost use Rattle.program_streams.specs.Streams.{TakesFrontOf};
 
 use crate::words::{Asked, AskedLog};
-use program_streams::{InputError, Status, read_whole, write_whole};
+use program_streams::{Status, read_whole, send, show as show_text, tell as tell_line, unread};
 use report_logs::{Frame, log};
 use report_views::{Cause, LONGEST_REPORT, LONGEST_TEXT, Reply, ViewFail, cause_line, view};
 use std::alloc::Global;
-use tm_io::{Sink, Source, Stop};
+use tm_io::{Sink, Source};
 use tm_lattice::NoMemory;
-
-/// The status of a stream that could not be read.
-pub fn unread(error: InputError) -> Status
-    ensures { result ≡ unread_status error }
-{
-    match error {
-        InputError::Failed => Status::ReadFault,
-        InputError::NoMemory => Status::NoMemory,
-    }
-}
-
-/// The status of a stream that took less than the whole text.
-fn unwritten(stop: Stop) -> Status
-    ensures { result ≡ unwritten_status stop }
-{
-    match stop {
-        Stop::Failed => Status::WriteFault,
-        Stop::NoMemory => Status::NoMemory,
-    }
-}
 
 /// Writes a view, and says whether it was taken whole and the report has an alarm.
 fn show<K: Sink>(out: &mut K, reply: &Reply) -> Status
@@ -46,16 +26,7 @@ fn show<K: Sink>(out: &mut K, reply: &Reply) -> Status
     ensures write { result ≡ Status.WriteFault → Rose (K.faults out.old) (K.faults out.new) }
     ensures others { (result ≢ Status.Refused) × (result ≢ Status.Usage) × (result ≢ Status.ReadFault) }
 {
-    match write_whole(out, &reply.text) {
-        Ok(()) => {
-            if reply.has_alarm {
-                Status::Alarms
-            } else {
-                Status::NoAlarm
-            }
-        }
-        Err(stop) => unwritten(stop),
-    }
+    show_text(out, &reply.text, reply.has_alarm)
 }
 
 /// Writes why there is no view, or no log.
@@ -66,10 +37,7 @@ fn tell<E: Sink>(alloc: Global, told: &mut E, cause: Cause) -> Status
     ensures other_faults { (result ≢ Status.Usage) × (result ≢ Status.ReadFault) }
 {
     match cause_line(alloc, cause) {
-        Ok(line) => match write_whole(told, line.as_bytes()) {
-            Ok(()) => Status::Refused,
-            Err(stop) => unwritten(stop),
-        },
+        Ok(line) => tell_line(told, line.as_bytes()),
         Err(NoMemory) => Status::NoMemory,
     }
 }
@@ -136,10 +104,7 @@ pub fn show_log<K: Sink>(out: &mut K, text: &[u8]) -> Status
     ensures others { (result ≢ Status.Refused) × (result ≢ Status.Usage) × (result ≢ Status.ReadFault)
         × (result ≢ Status.Alarms) }
 {
-    match write_whole(out, text) {
-        Ok(()) => Status::NoAlarm,
-        Err(stop) => unwritten(stop),
-    }
+    send(out, text, Status::NoAlarm)
 }
 
 /// The log that is asked for, of what was read.
