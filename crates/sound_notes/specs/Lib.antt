@@ -1,0 +1,2 @@
+-- Where runs come, and what the contexts of alarms tell of that (Passes).
+pub mod Passes
