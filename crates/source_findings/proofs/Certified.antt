@@ -17,7 +17,7 @@ use Rattle.program_streams.specs.declared.statuses.Status.{Status}
 use Rattle.program_streams.specs.declared.statuses.Status.TheVariants.{Refused}
 use Rattle.source_findings.specs.Findings.{Solves}
 use Rattle.source_findings.specs.Certificates.{HasCertificate, IsRefusedBy, TellsLeastReport, WrittenIsCertified}
-use Rattle.source_findings.specs.reading.Tellings.{TellsCertificateOf}
+use Rattle.source_findings.specs.Tellings.{TellsCertificateOf}
 
 -- what an answer says is what it says of another fact that follows from two
 pub if_ok_both : {A E : Type 0} {P P' Q : A → Type 0} (r : Result A E) → IfOk r P → IfOk r P'

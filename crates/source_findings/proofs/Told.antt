@@ -15,7 +15,7 @@ use Rattle.certificate_check.proofs.low.sound_core.Within.{within}
 use Rattle.certificate_check.proofs.low.sound_core.Reached.{never_listed}
 use Rattle.program_streams.specs.declared.statuses.Status.{Status}
 use Rattle.source_findings.specs.Findings.{HasFinding, Solves, TellsWaits, TellsRanges}
-use Rattle.source_findings.specs.reading.Tellings.{TellsOf, TellsWaitsOf, TellsRangesOf, bounds_line_of}
+use Rattle.source_findings.specs.Tellings.{TellsOf, TellsWaitsOf, TellsRangesOf, bounds_line_of}
 use Rattle.source_findings.specs.declared.findings.Finding.{Finding}
 use Rattle.source_findings.specs.declared.findings.Finding.TheVariants.{Waits, Ranges}
 use Rattle.source_findings.proofs.Solved.{found}
@@ -29,7 +29,7 @@ module _ (bytes : List ℕ) (p : ProgramBodies) (a : IsAccepted [] bytes p) (few
   is : IsProgram p
   is = accepted_is_program [] bytes p a
 
-  waits_told : (status : Status) (text : List ℕ) → TellsWaitsOf p pair status text → TellsWaits bytes status text
+  pub waits_told : (status : Status) (text : List ℕ) → TellsWaitsOf p pair status text → TellsWaits bytes status text
   unfolding solves
   waits_told status text t = record {
     places = t.places;
@@ -43,7 +43,7 @@ module _ (bytes : List ℕ) (p : ProgramBodies) (a : IsAccepted [] bytes p) (few
     is = t.is;
   }
 
-  ranges_told : (status : Status) (text : List ℕ) → TellsRangesOf p bytes pair status text
+  pub ranges_told : (status : Status) (text : List ℕ) → TellsRangesOf p bytes pair status text
       → TellsRanges bytes status text
   unfolding solves
   ranges_told status text t =

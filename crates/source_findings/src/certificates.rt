@@ -3,7 +3,7 @@
 ghost use Rattle.std.specs.Prelude.{◌≡◌, IfOk};
 ghost use Rattle.program_solutions.specs.program_systems.ReadPrograms.{program_of};
 ghost use Rattle.source_findings.specs.Certificates.{HasCertificate};
-ghost use Rattle.source_findings.specs.reading.Tellings.{TellsCertificateOf};
+ghost use Rattle.source_findings.specs.Tellings.{TellsCertificateOf};
 
 use crate::findings::{FindingReply, refused};
 use certificate_check::{Written, numbers_are_small, source_program, too_long_line, written};

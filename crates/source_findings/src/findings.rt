@@ -6,7 +6,7 @@ ghost use Rattle.tm_terms.specs.Texts.{refusal_text};
 ghost use Rattle.program_solutions.specs.program_systems.ReadPrograms.{program_of};
 ghost use Rattle.program_solutions.specs.LeastReports.{IsLeastPair};
 ghost use Rattle.source_findings.specs.Findings.{HasFinding, waits_status};
-ghost use Rattle.source_findings.specs.reading.Tellings.{TellsOf, TellsRangesOf, TellsWaitsOf, bounds_line_of};
+ghost use Rattle.source_findings.specs.Tellings.{TellsOf, TellsRangesOf, TellsWaitsOf, bounds_line_of};
 
 use certificate_check::source_program;
 use lock_waits::circular;
@@ -124,8 +124,9 @@ fn ranges_reply(
     })
 }
 
-/// What is asked of a least solution.
-fn told_of(
+/// What is asked of a least solution. What that promises of the runs of a source of the program, the answer of
+/// `finding_of` says.
+pub fn told_of(
     alloc: Heap,
     finding: Finding,
     bytes: &[u8],

@@ -13,5 +13,5 @@ mod laws;
 
 pub use certificate_check::check_source;
 pub use certificates::certificate_of;
-pub use findings::{Finding, FindingReply, finding_of};
+pub use findings::{Finding, FindingReply, finding_of, told_of};
 pub use laws::written_is_certified;

@@ -1,2 +1,3 @@
 -- What the code computes: no clause of a public call names it.
 pub mod Told
+pub mod PartsTold

@@ -3,11 +3,13 @@ ghost use Rattle.std.specs.Prelude.{◌≡◌, IfOk};
 ghost use Rattle.program_solutions.specs.program_systems.ReadPrograms.{program_of};
 ghost use Rattle.program_solutions.specs.LeastReports.{IsLeastPair};
 ghost use Rattle.source_notes.specs.Notes.{HasNotes, rings_status, races_status, alarms_status, report_status};
-ghost use Rattle.source_notes.specs.reading.Told.{TellsOf, TellsRingsOf, TellsRacesOf, TellsAlarmsOf, TellsNotesOf};
+ghost use Rattle.source_notes.specs.reading.Told.{TellsRingsOf, TellsRacesOf, TellsAlarmsOf, TellsNotesOf};
 ghost use Rattle.source_notes.specs.reading.Told.{AreContents};
+ghost use Rattle.source_notes.specs.reading.PartsTold.{TellsOf};
 
 use crate::alarm_operations::alarms_text;
 use crate::names::{Names, names_of};
+use crate::parts::parts_reply;
 use crate::race_lines::groups_text;
 use crate::ring_lines::rings_text;
 use access_groups::{AccessGroup, groups};
@@ -35,6 +37,9 @@ pub enum Note {
     Alarms,
     /// All of it, with ranges and dead places, as one line of JSON.
     Whole,
+    /// The report as JSON, the waits, the ranges, and the notes on rings, races and other alarms, each as it is
+    /// answered alone, behind a line with its name, its status and its length in bytes.
+    Parts,
 }
 
 /// A status and the whole text that goes with it. Names stand in it byte for byte, as in the source.
@@ -78,7 +83,7 @@ fn alarms_status(alarms: &[AlarmContexts]) -> Status
 }
 
 /// Whether there is an alarm in a report.
-fn report_status(report: &[Alarm]) -> Status
+pub(crate) fn report_status(report: &[Alarm]) -> Status
     ensures { result ≡ report_status report.now }
 {
     if report.is_empty() {
@@ -89,7 +94,7 @@ fn report_status(report: &[Alarm]) -> Status
 }
 
 /// What a least solution tells of rings.
-fn rings_reply(
+pub(crate) fn rings_reply(
     alloc: Heap,
     bytes: &[u8],
     names: &Names,
@@ -110,7 +115,7 @@ fn rings_reply(
 }
 
 /// What a least solution tells of races.
-fn races_reply(
+pub(crate) fn races_reply(
     alloc: Heap,
     bytes: &[u8],
     names: &Names,
@@ -131,7 +136,7 @@ fn races_reply(
 }
 
 /// What a least solution tells of alarms.
-fn alarms_reply(
+pub(crate) fn alarms_reply(
     alloc: Heap,
     bytes: &[u8],
     names: &Names,
@@ -211,6 +216,7 @@ fn reply_of(
         Note::Races => races_reply(alloc, bytes, names, analysis, found),
         Note::Alarms => alarms_reply(alloc, bytes, names, analysis, found),
         Note::Whole => whole_reply(alloc, bytes, declared, analysis, found),
+        Note::Parts => parts_reply(alloc, bytes, names, analysis, found),
     }
 }
 

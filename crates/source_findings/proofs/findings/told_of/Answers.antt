@@ -1,7 +1,7 @@
 use Rattle.std.proofs.Common.{sym, subst}
 use Rattle.std.specs.Prelude.{IfOk}
 use Rattle.program_solutions.specs.program_systems.ReadPrograms.{program_of}
-use Rattle.source_findings.specs.reading.Tellings.{TellsOf}
+use Rattle.source_findings.specs.Tellings.{TellsOf}
 use Rattle.source_findings.proofs.findings.told_of.Goals as goal
 
 pub returns-in-Waits : goal.returns-in-Waits

@@ -1,7 +1,7 @@
 use Rattle.std.proofs.Common.{sym, subst}
 use Rattle.std.specs.Prelude.{IfOk}
 use Rattle.program_solutions.specs.program_systems.ReadPrograms.{program_of}
-use Rattle.source_notes.specs.reading.Told.{TellsOf}
+use Rattle.source_notes.specs.reading.PartsTold.{TellsOf}
 use Rattle.source_notes.proofs.answers.reply_of.Goals as goal
 
 pub returns-in-Rings : goal.returns-in-Rings
@@ -27,3 +27,9 @@ returns-in-Whole c =
     subst (λ n. IfOk c.whole_reply.result (λ reply. TellsOf n (program_of c.args.analysis.now) c.args.bytes.now
     c.args.names.now c.args.declared.now c.args.found.now reply.status reply.text.items)) (sym c.in-Whole.is)
     c.whole_reply.ensures
+
+pub returns-in-Parts : goal.returns-in-Parts
+returns-in-Parts c =
+    subst (λ n. IfOk c.parts_reply.result (λ reply. TellsOf n (program_of c.args.analysis.now) c.args.bytes.now
+    c.args.names.now c.args.declared.now c.args.found.now reply.status reply.text.items)) (sym c.in-Parts.is)
+    c.parts_reply.ensures

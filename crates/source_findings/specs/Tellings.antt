@@ -1,4 +1,4 @@
--- What the code tells of a least solution, before it is known of which source it is.
+-- What is told of a least solution, before it is known of which source it is.
 use Rattle.std.specs.Prelude.{◌≡◌, ◌⊎◌, ℕ, ◌<◌, ◌≤◌, List, ◌++◌, get_or, length}
 use Rattle.std.specs.List.{flat_map}
 use Rattle.tm_terms.specs.declared.places.Place.{Place}

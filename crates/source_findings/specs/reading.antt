@@ -1,2 +1,0 @@
--- What the code computes: no clause of a public call names it.
-pub mod Tellings

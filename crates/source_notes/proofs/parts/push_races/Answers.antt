@@ -1,0 +1,14 @@
+use Rattle.std.specs.Prelude.{codes}
+use Rattle.program_solutions.specs.program_systems.ReadPrograms.{program_of}
+use Rattle.source_notes.specs.reading.Told.{TellsRacesOf}
+use Rattle.source_notes.proofs.PartsAdded.{added}
+use Rattle.source_notes.proofs.parts.push_races.Goals as goal
+
+pub returns : goal.returns
+returns c =
+    let reply = c.in_ok-reply.reply in
+    let names = c.args.names.now in
+    added (TellsRacesOf (program_of c.args.analysis.now) c.args.bytes.now names.objects.items names.tasks.items
+    names.mutexes.items c.args.found.now) c.push_part.result (codes "races") c.args.text.now.items
+    c.push_part.new.text.items c.deref.result.now reply.text.items reply.status c.push_part.ensures
+    c.deref.ensures.value c.in_ok-reply.ensures

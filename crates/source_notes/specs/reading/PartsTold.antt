@@ -1,0 +1,54 @@
+-- What the code tells of a least solution as several texts, before it is known of which source it is.
+use Rattle.std.specs.Prelude.{◌≡◌, ℕ, List, ◌++◌, codes}
+use Rattle.tm_terms.specs.declared.alarms.Alarm.{Alarm}
+use Rattle.program_solutions.specs.program_equations.Programs.{ProgramBodies}
+use Rattle.program_solutions.specs.program_equations.Solutions.{tables_of}
+use Rattle.program_solutions.specs.post_recheck.Pairs.{Pair}
+use Rattle.program_reports.specs.Reports.{IsReport}
+use Rattle.report_json.specs.JsonReports.{json_text}
+use Rattle.program_streams.specs.declared.statuses.Status.{Status}
+use Rattle.source_findings.specs.Tellings.{TellsWaitsOf, TellsRangesOf}
+use Rattle.source_notes.specs.declared.names.Names.{Names}
+use Rattle.source_notes.specs.declared.answers.Note.{Note}
+use Rattle.source_notes.specs.declared.answers.Note.TheVariants.{Rings, Races, Alarms, Whole, Parts}
+use Rattle.program_notes.specs.declared.declarations.Declared.{Declared}
+use Rattle.source_notes.specs.Notes.{report_status}
+use Rattle.source_notes.specs.PartTexts.{Part, shown}
+use Rattle.source_notes.specs.reading.Told.{TellsRingsOf, TellsRacesOf, TellsAlarmsOf, TellsNotesOf}
+
+pub record TellsReportOf (p : ProgramBodies) (pair : Pair) (status : Status) (text : List ℕ) : Type 0 where
+  pub report : List Alarm
+  pub are : IsReport p (tables_of pair.tables) report
+  pub comes : status ≡ report_status report
+  pub is : text ≡ json_text report
+
+-- behind the bytes before stands a part of this name
+pub record Adds (Told : Status → List ℕ → Type 0) (name before after : List ℕ) : Type 0 where
+  pub part : Part Told
+  pub is : after ≡ before ++ shown name part
+
+-- and this is its status
+pub record AddsFirst (Told : Status → List ℕ → Type 0) (name before after : List ℕ) (status : Status) : Type 0 where
+  pub part : Part Told
+  pub comes : status ≡ part.status
+  pub is : after ≡ before ++ shown name part
+
+pub record TellsPartsOf (p : ProgramBodies) (bytes : List ℕ) (names : Names) (pair : Pair) (status : Status)
+    (text : List ℕ) : Type 0 where
+  pub report : Part (TellsReportOf p pair)
+  pub waits : Part (TellsWaitsOf p pair)
+  pub ranges : Part (TellsRangesOf p bytes pair)
+  pub rings : Part (TellsRingsOf p bytes names.tasks.items names.mutexes.items pair)
+  pub races : Part (TellsRacesOf p bytes names.objects.items names.tasks.items names.mutexes.items pair)
+  pub alarms : Part (TellsAlarmsOf p bytes names pair)
+  pub comes : status ≡ report.status
+  pub is : text ≡ ((((shown (codes "report") report ++ shown (codes "waits") waits)
+      ++ shown (codes "ranges") ranges) ++ shown (codes "rings") rings)
+      ++ shown (codes "races") races) ++ shown (codes "alarms") alarms
+
+abbrev pub TellsOf : Note → ProgramBodies → List ℕ → Names → Declared → Pair → Status → List ℕ → Type 0
+TellsOf Rings p bytes names declared = TellsRingsOf p bytes names.tasks.items names.mutexes.items
+TellsOf Races p bytes names declared = TellsRacesOf p bytes names.objects.items names.tasks.items names.mutexes.items
+TellsOf Alarms p bytes names declared = TellsAlarmsOf p bytes names
+TellsOf Whole p bytes names declared = TellsNotesOf p bytes declared
+TellsOf Parts p bytes names declared = TellsPartsOf p bytes names
