@@ -1,3 +1,2 @@
--- Pieces of a text (Chains), and that where there are no pointers there are no objects (Objects).
+-- Pieces of a text, appended one after the other.
 pub mod Chains
-mod Objects

@@ -1,4 +1,5 @@
--- The operation of an edge of a body (OperationsFound), and that the alarms of a report that are not races are those
--- with contexts (Paired).
+-- The operation of an edge of a body (OperationsFound), that the alarms of a report that are not races are those with
+-- contexts (Paired), and that where there are no pointers there are no objects (Pointed).
 mod OperationsFound
 pub mod Paired
+mod Pointed
