@@ -75,7 +75,7 @@ fn add_targets(
 }
 
 // The way in which a copy reaches cells.
-pub(crate) fn way_of(parts: TaskParts<'_>, copy: usize) -> Way
+fn way_of(parts: TaskParts<'_>, copy: usize) -> Way
     requires parts { ArePartsOf (body_of parts.body.now) parts }
     requires copy { copy < length parts.copies.now }
     ensures { result ≡ way_of_copy (body_of parts.entry.body.now) copy }
@@ -92,7 +92,7 @@ pub(crate) fn way_of(parts: TaskParts<'_>, copy: usize) -> Way
 }
 
 // Where the operation of a copy stands, if it reaches cells.
-pub(crate) fn place_of_copy(parts: TaskParts<'_>, copy: usize) -> Option<Place>
+fn place_of_copy(parts: TaskParts<'_>, copy: usize) -> Option<Place>
     requires parts { ArePartsOf (body_of parts.body.now) parts }
     requires copy { copy < length parts.copies.now }
     ensures { result ≡ access_place (operation_at (body_of parts.entry.body.now) copy) }

@@ -14,11 +14,9 @@ mod laws;
 mod merging;
 mod noting;
 mod object_access;
-mod sites;
 mod tasks;
 mod ways;
 
 pub use grouping::groups;
 pub use laws::{alarms_are_grouped, groups_are_one};
 pub use object_access::{AccessGroup, ObjectAccess};
-pub use sites::{SiteAccess, sites};

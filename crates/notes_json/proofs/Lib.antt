@@ -1,2 +1,3 @@
--- Pieces of a text, appended one after the other.
+-- Pieces of a text (Chains), and that where there are no pointers there are no objects (Objects).
 pub mod Chains
+mod Objects

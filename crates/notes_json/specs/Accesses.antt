@@ -40,34 +40,15 @@ abbrev pub access_front : Place → ℕ → ℕ → List ℕ
 access_front place free held = number_text (codes "{\"col\":") place.col ++ (set_text (codes ",\"free\":[") free
     ++ set_text (codes ",\"held\":[") held)
 
-abbrev pub access_back : Place → Bool → List ℕ → Bool → ℕ → List ℕ
-access_back place stores member racing task = word_text (codes ",\"kind\":\"") (kind_text stores)
-    ++ (number_text (codes ",\"line\":") place.line ++ (word_text (codes ",\"member\":\"") member
-    ++ ((codes ",\"racing\":" ++ truth_text racing) ++ (number_text (codes ",\"task\":") task ++ codes "}"))))
+abbrev pub access_back : Place → Bool → Bool → ℕ → List ℕ
+access_back place stores racing task = word_text (codes ",\"kind\":\"") (kind_text stores)
+    ++ (number_text (codes ",\"line\":") place.line ++ ((codes ",\"racing\":" ++ truth_text racing)
+    ++ (number_text (codes ",\"task\":") task ++ codes "}")))
 
--- {"col":COL,"free":[MUTEX,..],"held":[MUTEX,..],"kind":"store","line":LINE,"member":"MEMBER","racing":true,"task":TASK}
-abbrev pub access_text : Place → ℕ → ℕ → Bool → List ℕ → Bool → ℕ → List ℕ
-access_text place free held stores member racing task =
-    access_front place free held ++ access_back place stores member racing task
-
--- ## Races
-
--- {"held":[MUTEX,..],"kind":"store","member":"MEMBER","partner_count":COUNT,"partners":[
-abbrev pub race_front : ℕ → Bool → List ℕ → ℕ → List ℕ
-race_front held stores member partners = set_text (codes "{\"held\":[") held
-    ++ (word_text (codes ",\"kind\":\"") (kind_text stores) ++ (word_text (codes ",\"member\":\"") member
-    ++ (number_text (codes ",\"partner_count\":") partners ++ codes ",\"partners\":[")))
-
--- ],"race":RACE,"task":TASK}
-abbrev pub race_back : ℕ → ℕ → List ℕ
-race_back race task =
-    number_text (codes "],\"race\":") race ++ (number_text (codes ",\"task\":") task ++ codes "}")
-
--- {"col":COL,"held":[MUTEX,..],"kind":"store","line":LINE,"task":TASK}
-abbrev pub partner_text : Place → ℕ → Bool → ℕ → List ℕ
-partner_text place held stores task = number_text (codes "{\"col\":") place.col
-    ++ (set_text (codes ",\"held\":[") held ++ (word_text (codes ",\"kind\":\"") (kind_text stores)
-    ++ (number_text (codes ",\"line\":") place.line ++ (number_text (codes ",\"task\":") task ++ codes "}"))))
+-- {"col":COL,"free":[MUTEX,..],"held":[MUTEX,..],"kind":"store","line":LINE,"racing":true,"task":TASK}
+abbrev pub access_text : Place → ℕ → ℕ → Bool → Bool → ℕ → List ℕ
+access_text place free held stores racing task =
+    access_front place free held ++ access_back place stores racing task
 
 -- ## Requests
 

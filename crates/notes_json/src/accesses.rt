@@ -2,7 +2,6 @@
 ghost use Rattle.std.specs.Prelude.{◌≡◌, ◌++◌, OnOk};
 ghost use Rattle.notes_json.specs.Accesses.{comma_if, has_below, member_text, members_below, set_text, kind_text};
 ghost use Rattle.notes_json.specs.Accesses.{access_front, access_back, access_text, request_text};
-ghost use Rattle.notes_json.specs.Accesses.{race_front, race_back, partner_text};
 
 use crate::pieces::{push_bytes, push_number, push_truth, push_word};
 use request_circles::{Request, has_mutex};
@@ -77,22 +76,20 @@ fn push_access_back(
     text: &mut Vec<u8>,
     place: Place,
     stores: bool,
-    member: &[u8],
     racing: bool,
     task: u32,
 ) -> Result<(), NoMemory>
-    ensures { OnOk result (text.new.items ≡ text.old.items ++ access_back place stores member.now racing task) }
+    ensures { OnOk result (text.new.items ≡ text.old.items ++ access_back place stores racing task) }
 {
     push_word(text, b",\"kind\":\"", kind_text(stores))?;
     push_number(alloc, text, b",\"line\":", place.line as u64)?;
-    push_word(text, b",\"member\":\"", member)?;
     push_truth(text, b",\"racing\":", racing)?;
     push_number(alloc, text, b",\"task\":", task as u64)?;
     push_bytes(text, b"}")
 }
 
 /// Appends an access of a task at a place: a store or a load, the mutexes that the task has found free, those that it
-/// holds, the member of the object, and whether it races.
+/// holds, and whether it races.
 pub fn push_access(
     alloc: Global,
     text: &mut Vec<u8>,
@@ -100,66 +97,13 @@ pub fn push_access(
     free: u16,
     held: u16,
     stores: bool,
-    member: &[u8],
     racing: bool,
     task: u32,
 ) -> Result<(), NoMemory>
-    ensures { OnOk result (text.new.items ≡ text.old.items
-        ++ access_text place free held stores member.now racing task) }
+    ensures { OnOk result (text.new.items ≡ text.old.items ++ access_text place free held stores racing task) }
 {
     push_access_front(alloc, text, place, free, held)?;
-    push_access_back(alloc, text, place, stores, member, racing, task)
-}
-
-/// Appends what stands of an access that races up to those with which it does.
-pub fn push_race_front(
-    alloc: Global,
-    text: &mut Vec<u8>,
-    held: u16,
-    stores: bool,
-    member: &[u8],
-    partners: usize,
-) -> Result<(), NoMemory>
-    ensures { OnOk result (text.new.items ≡ text.old.items ++ race_front held stores member.now partners) }
-{
-    push_set(alloc, text, b"{\"held\":[", held)?;
-    push_word(text, b",\"kind\":\"", kind_text(stores))?;
-    push_word(text, b",\"member\":\"", member)?;
-    push_number(alloc, text, b",\"partner_count\":", partners as u64)?;
-    push_bytes(text, b",\"partners\":[")
-}
-
-/// Appends what stands behind these: the number of the object's races, and the task.
-pub fn push_race_back(
-    alloc: Global,
-    text: &mut Vec<u8>,
-    race: usize,
-    task: u32,
-) -> Result<(), NoMemory>
-    ensures { OnOk result (text.new.items ≡ text.old.items ++ race_back race task) }
-{
-    push_number(alloc, text, b"],\"race\":", race as u64)?;
-    push_number(alloc, text, b",\"task\":", task as u64)?;
-    push_bytes(text, b"}")
-}
-
-/// Appends an access with which another one races.
-pub fn push_partner(
-    alloc: Global,
-    text: &mut Vec<u8>,
-    place: Place,
-    held: u16,
-    stores: bool,
-    task: u32,
-) -> Result<(), NoMemory>
-    ensures { OnOk result (text.new.items ≡ text.old.items ++ partner_text place held stores task) }
-{
-    push_number(alloc, text, b"{\"col\":", place.col as u64)?;
-    push_set(alloc, text, b",\"held\":[", held)?;
-    push_word(text, b",\"kind\":\"", kind_text(stores))?;
-    push_number(alloc, text, b",\"line\":", place.line as u64)?;
-    push_number(alloc, text, b",\"task\":", task as u64)?;
-    push_bytes(text, b"}")
+    push_access_back(alloc, text, place, stores, racing, task)
 }
 
 /// Appends a request for a mutex.

@@ -1,5 +1,4 @@
--- The operation of an edge of a body (OperationsFound), that the alarms of a report that are not races are those with
--- contexts (Paired), and that where there are no pointers there are no objects (Pointed).
+-- The operation of an edge of a body (OperationsFound), and that the alarms of a report that are not races are those
+-- with contexts (Paired).
 mod OperationsFound
 pub mod Paired
-mod Pointed

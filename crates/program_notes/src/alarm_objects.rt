@@ -7,11 +7,9 @@ ghost use Rattle.program_notes.specs.AlarmTexts.{is_race, others_at, other_text,
 
 use crate::context_objects::push_context;
 use crate::operations::operation_of;
-use crate::race_alarms::push_race_alarm;
 use alarm_contexts::AlarmContexts;
 use mutex_configs::Program;
-use note_details::AlarmDetails;
-use notes_json::push_comma;
+use notes_json::{push_comma, push_race_alarm};
 use post_recheck::ProgramFacts;
 use std::alloc::Global;
 use tm_cint::Class;
@@ -49,26 +47,19 @@ fn others_at(report: &[Alarm], at: usize) -> usize
 fn push_other(
     alloc: Global,
     text: &mut Vec<u8>,
-    bytes: &[u8],
-    numbers: &[Option<u32>],
     program: &Program,
     facts: &ProgramFacts,
     others: &[AlarmContexts],
     next: usize,
-    details: &AlarmDetails,
 ) -> Result<(), NoMemory>
     requires analysable { IsAnalysable program.now }
     requires facts { AreProgramFacts program.now facts.now }
     ensures { OnOk result (text.new.items ≡ text.old.items
-        ++ other_text (operation_of (program_with program.now facts.now)) bytes.now numbers.now others.now next
-        details.now) }
+        ++ other_text (operation_of (program_with program.now facts.now)) others.now next) }
 {
     match others.get(next) {
         None => Ok(()),
-        Some(alarm) => {
-            let operation = operation_of(program, facts, alarm);
-            push_context(alloc, text, bytes, numbers, alarm, operation, details)
-        }
+        Some(alarm) => push_context(alloc, text, alarm, operation_of(program, facts, alarm)),
     }
 }
 
@@ -76,27 +67,21 @@ fn push_other(
 fn push_alarm(
     alloc: Global,
     text: &mut Vec<u8>,
-    bytes: &[u8],
-    numbers: &[Option<u32>],
     program: &Program,
     facts: &ProgramFacts,
     others: &[AlarmContexts],
     next: usize,
     alarm: Alarm,
-    details: &AlarmDetails,
 ) -> Result<(), NoMemory>
     requires analysable { IsAnalysable program.now }
     requires facts { AreProgramFacts program.now facts.now }
     ensures { OnOk result (text.new.items ≡ text.old.items
-        ++ alarm_text (operation_of (program_with program.now facts.now)) bytes.now numbers.now others.now next alarm
-        details.now) }
+        ++ alarm_text (operation_of (program_with program.now facts.now)) others.now next alarm) }
 {
     if is_race(alarm) {
-        push_race_alarm(alloc, text, bytes, alarm.place, details)
+        push_race_alarm(alloc, text, alarm.place)
     } else {
-        push_other(
-            alloc, text, bytes, numbers, program, facts, others, next, details,
-        )
+        push_other(alloc, text, program, facts, others, next)
     }
 }
 
@@ -104,58 +89,42 @@ fn push_alarm(
 fn push_alarm_at(
     alloc: Global,
     text: &mut Vec<u8>,
-    bytes: &[u8],
-    numbers: &[Option<u32>],
     program: &Program,
     facts: &ProgramFacts,
     report: &[Alarm],
     others: &[AlarmContexts],
-    details: &[AlarmDetails],
     next: usize,
     at: usize,
 ) -> Result<(), NoMemory>
     requires analysable { IsAnalysable program.now }
     requires facts { AreProgramFacts program.now facts.now }
     ensures { OnOk result (text.new.items ≡ text.old.items
-        ++ alarm_at (operation_of (program_with program.now facts.now)) bytes.now numbers.now report.now others.now
-        details.now next at) }
+        ++ alarm_at (operation_of (program_with program.now facts.now)) report.now others.now next at) }
 {
     match report.get(at) {
         None => Ok(()),
-        Some(alarm) => match details.get(at) {
-            None => Ok(()),
-            Some(found) => push_alarm(
-                alloc, text, bytes, numbers, program, facts, others, next, *alarm, found,
-            ),
-        },
+        Some(alarm) => push_alarm(alloc, text, program, facts, others, next, *alarm),
     }
 }
 
-/// Appends the alarms of a report, of which those that are not races have these contexts, in the same order, and each
-/// has details at its place.
+/// Appends the alarms of a report, of which those that are not races have these contexts, in the same order.
 pub(crate) fn push_alarms(
     alloc: Global,
     text: &mut Vec<u8>,
-    bytes: &[u8],
-    numbers: &[Option<u32>],
     program: &Program,
     facts: &ProgramFacts,
     report: &[Alarm],
     others: &[AlarmContexts],
-    details: &[AlarmDetails],
 ) -> Result<(), NoMemory>
     requires analysable { IsAnalysable program.now }
     requires facts { AreProgramFacts program.now facts.now }
     ensures { OnOk result (text.new.items ≡ text.old.items
-        ++ alarms_text (operation_of (program_with program.now facts.now)) bytes.now numbers.now report.now others.now
-        details.now) }
+        ++ alarms_text (operation_of (program_with program.now facts.now)) report.now others.now) }
 {
     let mut next = 0;
     for at in 0..report.len() {
         push_comma(text, at)?;
-        push_alarm_at(
-            alloc, text, bytes, numbers, program, facts, report, others, details, next, at,
-        )?;
+        push_alarm_at(alloc, text, program, facts, report, others, next, at)?;
         next += others_at(report, at);
     }
     Ok(())

@@ -1,20 +1,52 @@
 //! Alarms that are not races.
 ghost use Rattle.std.specs.Prelude.{◌≡◌, ◌++◌, OnOk, length};
-ghost use Rattle.program_notes.specs.ContextTexts.{task_at, tasks_below, context_front, context_middle, context_back};
-ghost use Rattle.program_notes.specs.ContextTexts.{context_text};
+ghost use Rattle.program_notes.specs.ContextTexts.{operand_at, operands_below, task_at, tasks_below, context_front};
+ghost use Rattle.program_notes.specs.ContextTexts.{context_back, context_text};
 
 use crate::edges::{edge_body, is_first};
-use crate::operand_objects::push_operands;
-use crate::path_objects::push_paths;
+use crate::flaws::push_flaws;
 use alarm_contexts::{AlarmContexts, ContextEdge};
 use flow_graph::Operation;
-use note_details::AlarmDetails;
 use notes_json::{
-    push_alarm_back, push_alarm_end, push_alarm_front, push_alarm_lines, push_alarm_middle,
-    push_comma, push_number, text_of,
+    push_alarm_back, push_alarm_end, push_alarm_front, push_alarm_middle, push_comma, push_number,
+    push_operand, role_at,
 };
+use pointer_dom::AbsValue;
 use std::alloc::Global;
 use tm_lattice::NoMemory;
+
+/// Appends the operand at this place of a list, if there is one.
+fn push_operand_at(
+    alloc: Global,
+    text: &mut Vec<u8>,
+    operands: &[AbsValue],
+    operation: Operation,
+    at: usize,
+) -> Result<(), NoMemory>
+    ensures { OnOk result (text.new.items ≡ text.old.items ++ operand_at operation operands.now at) }
+{
+    match operands.get(at) {
+        None => Ok(()),
+        Some(value) => push_operand(alloc, text, role_at(operation, at), value),
+    }
+}
+
+/// Appends operands.
+fn push_operands(
+    alloc: Global,
+    text: &mut Vec<u8>,
+    operands: &[AbsValue],
+    operation: Operation,
+) -> Result<(), NoMemory>
+    ensures { OnOk result (text.new.items ≡ text.old.items
+        ++ operands_below operation operands.now (length operands.now)) }
+{
+    for at in 0..operands.len() {
+        push_comma(text, at)?;
+        push_operand_at(alloc, text, operands, operation, at)?;
+    }
+    Ok(())
+}
 
 /// Appends the task of an edge, where it is the first of that.
 fn push_task_at(
@@ -42,18 +74,14 @@ fn push_tasks(alloc: Global, text: &mut Vec<u8>, edges: &[ContextEdge]) -> Resul
     Ok(())
 }
 
-/// Appends what stands of an alarm with this operation up to its operands, and these.
+/// Appends what stands of an alarm with this operation up to its operands.
 fn push_front(
     alloc: Global,
     text: &mut Vec<u8>,
-    bytes: &[u8],
-    numbers: &[Option<u32>],
     alarm: &AlarmContexts,
     operation: Operation,
-    details: &AlarmDetails,
 ) -> Result<(), NoMemory>
-    ensures { OnOk result (text.new.items ≡ text.old.items
-        ++ context_front bytes.now numbers.now alarm.now operation details.now) }
+    ensures { OnOk result (text.new.items ≡ text.old.items ++ context_front alarm.now operation) }
 {
     push_alarm_front(
         alloc,
@@ -63,33 +91,11 @@ fn push_front(
         alarm.always,
         operation,
     )?;
-    let function = text_of(bytes, details.function);
-    push_alarm_lines(alloc, text, alarm.place, function, operation)?;
-    push_operands(
-        alloc,
-        text,
-        numbers,
-        &alarm.flaws,
-        operation,
-        &details.operands,
-        &alarm.operands,
-    )
+    push_flaws(alloc, text, &alarm.flaws)?;
+    push_alarm_middle(alloc, text, alarm.place, operation)
 }
 
-/// Appends its operator and its call paths.
-fn push_middle(
-    alloc: Global,
-    text: &mut Vec<u8>,
-    operation: Operation,
-    details: &AlarmDetails,
-) -> Result<(), NoMemory>
-    ensures { OnOk result (text.new.items ≡ text.old.items ++ context_middle operation details.now) }
-{
-    push_alarm_middle(alloc, text, operation, details.path_count)?;
-    push_paths(alloc, text, &details.paths)
-}
-
-/// Appends what stands behind these.
+/// Appends these, and what stands behind them.
 fn push_back(
     alloc: Global,
     text: &mut Vec<u8>,
@@ -98,25 +104,22 @@ fn push_back(
 ) -> Result<(), NoMemory>
     ensures { OnOk result (text.new.items ≡ text.old.items ++ context_back alarm.now operation) }
 {
+    push_operands(alloc, text, &alarm.operands, operation)?;
     push_alarm_back(text, operation)?;
     push_tasks(alloc, text, &alarm.edges)?;
-    push_alarm_end(text, operation)
+    push_alarm_end(text, operation)?;
+    Ok(())
 }
 
-/// Appends an alarm with this operation and these details.
+/// Appends an alarm with this operation.
 pub(crate) fn push_context(
     alloc: Global,
     text: &mut Vec<u8>,
-    bytes: &[u8],
-    numbers: &[Option<u32>],
     alarm: &AlarmContexts,
     operation: Operation,
-    details: &AlarmDetails,
 ) -> Result<(), NoMemory>
-    ensures { OnOk result (text.new.items ≡ text.old.items
-        ++ context_text bytes.now numbers.now alarm.now operation details.now) }
+    ensures { OnOk result (text.new.items ≡ text.old.items ++ context_text alarm.now operation) }
 {
-    push_front(alloc, text, bytes, numbers, alarm, operation, details)?;
-    push_middle(alloc, text, operation, details)?;
+    push_front(alloc, text, alarm, operation)?;
     push_back(alloc, text, alarm, operation)
 }

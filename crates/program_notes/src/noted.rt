@@ -1,7 +1,7 @@
 //! What is noted of a program.
 use access_groups::AccessGroup;
 use alarm_contexts::AlarmContexts;
-use note_details::Details;
+use request_circles::Ring;
 use tm_terms::Report;
 use value_ranges::Ranges;
 
@@ -14,8 +14,8 @@ pub struct Contents {
     pub others: Vec<AlarmContexts>,
     /// The objects with races, with all accesses to each.
     pub groups: Vec<AccessGroup>,
+    /// Rings of requests for mutexes.
+    pub rings: Vec<Ring>,
     /// The bounds of objects, and the dead places.
     pub ranges: Ranges,
-    /// Details of the alarms, the groups and the objects, of which nothing is promised.
-    pub details: Details,
 }

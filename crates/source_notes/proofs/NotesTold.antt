@@ -21,11 +21,13 @@ use Rattle.source_programs.proofs.Accepted.{accepted_is_program}
 use Rattle.sound_core.proofs.GroupedAccesses.{accesses_listed}
 use Rattle.sound_core.proofs.Rings.{ring_listed}
 use Rattle.sound_core.proofs.ToldStops.{stops_listed}
+use Rattle.sound_notes.proofs.Told.{operands_listed}
+use Rattle.sound_notes.proofs.Always.{always_ends}
 use Rattle.program_streams.specs.declared.statuses.Status.{Status}
 use Rattle.program_streams.specs.declared.statuses.Status.TheVariants.{NoAlarm, Alarms, Refused, Usage, ReadFault}
 use Rattle.program_streams.specs.declared.statuses.Status.TheVariants.{WriteFault, NoMemory}
 use Rattle.program_streams.specs.Statuses.{IsWhole}
-use Rattle.source_findings.specs.Findings.{Solves, FindsRanges}
+use Rattle.source_findings.specs.Findings.{Solves, FindsRanges, TellsWaits, TellsRanges}
 use Rattle.value_ranges.specs.declared.object_bounds.ObjectBounds.{ObjectBounds}
 use Rattle.value_ranges.specs.Ranges.{AreRanges}
 use Rattle.value_ranges.specs.Places.{AreDead}
@@ -48,11 +50,22 @@ use Rattle.source_notes.specs.AlarmTexts.{alarms_text}
 use Rattle.program_notes.specs.Operations.{operation_of}
 use Rattle.source_notes.specs.declared.names.Names.{Names}
 use Rattle.source_notes.specs.declared.answers.Note.{Note}
-use Rattle.source_notes.specs.declared.answers.Note.TheVariants.{Rings, Races, Alarms as Others, Whole}
+use Rattle.source_notes.specs.declared.answers.Note.TheVariants.{Rings, Races, Alarms as Others, Whole, Parts}
 use Rattle.source_notes.specs.Notes.{rings_status, races_status, alarms_status, TellsRings, TellsRaces, TellsAlarms}
 use Rattle.source_notes.specs.Notes.{FindsRings, FindsRaces, FindsAlarms, Declares, TellsNotes}
-use Rattle.source_notes.specs.Notes.{report_status, Tells, HasNotes}
-use Rattle.source_notes.specs.reading.Told.{TellsRingsOf, TellsRacesOf, TellsAlarmsOf, TellsNotesOf, TellsOf}
+use Rattle.source_notes.specs.Notes.{report_status, TellsReport, TellsParts, Tells, HasNotes}
+use Rattle.source_notes.specs.PartTexts.{Part}
+use Rattle.source_notes.specs.reading.Told.{TellsRingsOf, TellsRacesOf, TellsAlarmsOf, TellsNotesOf}
+use Rattle.source_notes.specs.reading.PartsTold.{TellsReportOf, TellsPartsOf, TellsOf}
+use Rattle.source_findings.specs.Tellings.{TellsWaitsOf, TellsRangesOf, bounds_line_of}
+use Rattle.solution_lines.specs.SolutionTexts.{dead_text}
+use Rattle.program_solutions.specs.program_equations.Readings.{read_layout}
+use Rattle.std.specs.List.{flat_map}
+
+-- a part of which more is told
+of_part : {A B : Status → List ℕ → Type 0} → ((status : Status) (text : List ℕ) → A status text → B status text)
+    → Part A → Part B
+of_part f q = record { status = q.status; text = q.text; told = f q.status q.text q.told }
 
 module _ (bytes : List ℕ) (p : ProgramBodies) (a : IsAccepted [] bytes p) (few : length a.laid.objects ≤ 2 ^ 32)
     (pair : Pair) (least : IsLeastPair p pair) where
@@ -88,6 +101,9 @@ module _ (bytes : List ℕ) (p : ProgramBodies) (a : IsAccepted [] bytes p) (few
     solves = solves;
     are = are;
     listed = stops_listed a.laid p (comes_from [] bytes p a) is few pair.tables pair.store least.solution alarms are;
+    operands = operands_listed a.laid p (comes_from [] bytes p a) is few pair.tables pair.store least.solution alarms
+        are;
+    ends = always_ends a.laid p (comes_from [] bytes p a) is few pair.tables pair.store least.solution alarms are;
     alarmed = λ report r place class other.
         report_alarms p (tables_of pair.tables) report alarms r are place class other;
   }
@@ -112,6 +128,36 @@ module _ (bytes : List ℕ) (p : ProgramBodies) (a : IsAccepted [] bytes p) (few
     nowhere = λ w reached place has body may acts. never_listed a.laid p (comes_from [] bytes p a) is few
         pair.tables pair.store least.solution w reached dead places place has body may acts;
   }
+
+  -- the waits and the ranges, as `waits` and `ranges` tell them
+  waits_told : (status : Status) (text : List ℕ) → TellsWaitsOf p pair status text → TellsWaits bytes status text
+  unfolding solves
+  waits_told status text t = record {
+    places = t.places;
+    finds = record {
+      solves = solves;
+      are = t.are;
+      rings = λ w reached tasks ring. ring_listed a.laid p (comes_from [] bytes p a) is few pair.tables pair.store
+          least.solution t.places t.are w reached tasks ring;
+    };
+    comes = t.comes;
+    is = t.is;
+  }
+
+  ranges_told : (status : Status) (text : List ℕ) → TellsRangesOf p bytes pair status text
+      → TellsRanges bytes status text
+  unfolding solves ranges_found
+  ranges_told status text t =
+      let of = a.is in
+      let same : p.laid ≡ read_layout a.laid = of.laid in
+      record {
+        bounds = t.bounds;
+        dead = t.dead;
+        finds = ranges_found t.bounds t.dead t.ranges t.places;
+        comes = t.comes;
+        is = t.is
+            ∙ ap (λ (l : LaidTree). flat_map (bounds_line_of bytes l.objects) t.bounds ++ dead_text t.dead) same;
+      }
 
   module _ (laid : LaidTree) (of : IsLaidSource bytes laid) (names : Names) (are_tasks : names.tasks.items
       ≡ task_names laid) (are_priorities : names.priorities.items ≡ task_priorities laid) (are_mutexes
@@ -177,6 +223,7 @@ module _ (bytes : List ℕ) (p : ProgramBodies) (a : IsAccepted [] bytes p) (few
             others = alarms_found c.others.items are.others;
             paired = paired_found c.others.items report.alarms.items are.others are.report;
             groups = races_found c.groups.items are.groups;
+            rings = rings_found c.rings.items are.rings;
             ranges = ranges_found r.bounds.items r.dead.items are.bounds are.dead;
           };
           comes = t.comes;
@@ -186,6 +233,29 @@ module _ (bytes : List ℕ) (p : ProgramBodies) (a : IsAccepted [] bytes p) (few
           declares = declares;
           is = t.is;
         }
+
+    report_told : (status : Status) (text : List ℕ) → TellsReportOf p pair status text → TellsReport bytes status text
+    unfolding solves
+    report_told status text t = record {
+      report = t.report;
+      finds = record { solves = solves; is = t.are };
+      comes = t.comes;
+      is = t.is;
+    }
+
+    parts_told : (status : Status) (text : List ℕ) → TellsPartsOf p bytes names pair status text
+        → TellsParts bytes status text
+    unfolding of_part
+    parts_told status text t = record {
+      report = of_part report_told t.report;
+      waits = of_part waits_told t.waits;
+      ranges = of_part ranges_told t.ranges;
+      rings = of_part rings_told t.rings;
+      races = of_part races_told t.races;
+      alarms = of_part alarms_told t.alarms;
+      comes = t.comes;
+      is = t.is;
+    }
 
     -- the status is one of the two
     rings_by : (rings : List Ring) (status : Status) (text : List ℕ) → status ≡ rings_status rings
@@ -216,6 +286,13 @@ module _ (bytes : List ℕ) (p : ProgramBodies) (a : IsAccepted [] bytes p) (few
     notes_by (alarm ∷ report) status text e t =
         subst (λ s. TellsNotes bytes s text → HasNotes Whole bytes s text) (sym e) (λ u. u) t
 
+    parts_by : (report : List Alarm) (status : Status) (text : List ℕ) → status ≡ report_status report
+        → TellsParts bytes status text → HasNotes Parts bytes status text
+    parts_by [] status text e t =
+        subst (λ s. TellsParts bytes s text → HasNotes Parts bytes s text) (sym e) (λ u. u) t
+    parts_by (alarm ∷ report) status text e t =
+        subst (λ s. TellsParts bytes s text → HasNotes Parts bytes s text) (sym e) (λ u. u) t
+
     pub told : (n : Note) (status : Status) (text : List ℕ) → TellsOf n p bytes names declared pair status text
         → HasNotes n bytes status text
     told Rings status text t = rings_by t.rings status text t.comes (rings_told status text t)
@@ -223,6 +300,10 @@ module _ (bytes : List ℕ) (p : ProgramBodies) (a : IsAccepted [] bytes p) (few
     told Others status text t = alarms_by t.alarms status text t.comes (alarms_told status text t)
     told Whole status text t =
         let c = t.contents in let r = c.report in notes_by r.alarms.items status text t.comes (notes_told status text t)
+    told Parts status text t =
+        let q = t.report in
+        let r = q.told in
+        parts_by r.report status text (t.comes ∙ r.comes) (parts_told status text t)
 
 -- ## Whole texts
 
@@ -260,6 +341,7 @@ solved_by Rings bytes status text t = (let f = t.finds in f.solves)
 solved_by Races bytes status text t = (let f = t.finds in f.solves)
 solved_by Others bytes status text t = (let f = t.finds in f.solves)
 solved_by Whole bytes status text t = (let f = t.finds in let r = f.report in r.solves)
+solved_by Parts bytes status text t = (let q = t.report in let r = q.told in let f = r.finds in f.solves)
 
 pub longer_notes : (n : Note) (bytes more : List ℕ) → longest_source < length bytes → (status : Status) (text : List ℕ)
     → HasNotes n bytes status text → HasNotes n (bytes ++ more) status text

@@ -1,6 +1,6 @@
 -- What is answered to a source: the rings in which its tasks may come to wait for each other, its races by object, its
--- other alarms and what they stand on, or all of this and its ranges and dead places.
-use Rattle.std.specs.Prelude.{◌≡◌, ◌↔◌, ℕ, List, [], ◌∷◌, map, Contains}
+-- other alarms and what they stand on, all of this and its ranges and dead places, or each as a text of its own.
+use Rattle.std.specs.Prelude.{◌≡◌, ◌↔◌, ℕ, List, [], ◌∷◌, ◌++◌, map, Contains, codes}
 use Rattle.tm_cint.specs.declared.Class.{Class}
 use Rattle.tm_cint.specs.declared.Class.TheVariants.{Race}
 use Rattle.tm_terms.specs.declared.alarms.Alarm.{Alarm}
@@ -24,7 +24,9 @@ use Rattle.program_streams.specs.declared.statuses.Status.TheVariants.{NoAlarm, 
 use Rattle.program_streams.specs.declared.statuses.Status.TheVariants.{WriteFault, NoMemory}
 use Rattle.sound_core.specs.Accesses.{ListsAccesses}
 use Rattle.sound_core.specs.Stops.{ListsStops}
-use Rattle.source_findings.specs.Findings.{Solves, ListsRings, FindsRanges}
+use Rattle.sound_notes.specs.Passes.{ListsOperands, EndsAlways}
+use Rattle.report_json.specs.JsonReports.{json_text}
+use Rattle.source_findings.specs.Findings.{Solves, ListsRings, FindsRanges, TellsWaits, TellsRanges}
 use Rattle.program_notes.specs.Declarations.{runners_of, mutexes_of, objects_of}
 use Rattle.program_notes.specs.AlarmTexts.{other_alarms}
 use Rattle.program_notes.specs.NotesTexts.{notes_text}
@@ -34,9 +36,10 @@ use Rattle.source_notes.specs.Names.{task_names, task_priorities, mutex_names, o
 use Rattle.source_notes.specs.RingTexts.{rings_text}
 use Rattle.source_notes.specs.RaceTexts.{groups_text}
 use Rattle.source_notes.specs.AlarmTexts.{alarms_text}
+use Rattle.source_notes.specs.PartTexts.{Part, shown}
 use Rattle.program_notes.specs.Operations.{operation_of}
 use Rattle.source_notes.specs.declared.answers.Note.{Note}
-use Rattle.source_notes.specs.declared.answers.Note.TheVariants.{Rings, Races, Alarms as Others, Whole}
+use Rattle.source_notes.specs.declared.answers.Note.TheVariants.{Rings, Races, Alarms as Others, Whole, Parts}
 
 -- ## Rings
 
@@ -91,11 +94,17 @@ pub record TellsRaces (bytes : List ℕ) (status : Status) (text : List ℕ) : T
 
 -- The alarms in the tables of the least solution, each with its edges and operands, that are not races. Wherever a run
 -- stops with an error, one of them tells it: the body that stops stands before one of its edges, with values that lie
--- in its operands. And the report of these tables has of the other classes exactly these.
+-- in its operands. Each time that a run comes before such an edge, where its class is not excluded, its values lie in
+-- these operands, whether or not it stops; and of an alarm of always none goes on by itself from there. And the report
+-- of these tables has of the other classes exactly these.
 pub record FindsAlarms (bytes : List ℕ) (alarms : List AlarmContexts) : Type 0 where
   pub solves : Solves bytes
   pub are : (let s = solves in let pair = s.pair in AreContexts s.program (tables_of pair.tables) alarms)
   pub listed : (let s = solves in let a = s.accepted in ListsStops a.laid s.program alarms)
+  pub operands : (let s = solves in let a = s.accepted in let pair = s.pair in
+      ListsOperands a.laid s.program (tables_of pair.tables) alarms)
+  pub ends : (let s = solves in let a = s.accepted in let pair = s.pair in
+      EndsAlways a.laid s.program (tables_of pair.tables) alarms)
   pub alarmed : (let s = solves in let pair = s.pair in (report : List Alarm)
       → IsReport s.program (tables_of pair.tables) report → (place : Place) (class : Class) → (class ≡ Race → ⊥)
       → Contains report (record { place = place; class = class }) ↔ HasAlarm alarms place class)
@@ -120,14 +129,14 @@ pub record FindsReport (bytes : List ℕ) (report : List Alarm) : Type 0 where
   pub solves : Solves bytes
   pub is : (let s = solves in let pair = s.pair in IsReport s.program (tables_of pair.tables) report)
 
--- The report of the least solution, the alarms of it that are not races, in the same order, the races by object, and the
--- bounds of objects with the dead places, each with what that promises of runs. Of the details beside them nothing is
--- promised.
+-- The report of the least solution, the alarms of it that are not races, in the same order, the races by object, the
+-- rings, and the bounds of objects with the dead places, each with what that promises of runs.
 pub record FindsNotes (bytes : List ℕ) (c : Contents) : Type 0 where
   pub report : (let r = c.report in FindsReport bytes r.alarms.items)
   pub others : FindsAlarms bytes c.others.items
   pub paired : (let r = c.report in map alarm_of c.others.items ≡ other_alarms r.alarms.items)
   pub groups : FindsRaces bytes c.groups.items
+  pub rings : FindsRings bytes c.rings.items
   pub ranges : (let r = c.ranges in FindsRanges bytes r.bounds.items r.dead.items)
 
 -- whether there is an alarm
@@ -152,6 +161,29 @@ pub record TellsNotes (bytes : List ℕ) (status : Status) (text : List ℕ) : T
   pub is : (let o = finds.others in let s = o.solves in
       text ≡ notes_text bytes declared (operation_of s.program) contents)
 
+-- ## All texts
+
+-- the report alone
+pub record TellsReport (bytes : List ℕ) (status : Status) (text : List ℕ) : Type 0 where
+  pub report : List Alarm
+  pub finds : FindsReport bytes report
+  pub comes : status ≡ report_status report
+  pub is : text ≡ json_text report
+
+-- The report as JSON, the waits, the ranges, and the notes on rings, races and other alarms, each as it is answered
+-- alone, behind a line with its name, its status and its length; the status is that of the report.
+pub record TellsParts (bytes : List ℕ) (status : Status) (text : List ℕ) : Type 0 where
+  pub report : Part (TellsReport bytes)
+  pub waits : Part (TellsWaits bytes)
+  pub ranges : Part (TellsRanges bytes)
+  pub rings : Part (TellsRings bytes)
+  pub races : Part (TellsRaces bytes)
+  pub alarms : Part (TellsAlarms bytes)
+  pub comes : status ≡ report.status
+  pub is : text ≡ ((((shown (codes "report") report ++ shown (codes "waits") waits)
+      ++ shown (codes "ranges") ranges) ++ shown (codes "rings") rings)
+      ++ shown (codes "races") races) ++ shown (codes "alarms") alarms
+
 -- ## All
 
 abbrev pub Tells : Note → List ℕ → Status → List ℕ → Type 0
@@ -159,6 +191,7 @@ Tells Rings = TellsRings
 Tells Races = TellsRaces
 Tells Others = TellsAlarms
 Tells Whole = TellsNotes
+Tells Parts = TellsParts
 
 -- The status and the text that these bytes are answered with.
 abbrev pub HasNotes : Note → List ℕ → Status → List ℕ → Type 0

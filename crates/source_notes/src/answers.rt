@@ -3,17 +3,18 @@ ghost use Rattle.std.specs.Prelude.{◌≡◌, IfOk};
 ghost use Rattle.program_solutions.specs.program_systems.ReadPrograms.{program_of};
 ghost use Rattle.program_solutions.specs.LeastReports.{IsLeastPair};
 ghost use Rattle.source_notes.specs.Notes.{HasNotes, rings_status, races_status, alarms_status, report_status};
-ghost use Rattle.source_notes.specs.reading.Told.{TellsOf, TellsRingsOf, TellsRacesOf, TellsAlarmsOf, TellsNotesOf};
+ghost use Rattle.source_notes.specs.reading.Told.{TellsRingsOf, TellsRacesOf, TellsAlarmsOf, TellsNotesOf};
 ghost use Rattle.source_notes.specs.reading.Told.{AreContents};
+ghost use Rattle.source_notes.specs.reading.PartsTold.{TellsOf};
 
 use crate::alarm_operations::alarms_text;
 use crate::names::{Names, names_of};
+use crate::parts::parts_reply;
 use crate::race_lines::groups_text;
 use crate::ring_lines::rings_text;
-use access_groups::{AccessGroup, groups, sites};
+use access_groups::{AccessGroup, groups};
 use alarm_contexts::{AlarmContexts, alarm_contexts};
 use lock_waits::rings;
-use note_details::details;
 use program_notes::{Contents, Declared, declared_of, notes_text};
 use program_reports::judge;
 use program_solutions::{Analysis, Solution, solution};
@@ -34,8 +35,11 @@ pub enum Note {
     Races,
     /// Alarms of values and locks, and what they stand on.
     Alarms,
-    /// All of it but rings, with ranges and dead places, as one line of JSON.
+    /// All of it, with ranges and dead places, as one line of JSON.
     Whole,
+    /// The report as JSON, the waits, the ranges, and the notes on rings, races and other alarms, each as it is
+    /// answered alone, behind a line with its name, its status and its length in bytes.
+    Parts,
 }
 
 /// A status and the whole text that goes with it. Names stand in it byte for byte, as in the source.
@@ -79,7 +83,7 @@ fn alarms_status(alarms: &[AlarmContexts]) -> Status
 }
 
 /// Whether there is an alarm in a report.
-fn report_status(report: &[Alarm]) -> Status
+pub(crate) fn report_status(report: &[Alarm]) -> Status
     ensures { result ≡ report_status report.now }
 {
     if report.is_empty() {
@@ -90,7 +94,7 @@ fn report_status(report: &[Alarm]) -> Status
 }
 
 /// What a least solution tells of rings.
-fn rings_reply(
+pub(crate) fn rings_reply(
     alloc: Heap,
     bytes: &[u8],
     names: &Names,
@@ -111,7 +115,7 @@ fn rings_reply(
 }
 
 /// What a least solution tells of races.
-fn races_reply(
+pub(crate) fn races_reply(
     alloc: Heap,
     bytes: &[u8],
     names: &Names,
@@ -132,7 +136,7 @@ fn races_reply(
 }
 
 /// What a least solution tells of alarms.
-fn alarms_reply(
+pub(crate) fn alarms_reply(
     alloc: Heap,
     bytes: &[u8],
     names: &Names,
@@ -153,12 +157,7 @@ fn alarms_reply(
 }
 
 /// All that a least solution tells.
-fn contents_of(
-    alloc: Heap,
-    bytes: &[u8],
-    analysis: &Analysis,
-    found: &Solution,
-) -> Result<Contents, NoMemory>
+fn contents_of(alloc: Heap, analysis: &Analysis, found: &Solution) -> Result<Contents, NoMemory>
     requires { IsLeastPair (program_of analysis.now) found.now }
     ensures { IfOk result (λ contents. AreContents (program_of analysis.now) found.now contents) }
 {
@@ -166,26 +165,14 @@ fn contents_of(
     let report = judge(alloc, program, facts, found.tables(), found.store())?;
     let others = alarm_contexts(alloc, program, facts, found.tables(), found.store())?;
     let groups = groups(alloc, program, facts, found.tables(), found.store())?;
+    let rings = rings(alloc, program, found.tables())?;
     let ranges = ranges(alloc, program, facts, found.tables(), found.store())?;
-    let sites = sites(alloc, program, facts, found.tables(), found.store())?;
-    let details = details(
-        alloc,
-        bytes,
-        &program.laid,
-        &program.graphs.graphs,
-        found.tables(),
-        found.store(),
-        &report.alarms,
-        &others,
-        &groups,
-        &sites,
-    )?;
     Ok(Contents {
         report,
         others,
         groups,
+        rings,
         ranges,
-        details,
     })
 }
 
@@ -202,7 +189,7 @@ fn whole_reply(
         found.now reply.status reply.text.items) }
 {
     let (program, facts) = analysis.parts();
-    let contents = contents_of(alloc, bytes, analysis, found)?;
+    let contents = contents_of(alloc, analysis, found)?;
     let text = notes_text(alloc, bytes, declared, program, facts, &contents)?;
     Ok(NoteReply {
         status: report_status(&contents.report.alarms),
@@ -229,6 +216,7 @@ fn reply_of(
         Note::Races => races_reply(alloc, bytes, names, analysis, found),
         Note::Alarms => alarms_reply(alloc, bytes, names, analysis, found),
         Note::Whole => whole_reply(alloc, bytes, declared, analysis, found),
+        Note::Parts => parts_reply(alloc, bytes, names, analysis, found),
     }
 }
 

@@ -24,8 +24,6 @@ use Rattle.source_notes.specs.AlarmTexts.{alarms_text}
 use Rattle.program_notes.specs.Operations.{operation_of}
 use Rattle.source_notes.specs.declared.names.Names.{Names}
 use Rattle.source_notes.specs.declared.names.ObjectName.{ObjectName}
-use Rattle.source_notes.specs.declared.answers.Note.{Note}
-use Rattle.source_notes.specs.declared.answers.Note.TheVariants.{Rings, Races, Alarms, Whole}
 
 pub record TellsRingsOf (p : ProgramBodies) (bytes : List ℕ) (tasks mutexes : List Name) (pair : Pair)
     (status : Status) (text : List ℕ) : Type 0 where
@@ -54,6 +52,7 @@ pub record AreContents (p : ProgramBodies) (pair : Pair) (c : Contents) : Type 0
   pub report : (let r = c.report in IsReport p (tables_of pair.tables) r.alarms.items)
   pub others : AreContexts p (tables_of pair.tables) c.others.items
   pub groups : AreGroups p (tables_of pair.tables) c.groups.items
+  pub rings : AreRings p (tables_of pair.tables) c.rings.items
   pub bounds : (let r = c.ranges in AreRanges p (tables_of pair.tables) pair.store r.bounds.items)
   pub dead : (let r = c.ranges in AreDead p (tables_of pair.tables) r.dead.items)
 
@@ -63,9 +62,3 @@ pub record TellsNotesOf (p : ProgramBodies) (bytes : List ℕ) (declared : Decla
   pub are : AreContents p pair contents
   pub comes : (let r = contents.report in status ≡ report_status r.alarms.items)
   pub is : text ≡ notes_text bytes declared (operation_of p) contents
-
-abbrev pub TellsOf : Note → ProgramBodies → List ℕ → Names → Declared → Pair → Status → List ℕ → Type 0
-TellsOf Rings p bytes names declared = TellsRingsOf p bytes names.tasks.items names.mutexes.items
-TellsOf Races p bytes names declared = TellsRacesOf p bytes names.objects.items names.tasks.items names.mutexes.items
-TellsOf Alarms p bytes names declared = TellsAlarmsOf p bytes names
-TellsOf Whole p bytes names declared = TellsNotesOf p bytes declared

@@ -11,20 +11,16 @@ loop-at-preserved c =
     let at = c.loop-at.at in
     let report = c.args.report.now in
     let others = c.args.others.now in
-    let details = c.args.details.now in
-    let bytes = c.args.bytes.now in
-    let numbers = c.args.numbers.now in
     let of = operation_of (program_with c.args.program.now c.args.facts.now) in
     let so_far = c.loop-at.invariant in
     let counted = so_far.1.0 in
     let within = so_far.1.1 in
     let most = c.others_at-next.ensures.most in (
-      more c.args.text.now.items (alarms_below of bytes numbers report others details at) (comma_before at)
-          (alarm_at of bytes numbers report others details (others_below report at) at) so_far.0
-          c.in_ok-push_comma.ensures
+      more c.args.text.now.items (alarms_below of report others at) (comma_before at)
+          (alarm_at of report others (others_below report at) at) so_far.0 c.in_ok-push_comma.ensures
           (c.in_ok-push_alarm_at.ensures
-          ∙ ap (λ next. c.push_comma.new.text.items ++ alarm_at of bytes numbers report others details next at) counted)
-          ∙ next_of (λ m. c.args.text.now.items ++ alarms_below of bytes numbers report others details m) at,
+          ∙ ap (λ next. c.push_comma.new.text.items ++ alarm_at of report others next at) counted)
+          ∙ next_of (λ m. c.args.text.now.items ++ alarms_below of report others m) at,
       (
         ap (λ next. next + c.others_at-next.result) counted
             ∙ ap (λ more. others_below report at + more) c.others_at-next.ensures.value

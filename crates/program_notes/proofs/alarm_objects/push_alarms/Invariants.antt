@@ -7,5 +7,5 @@ use Rattle.program_notes.proofs.alarm_objects.push_alarms.Given as goal
 -- the alarms so far, and how many of them are not races
 abbrev pub invariant-loop-at : goal.invariant-loop-at
 invariant-loop-at l = (l.text.items ≡ l.fn.text.items
-    ++ alarms_below (operation_of (program_with l.program l.facts)) l.bytes l.numbers l.report l.others l.details l.at)
+    ++ alarms_below (operation_of (program_with l.program l.facts)) l.report l.others l.at)
     × ((l.next ≡ others_below l.report l.at) × (l.next ≤ l.at))

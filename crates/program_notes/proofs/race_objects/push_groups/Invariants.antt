@@ -1,7 +1,8 @@
 use Rattle.std.proofs.Common.{◌≡◌, ◌++◌}
-use Rattle.program_notes.specs.GroupTexts.{groups_below}
+use Rattle.notes_json.specs.Pieces.{listed_below}
+use Rattle.program_notes.specs.GroupTexts.{group_text}
 use Rattle.program_notes.proofs.race_objects.push_groups.Given as goal
 
 -- what is listed so far
 abbrev pub invariant-loop-at : goal.invariant-loop-at
-invariant-loop-at l = l.text.items ≡ l.fn.text.items ++ groups_below l.numbers l.groups l.members l.at
+invariant-loop-at l = l.text.items ≡ l.fn.text.items ++ listed_below group_text l.groups l.at

@@ -12,21 +12,11 @@ returns c =
     let contents = c.args.contents.now in
     let report = contents.report in
     let others = contents.others in
-    let details = contents.details in
-    let bytes = c.args.bytes.now in
     let of = operation_of (program_with c.args.program.now c.args.facts.now) in
-    let before = c.push_bytes.new.text.items in
-    three c.args.text.now.items (codes "{\"alarms\":[")
-    (alarms_text of bytes details.numbers.items report.alarms.items others.items details.alarms.items)
+    three c.args.text.now.items (codes "{\"alarms\":[") (alarms_text of report.alarms.items others.items)
     (count_text report.alarms.items) c.in_ok-push_bytes.ensures
     (c.in_ok-push_alarms.ensures
-    ∙ ap (λ ns. before ++ alarms_text of bytes ns c.deref-2.result.now c.deref-3.result.now c.deref-4.result.now)
-    c.deref.ensures.value
-    ∙ ap (λ rs. before ++ alarms_text of bytes details.numbers.items rs c.deref-3.result.now c.deref-4.result.now)
-    c.deref-2.ensures.value
-    ∙ ap (λ os. before ++ alarms_text of bytes details.numbers.items report.alarms.items os c.deref-4.result.now)
-    c.deref-3.ensures.value
-    ∙ ap (λ ds. before ++ alarms_text of bytes details.numbers.items report.alarms.items others.items ds)
-    c.deref-4.ensures.value)
+    ∙ ap (λ rs. c.push_bytes.new.text.items ++ alarms_text of rs c.deref-2.result.now) c.deref.ensures.value
+    ∙ ap (λ os. c.push_bytes.new.text.items ++ alarms_text of report.alarms.items os) c.deref-2.ensures.value)
     (c.in_ok-push_count.ensures
-    ∙ ap (λ rs. c.push_alarms.new.text.items ++ count_text rs) c.deref-5.ensures.value)
+    ∙ ap (λ rs. c.push_alarms.new.text.items ++ count_text rs) c.deref-3.ensures.value)

@@ -1,1 +1,0 @@
--- Nothing stands here: no clause tells what is found.

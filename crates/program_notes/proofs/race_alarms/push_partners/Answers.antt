@@ -1,8 +1,0 @@
-use Rattle.program_notes.specs.AlarmTexts.{partner_object}
-use Rattle.notes_json.proofs.Chains.{next_listed}
-use Rattle.program_notes.proofs.race_alarms.push_partners.Goals as goal
-
-pub loop-at-preserved : goal.loop-at-preserved
-loop-at-preserved c =
-    next_listed partner_object c.args.partners.now c.loop-at.at c.args.text.now.items
-    c.loop-at.invariant c.in_ok-push_comma.ensures c.in_ok-push_partner_at.ensures
