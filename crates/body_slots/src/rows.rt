@@ -18,11 +18,10 @@ ghost use Rattle.body_slots.specs.Rows.{Values, brought_by, held_in, state_parts
 ghost use Rattle.body_slots.specs.reading.Small.{HasTraced, IsSeenOver, IsPart};
 
 use crate::systems::{SlotSystem, SlotValue, has_cell};
-use cell_carries::carried_cell;
 use cell_env::{CellState, State, TempState};
 use front_constraints::Standing;
 use pointer_dom::AbsValue;
-use row_checks::{is_checked, is_traced};
+use row_checks::{carried_cell, is_checked, is_traced};
 use state_tree::Tree;
 use std::alloc::Global;
 use tm_lattice::{Keyed, Lattice, NoMemory};

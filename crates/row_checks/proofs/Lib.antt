@@ -1,2 +1,4 @@
 pub mod Entries
 pub mod Checked
+pub mod Joined
+pub mod Others

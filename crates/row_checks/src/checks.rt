@@ -140,8 +140,8 @@ fn is_probed_in(
     answer || is_handed_in(laid, set, task, mutex, store)
 }
 
-// All mutexes but one, as bits.
-fn all_but(mutex: u32) -> u16
+/// All mutexes but one, as bits.
+pub(crate) fn all_but(mutex: u32) -> u16
     ensures { result ≡ 65535 - 2 ^ mutex }
 {
     if mutex < 16 { 65535 - (1 << mutex) } else { 0 }

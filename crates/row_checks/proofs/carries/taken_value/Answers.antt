@@ -2,8 +2,8 @@ use Rattle.std.proofs.Common.{◌∙◌, ap, sym, cond}
 use Rattle.pointer_dom.specs.Values.{joined_values, no_value}
 use Rattle.interfere_set.specs.Stores.{handed}
 use Rattle.interfere_set.proofs.Reading.{join_none}
-use Rattle.cell_carries.proofs.Joined.{join_below}
-use Rattle.cell_carries.proofs.carries.taken_value.Goals as goal
+use Rattle.row_checks.proofs.Joined.{join_below}
+use Rattle.row_checks.proofs.carries.taken_value.Goals as goal
 
 pub returns-then-not-is_shared_cell : goal.returns-then-not-is_shared_cell
 returns-then-not-is_shared_cell c =

@@ -1,5 +1,5 @@
 //! What an edge makes of a cell that it carries.
-ghost use Rattle.std.specs.Prelude.{◌≡◌, ◌-◌, ◌^◌, cond, IfOk};
+ghost use Rattle.std.specs.Prelude.{◌≡◌, cond, IfOk};
 ghost use Rattle.tm_laid.specs.Layouts.{laid_tree};
 ghost use Rattle.pointer_dom.specs.Values.{joined_values, no_value};
 ghost use Rattle.interfere_set.specs.Stores.{handed};
@@ -8,6 +8,7 @@ ghost use Rattle.sparse_rows.specs.Carried.{carried_by};
 ghost use Rattle.edge_actions.specs.Layouts.{is_shared_cell};
 ghost use Rattle.edge_actions.specs.Edges.{around_of, action_at};
 
+use crate::checks::all_but;
 use cell_env::CellState;
 use edge_actions::{EdgeView, is_shared_cell};
 use flow_graph::Operation;
@@ -40,13 +41,6 @@ fn taken_value(
         return Ok(value.copied(alloc)?);
     }
     Ok(value.join(alloc, &others)?)
-}
-
-// All mutexes but one, as bits.
-fn all_but(mutex: u32) -> u16
-    ensures { result ≡ 65535 - 2 ^ mutex }
-{
-    if mutex < 16 { 65535 - (1 << mutex) } else { 0 }
 }
 
 // A cell at which a mutex is pending no more.

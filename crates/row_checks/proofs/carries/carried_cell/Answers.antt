@@ -4,9 +4,9 @@ use Rattle.tm_laid.specs.Layouts.{laid_tree}
 use Rattle.flow_graph.specs.declared.operations.Operation.TheVariants as Op
 use Rattle.sparse_rows.specs.Carried.{carried_by}
 use Rattle.edge_actions.specs.Edges.{around_of, action_of, action_at}
-use Rattle.cell_carries.proofs.Others.{others_leave}
-use Rattle.cell_carries.proofs.carries.carried_cell.Goals as goal
-use Rattle.cell_carries.proofs.carries.carried_cell.Goals.{in_default-via-in-Probe+else-not-view, in_default-via-in_default}
+use Rattle.row_checks.proofs.Others.{others_leave}
+use Rattle.row_checks.proofs.carries.carried_cell.Goals as goal
+use Rattle.row_checks.proofs.carries.carried_cell.Goals.{in_default-via-in-Probe+else-not-view, in_default-via-in_default}
 
 pub returns-in-Lock : goal.returns-in-Lock
 unfolding carried_by

@@ -1,2 +1,0 @@
--- The crate below that says what edges make of cells, passed on to those above.
-pub use Rattle.sparse_rows.specs as sparse_rows
