@@ -8,7 +8,7 @@ use Rattle.tm_terms.specs.declared.refusals.Limit.TheVariants as Limits
 use Rattle.tm_terms.specs.Limits.{limit_number}
 use Rattle.tm_laid.specs.Layouts.{LaidTree, first_path}
 use Rattle.flow_graph.specs.declared.graphs.Graph.{Graph}
-use Rattle.body_builder.specs.lowering.Built.{Building, path_piece, function_end, task_end, entry, built}
+use Rattle.body_builder.specs.lowering.Built.{Building, path_piece, function_end, task_end, entry, built, graph_of}
 use Rattle.body_builder.specs.declared.fragments.Fragment.{Fragment}
 use Rattle.body_builder.specs.Fragments.{edges_of, so_far}
 use Rattle.graph_builder.specs.declared.ends.End.{End}
@@ -43,6 +43,11 @@ nodes_of laid f b e = ap (λ (z : Building). z.nodes) e
 edges_in : (laid : LaidTree) (f : Fragment) (b : Building) → so_far laid f ≡ b → edges_of laid f.items.items ≡ b.edges
 unfolding so_far
 edges_in laid f b e = ap (λ (z : Building). z.edges) e
+
+-- as many as the edges of its graph
+pub counted : (laid : LaidTree) (body : ℕ) (f : Fragment) (along : List ℕ) → so_far laid f ≡ built laid body
+    → length along ≡ length (edges_of laid f.items.items) → length along ≡ length (graph_of laid body)
+counted laid body f along e h = h ∙ ap length (edges_in laid f (built laid body) e)
 
 -- the graph of a body is that of its fragment
 pub whole : (laid : LaidTree) (body : ℕ) (f : Fragment) (g : Graph) → so_far laid f ≡ built laid body → g.body ≡ body

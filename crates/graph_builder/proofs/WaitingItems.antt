@@ -17,7 +17,7 @@ unfolding called_edges
 of_call laid c b b' e f = ap (λ (z : Building). z.edges) f
     ∙ ap (λ (z : Building). (path_piece function_end laid c.depth c.path z).at.edges) e
 
-one_back : (is : List Item) (x : Item) → reverse (is ++ x ∷ []) ≡ x ∷ reverse is
+pub one_back : (is : List Item) (x : Item) → reverse (is ++ x ∷ []) ≡ x ∷ reverse is
 one_back is x = reverse-append is (x ∷ [])
 
 -- the items of a call's body, the first of them last, behind those that wait

@@ -27,7 +27,7 @@ impl Paths<'_> {
 
     #[tactic(auto, using(crate::proofs::WaitingItems::opened))]
     // The items of the body of a call, of which the first one is taken next, before those that wait.
-    fn open(&self, waiting: &mut Vec<Item>, call: Call) -> Result<(), NoMemory>
+    pub(crate) fn open(&self, waiting: &mut Vec<Item>, call: Call) -> Result<(), NoMemory>
         ensures { OnOk result (edges_of (tree_in self.now.laid.now) (reverse waiting.new.items)
             ≡ called_edges (tree_in self.now.laid.now) call
             ++ edges_of (tree_in self.now.laid.now) (reverse waiting.old.items)) }

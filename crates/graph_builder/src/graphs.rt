@@ -45,7 +45,7 @@ fn end_of(laid: &Laid, body: u32) -> End
 
 // The path of a body.
 #[tactic(auto, unfolding(body_builder::specs::Fragments::tree_in))]
-fn first_path(laid: &Laid, body: u32) -> u32
+pub(crate) fn first_path(laid: &Laid, body: u32) -> u32
     ensures { result ≡ first_path (tree_in laid.now) body }
 {
     match laid.first_paths.get(body as usize) {
@@ -56,7 +56,7 @@ fn first_path(laid: &Laid, body: u32) -> u32
 
 // How many functions there are: no chain of calls is longer.
 #[tactic(auto, unfolding(body_builder::specs::Fragments::tree_in))]
-fn deepest(laid: &Laid) -> Result<u32, NoMemory>
+pub(crate) fn deepest(laid: &Laid) -> Result<u32, NoMemory>
     ensures { IfOk result (λ n. n ≡ length (tree_in laid.now).file.functions) }
 {
     match u32::try_from(laid.file.functions.len()) {
@@ -67,7 +67,7 @@ fn deepest(laid: &Laid) -> Result<u32, NoMemory>
 
 // How many bodies there are.
 #[tactic(auto, unfolding(body_builder::specs::Fragments::tree_in))]
-fn body_count(laid: &Laid) -> Result<u32, NoMemory>
+pub(crate) fn body_count(laid: &Laid) -> Result<u32, NoMemory>
     ensures { IfOk result (λ n. n ≡ length (tree_in laid.now).bodies) }
 {
     match u32::try_from(laid.bodies.len()) {
@@ -78,7 +78,7 @@ fn body_count(laid: &Laid) -> Result<u32, NoMemory>
 
 // What is built for a body, with marks in the places of its calls.
 #[tactic(auto, using(crate::proofs::GraphPieces::entered), unfolding(body_builder::specs::Fragments::so_far))]
-fn fragment(paths: &Paths<'_>, body: u32) -> Result<Fragment, NoMemory>
+pub(crate) fn fragment(paths: &Paths<'_>, body: u32) -> Result<Fragment, NoMemory>
     ensures { IfOk result (λ f. so_far (tree_in paths.now.laid.now) f ≡ built (tree_in paths.now.laid.now) body) }
 {
     let mut to = Fragment {

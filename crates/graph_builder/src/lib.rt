@@ -5,14 +5,17 @@
 //! In `int f(int x) { return x; } __task(1) void t(void) { f(1); f(2); }` there are three call paths, the task and two
 //! calls of `f`. First the sizes of the calls are found, the last one first: as many nodes and temporaries as their
 //! bodies make. Then the body of the task is built with marks in the places of the calls, and each mark is followed by
-//! the edges of the body for which it stands.
+//! the edges of the body for which it stands. On which call path an edge stands is not told by the graph: it is found
+//! beside it, by the marks.
 #![tactic(auto)]
 
 mod bodies;
+mod call_paths;
 mod ends;
 mod expansions;
 mod graphs;
 mod paths;
 mod sizes;
 
+pub use call_paths::edge_paths;
 pub use graphs::lower;
