@@ -1,5 +1,5 @@
 -- Numbers that integer cells hold are within the bounds of their objects.
-use Rattle.std.proofs.Common.{◌≡◌, refl, sym, subst, ap, ◌∙◌, ℕ, ◌<◌, ◌≤◌, ◌^◌, Bool, true, false, List, length, Option}
+use Rattle.std.proofs.Common.{◌≡◌, refl, sym, subst, ap, ◌∙◌, ℕ, ◌<◌, ◌≤◌, ◌^◌, Bool, true, false, List, length, get_or, Option}
 use Rattle.std.proofs.Common.{Some, None, arith}
 use Rattle.std.specs.Prelude.{ℤ, cond, nat_lt, is_none}
 use Rattle.std.proofs.lemmas.Bool.{ltb-true}
@@ -19,12 +19,14 @@ use Rattle.sound_tables.specs.program_shape.Shape.{IsShared, abstract_of_cell}
 use Rattle.sound_tables.specs.Memberships.{found_at, number_at}
 use Rattle.sound_tables.specs.Starting.{initial_as}
 use Rattle.value_ranges.specs.declared.object_bounds.ObjectBounds.{ObjectBounds}
-use Rattle.value_ranges.specs.Ranges.{IsIntegerCell, IsToldNumber, IsNumberOf, AreRanges}
+use Rattle.value_ranges.specs.declared.object_bounds.Grouping.TheVariants as Groupings
+use Rattle.value_ranges.specs.Ranges.{IsIntegerCell, IsToldNumber, IsNumberBy, IsNumberOf, AreRanges, AreBoundsIf}
+use Rattle.value_ranges.specs.Ranges.{AreCellRanges}
 use Rattle.value_ranges.specs.Ranges.IsToldNumber.{at_first as first_told, at_node as node_told}
 use Rattle.value_ranges.specs.Ranges.IsToldNumber.{in_store as store_told}
 use Rattle.sound_core.specs.Sound.{IsProgramFrom}
 use Rattle.sound_core.specs.Known.{IsTold, at_first, at_node, in_store, HoldsTold}
-use Rattle.sound_core.specs.Ranges.{HoldsNumber, IsWithin}
+use Rattle.sound_core.specs.Ranges.{HoldsNumber, IsWithin, IsWithinCell, StayWithinCells}
 use Rattle.sound_core.proofs.Contents.{all_told}
 
 number_first : (i : Initial) (n : ℤ) → Number n ≡ initial_as i → i ≡ Initials.Number n
@@ -69,19 +71,23 @@ module _ (p : ProgramBodies) (tables : List (List (Option State))) (store : Inte
 module _ (laid : LaidTree) (p : ProgramBodies) (from : IsProgramFrom laid p) (is : IsProgram p)
     (few : length laid.objects ≤ 2 ^ 32) (tables : List (List (Option State))) (store : Interferences)
     (pair : IsPair p tables store) where
-  number_of : (w : World) → IsReached laid w → (object cell : ℕ) (n : ℤ) → HoldsNumber p w object cell n
-      → IsNumberOf p (lists_of tables) store object n
-  number_of w reached object cell n h =
+  number_told_of : (w : World) → IsReached laid w → (object cell : ℕ) (n : ℤ) → HoldsNumber p w object cell n
+      → IsToldNumber p (lists_of tables) store (abstract_of_cell p.laid cell) n
+  number_told_of w reached object cell n h =
       let x = abstract_of_cell p.laid cell in
       let t : HoldsTold p tables store w cell =
       all_told laid p from is few tables store pair w reached cell (shared p tables store object x h.of) in
       let e : Is t.value ≡ Is (Number n) = sym t.holds ∙ h.holds in
       let f : t.value ≡ Number n = cc in
-      record {
-        cell = x;
-        of = h.of;
-        told = number_told p tables store object x n h.of (subst (IsTold p tables store x) f t.told);
-      }
+      number_told p tables store object x n h.of (subst (IsTold p tables store x) f t.told)
+
+  number_of : (w : World) → IsReached laid w → (object cell : ℕ) (n : ℤ) → HoldsNumber p w object cell n
+      → IsNumberOf p (lists_of tables) store object n
+  number_of w reached object cell n h = record {
+    cell = abstract_of_cell p.laid cell;
+    of = h.of;
+    told = number_told_of w reached object cell n h;
+  }
 
   pub within : (list : List ObjectBounds) → AreRanges p (lists_of tables) store list → (w : World) → IsReached laid w
       → (object cell : ℕ) (n : ℤ) → HoldsNumber p w object cell n → IsWithin list object n
@@ -91,3 +97,28 @@ module _ (laid : LaidTree) (p : ProgramBodies) (from : IsProgramFrom laid p) (is
       let b = are.each l.bounds l.has in
       let same = subst (λ o. IsNumberOf p (lists_of tables) store o n) (sym l.of) number in
       record { bounds = l.bounds; has = l.has; of = l.of; low = b.least n same; high = b.greatest n same }
+
+  number_in : (w : World) → IsReached laid w → (object cell : ℕ) (n : ℤ) → HoldsNumber p w object cell n
+      → IsNumberBy p (lists_of tables) store Groupings.Cells (abstract_of_cell p.laid cell) n
+  number_in w reached object cell n h =
+      let x = abstract_of_cell p.laid cell in
+      let of = h.of in
+      record {
+        cell = x;
+        of = (refl, subst (λ o. IsIntegerCell p.laid o x) (sym of.of) of);
+        told = number_told_of w reached object cell n h;
+      }
+
+  -- the bounds of the abstract cell
+  by_bounds : (x : ℕ) (n : ℤ) → IsNumberBy p (lists_of tables) store Groupings.Cells x n
+      → (bounds : List (Option ObjectBounds)) (own : Option ObjectBounds) → get_or bounds x None ≡ own
+      → AreBoundsIf p (lists_of tables) store Groupings.Cells x own → IsWithinCell bounds x n
+  by_bounds x n number bounds None e b = absurd (b n number)
+  by_bounds x n number bounds (Some own) e b =
+      record { own = own; is = e; low = b.least n number; high = b.greatest n number }
+
+  pub within_cells : (bounds : List (Option ObjectBounds)) → AreCellRanges p (lists_of tables) store bounds
+      → StayWithinCells laid p bounds
+  within_cells bounds are w reached object cell n h =
+      let x = abstract_of_cell p.laid cell in
+      by_bounds x n (number_in w reached object cell n h) bounds (get_or bounds x None) refl (are.each x)

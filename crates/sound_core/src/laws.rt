@@ -20,13 +20,13 @@ ghost use Rattle.sound_tables.specs.Starting.{IsStartMemory};
 ghost use Rattle.sound_core.specs.Sound.{IsProgramFrom};
 ghost use Rattle.lock_waits.specs.Waits.{AreWaits};
 ghost use Rattle.value_ranges.specs.declared.object_bounds.ObjectBounds.{ObjectBounds};
-ghost use Rattle.value_ranges.specs.Ranges.{IsIntegerCell, IsListed, AreRanges};
+ghost use Rattle.value_ranges.specs.Ranges.{IsIntegerCell, IsListed, AreRanges, AreCellRanges};
 ghost use Rattle.value_ranges.specs.Places.{IsReachedPlace, AreDead};
 ghost use Rattle.access_groups.specs.declared.object_access.AccessGroup.{AccessGroup};
 ghost use Rattle.access_groups.specs.Groups.{AreGroups};
 ghost use Rattle.alarm_contexts.specs.declared.alarm_context.AlarmContexts.{AlarmContexts};
 ghost use Rattle.alarm_contexts.specs.Contexts.{AreContexts};
-ghost use Rattle.sound_core.specs.Ranges.{HoldsNumber, IsWithin};
+ghost use Rattle.sound_core.specs.Ranges.{HoldsNumber, IsWithin, StayWithinCells};
 ghost use Rattle.sound_core.specs.Places.{ActsAt, MayAct};
 ghost use Rattle.sound_core.specs.Known.{WaitsFor, HasCircular, HoldsAllTold};
 ghost use Rattle.sound_core.specs.Rings.{IsRing, IsLockOfRing};
@@ -107,6 +107,15 @@ pub fn numbers_are_within()
         → length laid.objects ≤ 2 ^ 32 → (tables : List (List (Option State))) (store : Interferences)
         → IsPair p tables store → (list : List ObjectBounds) → AreRanges p (tables_of tables) store list → (w : World)
         → IsReached laid w → (object cell : ℕ) (n : ℤ) → HoldsNumber p w object cell n → IsWithin list object n }
+{}
+
+/// And it lies within the bounds of the abstract cell that stands for the cell, which has some: so the bounds of members
+/// hold what is stored there.
+pub fn numbers_are_within_cells()
+    ensures { (laid : LaidTree) (p : ProgramBodies) → IsProgramFrom laid p → (is : IsProgram p)
+        → length laid.objects ≤ 2 ^ 32 → (tables : List (List (Option State))) (store : Interferences)
+        → IsPair p tables store → (bounds : List (Option ObjectBounds))
+        → AreCellRanges p (tables_of tables) store bounds → StayWithinCells laid p bounds }
 {}
 
 /// Each object of static storage that has an integer cell is listed with its bounds, of every solution.

@@ -9,10 +9,12 @@ use Rattle.std.proofs.lemmas.Option.{slice_get-get_or}
 use Rattle.tm_laid.specs.declared.objects.Initial.{Initial}
 use Rattle.tm_laid.specs.declared.objects.Initial.TheVariants as Initials
 use Rattle.tm_laid.specs.declared.cells.LaidCell.{LaidCell}
-use Rattle.tm_laid.specs.Layouts.{LaidTree, cell_at, no_cell}
+use Rattle.tm_laid.specs.Layouts.{LaidTree, cell_at, abstract_at, no_cell}
 use Rattle.value_ranges.specs.declared.object_bounds.ObjectBounds.{ObjectBounds}
 use Rattle.value_ranges.specs.declared.cells.IntegerCell.{IntegerCell}
-use Rattle.value_ranges.specs.Ranges.{IsIntegerCell}
+use Rattle.value_ranges.specs.declared.object_bounds.Grouping.{Grouping}
+use Rattle.value_ranges.specs.declared.object_bounds.Grouping.TheVariants as Groupings
+use Rattle.value_ranges.specs.Ranges.{IsIntegerCell, IsKeyOf, key_count}
 use Rattle.value_ranges.specs.reading.Notes.{Noted, noted_at, IsNamed, AreListed, AreFirstCells, AreIntegerCells}
 use Rattle.value_ranges.specs.reading.Notes.{AreOfObjects, AreWidened, HasNoted, IsFirst, first_bounds}
 use Rattle.value_ranges.proofs.Widening.{either, below_cases, below_before, below_here, none_below, all_as, same_all}
@@ -102,21 +104,30 @@ module _ (noted : List Noted) where
 
 -- ## Integer cells
 
-module _ (laid : LaidTree) where
-  pub cells_none : AreFirstCells laid 0 []
+-- it is one of those of which numbers may be told, and the cell is there
+pub key_there : (by : Grouping) (laid : LaidTree) (key x : ℕ) → IsKeyOf by laid key x → key < key_count by laid
+key_there Groupings.Objects laid key x of = of.there
+key_there Groupings.Cells laid key x of = let same = of.0 in let lt = of.1.within in omega (arith, same, lt)
+
+key_within : (by : Grouping) (laid : LaidTree) (key x : ℕ) → IsKeyOf by laid key x → x < length laid.abstract_cells
+key_within Groupings.Objects laid key x of = of.within
+key_within Groupings.Cells laid key x of = of.1.within
+
+module _ (by : Grouping) (laid : LaidTree) where
+  pub cells_none : AreFirstCells by laid 0 []
   cells_none object x = (
     λ h. absurd (nothing_contained (record { cell = x; object = object }) h),
     λ h. absurd (let lt = h.1 in omega (arith, lt)),
   )
 
   module _ (i : ℕ) (cells : List IntegerCell) (found : Option ℕ)
-      (is : (o : ℕ) → (found ≡ Some o) ↔ IsIntegerCell laid o i) (h : AreFirstCells laid i cells) where
-    pub cells_same : found ≡ None → AreFirstCells laid (i + 1) cells
+      (is : (o : ℕ) → (found ≡ Some o) ↔ IsKeyOf by laid o i) (h : AreFirstCells by laid i cells) where
+    pub cells_same : found ≡ None → AreFirstCells by laid (i + 1) cells
     cells_same none object x = (
       λ c. let old = (h object x).0 c in (old.0, (let lt = old.1 in omega (arith, lt))),
       λ c. elim (cases_eq x i) [
         | inl same ↦ absurd (let clash : None ≡ Some object =
-            sym none ∙ (is object).1 (subst (λ n. IsIntegerCell laid object n) same c.0) in cc)
+            sym none ∙ (is object).1 (subst (λ n. IsKeyOf by laid object n) same c.0) in cc)
         | inr other ↦ (h object x).1 (c.0, (let lt = c.1 in omega (arith, lt, other)))
       ],
     )
@@ -125,19 +136,19 @@ module _ (laid : LaidTree) where
       abbrev new : IntegerCell
       new = record { cell = i; object = o }
 
-      pub cells_more : AreFirstCells laid (i + 1) (cells ++ new ∷ [])
+      pub cells_more : AreFirstCells by laid (i + 1) (cells ++ new ∷ [])
       cells_more object x = (
         λ c. either
             (λ before. let old = (h object x).0 before in (old.0, (let lt = old.1 in omega (arith, lt))))
             (λ here.
             let cell : i ≡ x = ap (λ (z : IntegerCell). z.cell) here in
             let of : o ≡ object = ap (λ (z : IntegerCell). z.object) here in
-            (subst (λ n. IsIntegerCell laid object n) cell ((is object).0 (e ∙ ap Some of)), omega (arith, cell)))
+            (subst (λ n. IsKeyOf by laid object n) cell ((is object).0 (e ∙ ap Some of)), omega (arith, cell)))
             (Contains-push_cases cells new (record { cell = x; object = object }) c),
         λ c. elim (cases_eq x i) [
           | inl same ↦
               let of : o ≡ object = Some_number o object
-              (sym e ∙ (is object).1 (subst (λ n. IsIntegerCell laid object n) same c.0)) in
+              (sym e ∙ (is object).1 (subst (λ n. IsKeyOf by laid object n) same c.0)) in
               subst (λ (z : IntegerCell). Contains (cells ++ new ∷ []) z)
               (λ j. record { cell = (sym same) j; object = of j }) (Contains-push cells new)
           | inr other ↦ Contains-append_left cells (new ∷ []) (record { cell = x; object = object })
@@ -145,21 +156,21 @@ module _ (laid : LaidTree) where
         ],
       )
 
-  pub cells_all : (i : ℕ) (cells : List IntegerCell) → length laid.abstract_cells ≤ i → AreFirstCells laid i cells
-      → AreIntegerCells laid cells
+  pub cells_all : (i : ℕ) (cells : List IntegerCell) → length laid.abstract_cells ≤ i → AreFirstCells by laid i cells
+      → AreIntegerCells by laid cells
   cells_all i cells end h object x = (
     λ c. ((h object x).0 c).0,
-    λ c. (h object x).1 (c, (let lt = c.within in omega (arith, lt, end))),
+    λ c. (h object x).1 (c, (let lt = key_within by laid object x c in omega (arith, lt, end))),
   )
 
-  -- the object of each is one of the layout
-  pub of_objects : (cells : List IntegerCell) → AreIntegerCells laid cells → (count : ℕ)
-      → count ≡ length laid.objects → AreOfObjects cells count
+  -- what the numbers of each are told of is one of the layout
+  pub of_objects : (cells : List IntegerCell) → AreIntegerCells by laid cells → (count : ℕ)
+      → count ≡ key_count by laid → AreOfObjects cells count
   of_objects cells are count same k d lt =
       let c = get_or cells k d in
       let same_cell : IntegerCell = record { cell = c.cell; object = c.object } in
       let cell = (are c.object c.cell).0 (k, lt, get_or_default cells k same_cell d lt) in
-      let there = cell.there in omega (arith, there, same)
+      let there = key_there by laid c.object c.cell cell in omega (arith, there, same)
 
 -- ## First values
 
@@ -204,9 +215,9 @@ no_value_noted object first e a =
     (λ o n h. let clash : Some (record { object = object; low = n; high = n }) ≡ None =
     sym (ap (first_bounds object) h.1) ∙ e in absurd cc)
 
-module _ (laid : LaidTree) (cell : ℕ) (c : LaidCell) (c-is : c ≡ get_or laid.cells cell c)
+module _ (by : Grouping) (laid : LaidTree) (cell : ℕ) (c : LaidCell) (c-is : c ≡ get_or laid.cells cell c)
     (within : cell < length laid.cells) (found : Option ℕ)
-    (is : (o : ℕ) → (found ≡ Some o) ↔ IsIntegerCell laid o c.abstract_cell) (first : Initial)
+    (is : (o : ℕ) → (found ≡ Some o) ↔ IsKeyOf by laid o c.abstract_cell) (first : Initial)
     (first-is : first ≡ get_or laid.initial cell first) (first-lt : cell < length laid.initial) where
   same_cell : cell_at laid cell ≡ c
   same_cell = get_or_default laid.cells cell no_cell c within ∙ sym c-is
@@ -216,17 +227,37 @@ module _ (laid : LaidTree) (cell : ℕ) (c : LaidCell) (c-is : c ≡ get_or laid
 
   pub first_noted : (object : ℕ) → found ≡ Some object → (a b : List Noted)
       → AreWidened (λ o n. (object ≡ o) × (first ≡ Initials.Number n)) a b
-      → AreWidened (λ o n. IsFirst laid cell o n) a b
+      → AreWidened (λ o n. IsFirst by laid cell o n) a b
   first_noted object e a b p =
-      all_as (λ o n. (object ≡ o) × (first ≡ Initials.Number n)) (λ o n. IsFirst laid cell o n) a b
+      all_as (λ o n. (object ≡ o) × (first ≡ Initials.Number n)) (λ o n. IsFirst by laid cell o n) a b
       (λ o n h. record {
         within = within;
-        of = subst (λ (z : LaidCell). IsIntegerCell laid o z.abstract_cell) (sym same_cell)
+        of = subst (λ (z : LaidCell). IsKeyOf by laid o z.abstract_cell) (sym same_cell)
             ((is o).0 (e ∙ ap Some h.0));
         is = stands ∙ ap Some h.1;
       })
       (λ o n h. (
         Some_number object o
-            (sym e ∙ (is o).1 (subst (λ (z : LaidCell). IsIntegerCell laid o z.abstract_cell) same_cell h.of)),
+            (sym e ∙ (is o).1 (subst (λ (z : LaidCell). IsKeyOf by laid o z.abstract_cell) same_cell h.of)),
         Some_initial first (Initials.Number n) (sym stands ∙ h.is),
       )) p
+
+-- ## What numbers are told of
+
+module _ (laid : LaidTree) (x : ℕ) (found : Option ℕ) (is : (o : ℕ) → (found ≡ Some o) ↔ IsIntegerCell laid o x) where
+  own_object : (o : ℕ) → IsIntegerCell laid o x → (let a = abstract_at laid x in IsIntegerCell laid a.object x)
+  own_object o of = subst (λ k. IsIntegerCell laid k x) (sym of.of) of
+
+  -- the cell itself, if it has an object
+  pub cell_key : (key : ℕ) → (o : ℕ) → found ≡ Some o → (Some x ≡ Some key) ↔ IsKeyOf Groupings.Cells laid key x
+  cell_key key o e = (
+    λ same. (sym (Some_number x key same), own_object o ((is o).0 e)),
+    λ of. ap Some (sym of.0),
+  )
+
+  pub no_cell_key : (key : ℕ) → found ≡ None → (None ≡ Some key) ↔ IsKeyOf Groupings.Cells laid key x
+  no_cell_key key none = (
+    λ same. absurd (let clash : None ≡ Some key = same in cc),
+    λ of. absurd (let clash : None ≡ Some ((abstract_at laid x).object) =
+        sym none ∙ (is ((abstract_at laid x).object)).1 of.1 in cc),
+  )

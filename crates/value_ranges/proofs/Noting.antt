@@ -7,6 +7,8 @@ use Rattle.interfere_set.specs.Stores.{Nested}
 use Rattle.post_recheck.specs.transfer_rows.StateForms.{State, own_of}
 use Rattle.post_recheck.specs.table_covers.Solutions.{at}
 use Rattle.value_ranges.specs.declared.cells.IntegerCell.{IntegerCell}
+use Rattle.value_ranges.specs.declared.object_bounds.Grouping.{Grouping}
+use Rattle.value_ranges.specs.Ranges.{key_count}
 use Rattle.value_ranges.specs.reading.Notes.{Noted, noted_at, IsWidened, AreWidened, AreIntegerCells, IsFirstBelow}
 use Rattle.value_ranges.specs.reading.Notes.{IsInValues, IsInNode}
 use Rattle.value_ranges.specs.reading.Notes.{IsInTables, IsInWeak, AreNotedIn}
@@ -26,19 +28,19 @@ module _ (cells : List IntegerCell) (table : List (Option State)) (node : ℕ) w
   pub node_silent : at table node ≡ None → (o : ℕ) (n : ℤ) → IsInNode cells table o n node → ⊥
   node_silent e o n h = let clash : None ≡ Some h.state = sym e ∙ h.is in absurd cc
 
-module _ (laid : LaidTree) (tables : List (List (Option State))) (weak : Nested) (cells : List IntegerCell)
-    (are : AreIntegerCells laid cells) where
+module _ (by : Grouping) (laid : LaidTree) (tables : List (List (Option State))) (weak : Nested) (cells : List IntegerCell)
+    (are : AreIntegerCells by laid cells) where
   pub all_noted : (one other : List IntegerCell) → one ≡ cells → other ≡ cells → (n : ℕ) → n ≡ length tables
-      → (a b c d : List Noted) → length a ≡ length laid.objects → ((o : ℕ) → noted_at a o ≡ None)
-      → AreWidened (λ o m. IsFirstBelow laid (length laid.initial) o m) a b
+      → (a b c d : List Noted) → length a ≡ key_count by laid → ((o : ℕ) → noted_at a o ≡ None)
+      → AreWidened (λ o m. IsFirstBelow by laid (length laid.initial) o m) a b
       → AreWidened (λ o m. IsInTables one tables n o m) b c
-      → AreWidened (λ o m. IsInWeak other weak (length (entries weak)) o m) c d → AreNotedIn laid tables weak d
+      → AreWidened (λ o m. IsInWeak other weak (length (entries weak)) o m) c d → AreNotedIn by laid tables weak d
   all_noted one other one-is other-is n n-is a b c d count none first second third = record {
     cells = cells;
     are = are;
     count = third.count ∙ second.count ∙ first.count ∙ count;
     each = λ o.
-        let First = λ (m : ℤ). IsFirstBelow laid (length laid.initial) o m in
+        let First = λ (m : ℤ). IsFirstBelow by laid (length laid.initial) o m in
         let Second = λ (m : ℤ). IsInTables cells tables (length tables) o m in
         let Third = λ (m : ℤ). IsInWeak cells weak (length (entries weak)) o m in
         let p = subst (λ x. IsWidened First o x (noted_at b o)) (none o) (first.each o) in

@@ -21,8 +21,10 @@ use Rattle.post_recheck.specs.program_equations.Programs.{ProgramBodies}
 use Rattle.post_recheck.specs.program_equations.Solutions.{table_at, tables_of}
 use Rattle.value_ranges.specs.declared.object_bounds.ObjectBounds.{ObjectBounds}
 use Rattle.value_ranges.specs.declared.cells.IntegerCell.{IntegerCell}
-use Rattle.value_ranges.specs.Ranges.{IsIntegerCell, IsToldNumber, IsNumberOf, AreBounds, AreRising, IsListed}
-use Rattle.value_ranges.specs.Ranges.{AreRanges}
+use Rattle.value_ranges.specs.declared.object_bounds.Grouping.{Grouping}
+use Rattle.value_ranges.specs.declared.object_bounds.Grouping.TheVariants as Groupings
+use Rattle.value_ranges.specs.Ranges.{IsKeyOf, key_count, IsToldNumber, IsNumberBy, IsNumberOf, AreBoundsBy}
+use Rattle.value_ranges.specs.Ranges.{AreBoundsIf, AreRising, IsListed, AreRanges, AreCellRanges}
 use Rattle.value_ranges.specs.Ranges.IsToldNumber.{at_first, at_node, in_store}
 use Rattle.value_ranges.specs.reading.Notes.{Noted, noted_at, IsNamed, IsWidened, Below, IsFirst, IsFirstBelow}
 use Rattle.value_ranges.specs.reading.Notes.{AreIntegerCells, no_integer_cell, IsInCell, IsInNode, IsInTables}
@@ -63,50 +65,64 @@ within_tables tables t n s e = by_place (dec_lt t (length tables))
 
 -- ## Layouts
 
-read_cell : (laid : LaidTree) (object x : ℕ) → IsIntegerCell laid object x → IsIntegerCell (read_layout laid) object x
-read_cell laid object x h =
+read_cell : (by : Grouping) (laid : LaidTree) (key x : ℕ) → IsKeyOf by laid key x → IsKeyOf by (read_layout laid) key x
+read_cell Groupings.Objects laid key x h =
     record { within = h.within; of = h.of; integer = h.integer; there = h.there; static = h.static }
+read_cell Groupings.Cells laid key x h = (
+  h.0,
+  (let of = h.1 in
+      record { within = of.within; of = of.of; integer = of.integer; there = of.there; static = of.static }),
+)
 
-cell_read : (laid : LaidTree) (object x : ℕ) → IsIntegerCell (read_layout laid) object x → IsIntegerCell laid object x
-cell_read laid object x h =
+cell_read : (by : Grouping) (laid : LaidTree) (key x : ℕ) → IsKeyOf by (read_layout laid) key x → IsKeyOf by laid key x
+cell_read Groupings.Objects laid key x h =
     record { within = h.within; of = h.of; integer = h.integer; there = h.there; static = h.static }
+cell_read Groupings.Cells laid key x h = (
+  h.0,
+  (let of = h.1 in
+      record { within = of.within; of = of.of; integer = of.integer; there = of.there; static = of.static }),
+)
+
+count_read : (by : Grouping) (laid : LaidTree) → key_count by (read_layout laid) ≡ key_count by laid
+count_read Groupings.Objects laid = refl
+count_read Groupings.Cells laid = refl
 
 -- ## Numbers
 
-module _ (p : ProgramBodies) (lists : List (List (Option State))) (store : Interferences) (laid : LaidTree)
-    (read : p.laid ≡ read_layout laid) (cells : List IntegerCell) (are : AreIntegerCells laid cells) where
+module _ (by : Grouping) (p : ProgramBodies) (lists : List (List (Option State))) (store : Interferences) (laid : LaidTree)
+    (read : p.laid ≡ read_layout laid) (cells : List IntegerCell) (are : AreIntegerCells by laid cells) where
   abbrev Told : ℕ → ℤ → Type 0
-  Told object n = IsNumberOf p (tables_of lists) store object n
+  Told object n = IsNumberBy p (tables_of lists) store by object n
 
   abbrev Seen : ℕ → ℤ → Type 0
-  Seen object n = IsFirstBelow laid (length laid.initial) object n
+  Seen object n = IsFirstBelow by laid (length laid.initial) object n
       ⊎ (IsInTables cells lists (length lists) object n
       ⊎ IsInWeak cells store.weak (length (entries store.weak)) object n)
 
-  in_program : (object x : ℕ) → IsIntegerCell laid object x → IsIntegerCell p.laid object x
-  in_program object x h = subst (λ (m : LaidTree). IsIntegerCell m object x) (sym read) (read_cell laid object x h)
+  in_program : (object x : ℕ) → IsKeyOf by laid object x → IsKeyOf by p.laid object x
+  in_program object x h = subst (λ (m : LaidTree). IsKeyOf by m object x) (sym read) (read_cell by laid object x h)
 
-  in_layout : (object x : ℕ) → IsIntegerCell p.laid object x → IsIntegerCell laid object x
-  in_layout object x h = cell_read laid object x (subst (λ (m : LaidTree). IsIntegerCell m object x) read h)
+  in_layout : (object x : ℕ) → IsKeyOf by p.laid object x → IsKeyOf by laid object x
+  in_layout object x h = cell_read by laid object x (subst (λ (m : LaidTree). IsKeyOf by m object x) read h)
 
-  first_told : (cell object : ℕ) (n : ℤ) → IsFirst p.laid cell object n → Told object n
+  first_told : (cell object : ℕ) (n : ℤ) → IsFirst by p.laid cell object n → Told object n
   first_told cell object n h = record {
     cell = (cell_at p.laid cell).abstract_cell;
     of = h.of;
     told = at_first cell h.within refl h.is;
   }
 
-  first_in_program : (cell object : ℕ) (n : ℤ) → IsFirst laid cell object n → IsFirst p.laid cell object n
+  first_in_program : (cell object : ℕ) (n : ℤ) → IsFirst by laid cell object n → IsFirst by p.laid cell object n
   first_in_program cell object n h =
-      subst (λ (m : LaidTree). IsFirst m cell object n) (sym read)
-      (record { within = h.within; of = read_cell laid object (cell_at laid cell).abstract_cell h.of; is = h.is })
+      subst (λ (m : LaidTree). IsFirst by m cell object n) (sym read)
+      (record { within = h.within; of = read_cell by laid object (cell_at laid cell).abstract_cell h.of; is = h.is })
 
-  first_in_layout : (cell object : ℕ) (n : ℤ) → IsFirst (read_layout laid) cell object n → IsFirst laid cell object n
+  first_in_layout : (cell object : ℕ) (n : ℤ) → IsFirst by (read_layout laid) cell object n → IsFirst by laid cell object n
   first_in_layout cell object n h =
-      record { within = h.within; of = cell_read laid object (cell_at laid cell).abstract_cell h.of; is = h.is }
+      record { within = h.within; of = cell_read by laid object (cell_at laid cell).abstract_cell h.of; is = h.is }
 
   cell_of : (k object : ℕ) → k < length cells → (let c = get_or cells k no_integer_cell in c.object ≡ object)
-      → (let c = get_or cells k no_integer_cell in IsIntegerCell p.laid object c.cell)
+      → (let c = get_or cells k no_integer_cell in IsKeyOf by p.laid object c.cell)
   cell_of k object lt e =
       let c = get_or cells k no_integer_cell in
       let x : IntegerCell = record { cell = c.cell; object = object } in
@@ -151,7 +167,7 @@ module _ (p : ProgramBodies) (lists : List (List (Option State))) (store : Inter
   seen_told object n (inr (inr h)) = weak_told h.0 h.2.0 h.2.2.0 object n h.1 h.2.1 h.2.2.1 h.2.2.2
 
   -- a cell with a number is among the cells
-  among : (object x : ℕ) (n : ℤ) (value : ℕ → Values) → IsIntegerCell p.laid object x
+  among : (object x : ℕ) (n : ℤ) (value : ℕ → Values) → IsKeyOf by p.laid object x
       → (let v = value x in Has v.numbers n) → Below (IsInCell cells value object n) (length cells)
   among object x n value of has =
       let c = (are object x).1 (in_layout object x of) in
@@ -166,7 +182,7 @@ module _ (p : ProgramBodies) (lists : List (List (Option State))) (store : Inter
         },
       )
 
-  weak_seen : (task held x object : ℕ) (n : ℤ) → IsIntegerCell p.laid object x → (w : Option (Table (Table Values)))
+  weak_seen : (task held x object : ℕ) (n : ℤ) → IsKeyOf by p.laid object x → (w : Option (Table (Table Values)))
       → get store.weak task ≡ w → (let v = at_task held x w in Has v.numbers n)
       → IsInWeak cells store.weak (length (entries store.weak)) object n
   weak_seen task held x object n of None e has = absurd (nothing_in n has)
@@ -202,15 +218,15 @@ module _ (p : ProgramBodies) (lists : List (List (Option State))) (store : Inter
   pub told_seen : (object : ℕ) (n : ℤ) → Told object n → Seen object n
   told_seen object n h = by_source h.cell h.of h.told
     where
-      by_source : (x : ℕ) → IsIntegerCell p.laid object x
+      by_source : (x : ℕ) → IsKeyOf by p.laid object x
           → IsToldNumber p (tables_of lists) store x n → Seen object n
       by_source x of (at_first cell lt e is) =
-          let first : IsFirst p.laid cell object n = record {
+          let first : IsFirst by p.laid cell object n = record {
             within = lt;
-            of = subst (λ y. IsIntegerCell p.laid object y) (sym e) of;
+            of = subst (λ y. IsKeyOf by p.laid object y) (sym e) of;
             is = is;
           } in
-          let there = first_in_layout cell object n (subst (λ (m : LaidTree). IsFirst m cell object n) read first) in
+          let there = first_in_layout cell object n (subst (λ (m : LaidTree). IsFirst by m cell object n) read first) in
           inl (cell, slice_get_within laid.initial cell _ there.is, there)
       by_source x of (at_node t node s e has) =
           inr (inl (
@@ -244,20 +260,20 @@ are_rising [] h = tt
 are_rising (b ∷ []) h = tt
 are_rising (b ∷ c ∷ list) h = (h 0 1 b (omega arith) (omega arith), are_rising (c ∷ list) (shifted b (c ∷ list) h))
 
-pub named_in : (laid : LaidTree) (lists : List (List (Option State))) (store : Interferences) (noted : List Noted)
-    → AreNotedIn laid lists store.weak noted → (o : ℕ) → IsNamed o (noted_at noted o)
-named_in laid lists store noted h o = (h.each o).named tt
+pub named_in : (by : Grouping) (laid : LaidTree) (lists : List (List (Option State))) (store : Interferences) (noted : List Noted)
+    → AreNotedIn by laid lists store.weak noted → (o : ℕ) → IsNamed o (noted_at noted o)
+named_in by laid lists store noted h o = (h.each o).named tt
 
-module _ (p : ProgramBodies) (lists : List (List (Option State))) (store : Interferences) (laid : LaidTree)
-    (read : p.laid ≡ read_layout laid) (noted : List Noted) (in_all : AreNotedIn laid lists store.weak noted) where
+module _ (by : Grouping) (p : ProgramBodies) (lists : List (List (Option State))) (store : Interferences) (laid : LaidTree)
+    (read : p.laid ≡ read_layout laid) (noted : List Noted) (in_all : AreNotedIn by laid lists store.weak noted) where
   abbrev Number : ℕ → ℤ → Type 0
-  Number object n = IsNumberOf p (tables_of lists) store object n
+  Number object n = IsNumberBy p (tables_of lists) store by object n
 
   told : (object : ℕ) → IsWidened (Number object) object None (noted_at noted object)
   told object =
       let w = in_all.each object in
-      let there = seen_told p lists store laid read in_all.cells in_all.are object in
-      let back = told_seen p lists store laid read in_all.cells in_all.are object in record {
+      let there = seen_told by p lists store laid read in_all.cells in_all.are object in
+      let back = told_seen by p lists store laid read in_all.cells in_all.are object in record {
         keeps = w.keeps;
         has = λ n h. w.has n (back n h);
         low = λ n h. either (λ l. inl l) (λ k. inr (there n k)) (w.low n h);
@@ -266,18 +282,33 @@ module _ (p : ProgramBodies) (lists : List (List (Option State))) (store : Inter
       }
 
   bounds_from : (object : ℕ) (b : ObjectBounds) → noted_at noted object ≡ Some b
-      → AreBounds p (tables_of lists) store b.object b.low b.high
+      → AreBoundsBy p (tables_of lists) store by b.object b.low b.high
   bounds_from object b e =
       let w = subst (λ o. IsWidened (Number object) object None o) e (told object) in
-      subst (λ o. AreBounds p (tables_of lists) store o b.low b.high) (sym (w.named tt)) (record {
+      subst (λ o. AreBoundsBy p (tables_of lists) store by o b.low b.high) (sym (w.named tt)) (record {
         low_is = either (λ l. absurd l) (λ h. h) (w.low b.low refl);
         high_is = either (λ l. absurd l) (λ h. h) (w.high b.high refl);
         least = λ n h. (w.has n h).0;
         greatest = λ n h. (w.has n h).1;
       })
 
+  bounded : (key : ℕ) (o : Noted) → noted_at noted key ≡ o → AreBoundsIf p (tables_of lists) store by key o
+  bounded key None e = λ n number. (subst (λ o. IsWidened (Number key) key None o) e (told key)).has n number
+  bounded key (Some b) e =
+      let w = subst (λ o. IsWidened (Number key) key None o) e (told key) in
+      subst (λ o. AreBoundsBy p (tables_of lists) store by o b.low b.high) (w.named tt) (bounds_from key b e)
+
+  pub each_bounded : (key : ℕ) → AreBoundsIf p (tables_of lists) store by key (noted_at noted key)
+  each_bounded key = bounded key (noted_at noted key) refl
+
+  pub all_counted : length noted ≡ key_count by p.laid
+  all_counted = in_all.count ∙ sym (count_read by laid) ∙ sym (ap (key_count by) read)
+
+module _ (p : ProgramBodies) (lists : List (List (Option State))) (store : Interferences) (laid : LaidTree)
+    (read : p.laid ≡ read_layout laid) (noted : List Noted)
+    (in_all : AreNotedIn Groupings.Objects laid lists store.weak noted) where
   module _ (list : List ObjectBounds) (h : AreListed noted (length noted) list) (object : ℕ) (n : ℤ)
-      (number : Number object n) where
+      (number : IsNumberOf p (tables_of lists) store object n) where
     within : object < length noted
     within =
         let lt : object < length p.laid.objects = (let of = number.of in of.there) in
@@ -285,18 +316,28 @@ module _ (p : ProgramBodies) (lists : List (List (Option State))) (store : Inter
         let count = in_all.count in
         omega (arith, lt, same, count)
 
-    by_note : (o : Noted) → noted_at noted object ≡ o → IsWidened (Number object) object None o → IsListed list object
+    by_note : (o : Noted) → noted_at noted object ≡ o → IsWidened (IsNumberOf p (tables_of lists) store object) object None o → IsListed list object
     by_note None e w = absurd (w.has n number)
     by_note (Some b) e w =
         record { bounds = b; has = (h.exact b).1 (object, within, e); of = w.named tt }
 
     is_listed : IsListed list object
-    is_listed = by_note (noted_at noted object) refl (told object)
+    is_listed = by_note (noted_at noted object) refl
+        (told Groupings.Objects p lists store laid read noted in_all object)
 
   pub are_ranges : (list : List ObjectBounds) → AreListed noted (length noted) list
       → AreRanges p (tables_of lists) store list
   are_ranges list h = record {
     sorted = are_rising list h.rising;
-    each = λ b c. let there = (h.exact b).0 c in bounds_from there.0 b there.2;
+    each = λ b c. let there = (h.exact b).0 c in bounds_from Groupings.Objects p lists store laid read noted in_all
+        there.0 b there.2;
     all = λ object n number. is_listed list h object n number;
   }
+
+pub are_cell_ranges : (p : ProgramBodies) (lists : List (List (Option State))) (store : Interferences)
+    (laid : LaidTree) → p.laid ≡ read_layout laid → (noted : List Noted)
+    → AreNotedIn Groupings.Cells laid lists store.weak noted → AreCellRanges p (tables_of lists) store noted
+are_cell_ranges p lists store laid read noted h = record {
+  count = all_counted Groupings.Cells p lists store laid read noted h;
+  each = each_bounded Groupings.Cells p lists store laid read noted h;
+}

@@ -1,5 +1,6 @@
--- The bounds of the numbers that the integer cells of an object hold.
-use Rattle.std.specs.Prelude.{◌≡◌, ℕ, ◌<◌, ℤ, ◌≤ℤ◌, true, List, [], ◌∷◌, length, slice_get, Contains, Some}
+-- The bounds of the numbers that the integer cells of an object hold, or that an abstract cell holds.
+use Rattle.std.specs.Prelude.{◌≡◌, ℕ, ◌<◌, ℤ, ◌≤ℤ◌, true, List, [], ◌∷◌, length, get_or, slice_get, Contains, Option}
+use Rattle.std.specs.Prelude.{Some, None}
 use Rattle.strided_dom.specs.Progression.{Has}
 use Rattle.tm_laid.specs.tm_typed.declared.types.Scalar.{Scalar}
 use Rattle.tm_laid.specs.tm_typed.declared.types.Scalar.TheVariants as Scalars
@@ -11,6 +12,8 @@ use Rattle.post_recheck.specs.transfer_rows.Contributions.{entry_at}
 use Rattle.post_recheck.specs.table_covers.Solutions.{NodeTable}
 use Rattle.post_recheck.specs.program_equations.Programs.{ProgramBodies}
 use Rattle.value_ranges.specs.declared.object_bounds.ObjectBounds.{ObjectBounds}
+use Rattle.value_ranges.specs.declared.object_bounds.Grouping.{Grouping}
+use Rattle.value_ranges.specs.declared.object_bounds.Grouping.TheVariants as Groupings
 
 -- ## Cells
 
@@ -26,6 +29,16 @@ pub record IsIntegerCell (laid : LaidTree) (object x : ℕ) : Type 0 where
   pub integer : (let a = abstract_at laid x in IsInteger a.scalar)
   pub there : object < length laid.objects
   pub static : is_shared laid object ≡ true
+
+-- the numbers of an integer cell are told of this: of its object, or of the abstract cell itself
+abbrev pub IsKeyOf : Grouping → LaidTree → ℕ → ℕ → Type 0
+IsKeyOf Groupings.Objects laid key x = IsIntegerCell laid key x
+IsKeyOf Groupings.Cells laid key x = (key ≡ x) × (let a = abstract_at laid x in IsIntegerCell laid a.object x)
+
+-- how many there are of which numbers may be told
+abbrev pub key_count : Grouping → LaidTree → ℕ
+key_count Groupings.Objects laid = length laid.objects
+key_count Groupings.Cells laid = length laid.abstract_cells
 
 -- ## Lists
 
@@ -55,21 +68,39 @@ module _ (p : ProgramBodies) (tables : ℕ → NodeTable State) (store : Interfe
     in_store : (task held : ℕ) → (let entry = entry_at store.weak task held x in Has entry.numbers n)
         → IsToldNumber x n
 
-  -- a number of an object: one that is told of an integer cell of it
-  pub record IsNumberOf (object : ℕ) (n : ℤ) : Type 0 where
+  -- a number of an object, or of an abstract cell: one that is told of an integer cell of it
+  pub record IsNumberBy (by : Grouping) (key : ℕ) (n : ℤ) : Type 0 where
     pub cell : ℕ
-    pub of : IsIntegerCell p.laid object cell
+    pub of : IsKeyOf by p.laid key cell
     pub told : IsToldNumber cell n
 
   -- the least and the greatest of them
-  pub record AreBounds (object : ℕ) (low high : ℤ) : Type 0 where
-    pub low_is : IsNumberOf object low
-    pub high_is : IsNumberOf object high
-    pub least : (n : ℤ) → IsNumberOf object n → low ≤ℤ n
-    pub greatest : (n : ℤ) → IsNumberOf object n → n ≤ℤ high
+  pub record AreBoundsBy (by : Grouping) (key : ℕ) (low high : ℤ) : Type 0 where
+    pub low_is : IsNumberBy by key low
+    pub high_is : IsNumberBy by key high
+    pub least : (n : ℤ) → IsNumberBy by key n → low ≤ℤ n
+    pub greatest : (n : ℤ) → IsNumberBy by key n → n ≤ℤ high
+
+  abbrev pub IsNumberOf : ℕ → ℤ → Type 0
+  IsNumberOf = IsNumberBy Groupings.Objects
+
+  abbrev pub AreBounds : ℕ → ℤ → ℤ → Type 0
+  AreBounds = AreBoundsBy Groupings.Objects
 
   -- each object of which a number is told, once, with its bounds, in their order
   pub record AreRanges (list : List ObjectBounds) : Type 0 where
     pub sorted : AreRising list
     pub each : (b : ObjectBounds) → Contains list b → AreBounds b.object b.low b.high
     pub all : (object : ℕ) (n : ℤ) → IsNumberOf object n → IsListed list object
+
+  -- ## Cells one by one
+
+  -- the bounds of what has this key, if a number is told of it
+  abbrev pub AreBoundsIf : Grouping → ℕ → Option ObjectBounds → Type 0
+  AreBoundsIf by key None = (n : ℤ) → IsNumberBy by key n → ⊥
+  AreBoundsIf by key (Some b) = AreBoundsBy by key b.low b.high
+
+  -- for each abstract cell its bounds
+  pub record AreCellRanges (bounds : List (Option ObjectBounds)) : Type 0 where
+    pub count : length bounds ≡ length p.laid.abstract_cells
+    pub each : (x : ℕ) → AreBoundsIf Groupings.Cells x (get_or bounds x None)

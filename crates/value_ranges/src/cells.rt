@@ -1,17 +1,19 @@
 //! Integer cells of objects of static storage, and what they hold before the program runs.
-ghost use Rattle.std.specs.Prelude.{◌≡◌, ◌<◌, ◌≤◌, ◌↔◌, ℕ, true, length, Some, IsTrue, IfOk};
+ghost use Rattle.std.specs.Prelude.{◌≡◌, ◌<◌, ◌≤◌, ◌^◌, ◌↔◌, ℕ, true, length, Some, IsTrue, IfOk};
 ghost use Rattle.tm_laid.specs.declared.objects.Initial.TheVariants as Initials;
 ghost use Rattle.tm_laid.specs.Layouts.{laid_tree, is_shared};
-ghost use Rattle.value_ranges.specs.Ranges.{IsInteger, IsIntegerCell};
+ghost use Rattle.value_ranges.specs.declared.object_bounds.Grouping.TheVariants as Groupings;
+ghost use Rattle.value_ranges.specs.Ranges.{IsInteger, IsIntegerCell, IsKeyOf, key_count};
 ghost use Rattle.value_ranges.specs.reading.Notes.{AreIntegerCells, AreWidened, IsFirst, IsFirstBelow, first_bounds};
 
 use crate::bounds::note;
-use crate::object_bounds::ObjectBounds;
+use crate::object_bounds::{Grouping, ObjectBounds};
 use std::alloc::Global;
 use tm_laid::{Initial, Laid, Scalar};
 use tm_lattice::NoMemory;
 
-// An abstract cell of integer type, and its object, which has static storage.
+// An abstract cell of integer type, of an object of static storage, and of what its numbers are told: of this object, or
+// of the cell itself.
 #[derive(Clone, Copy)]
 pub(crate) struct IntegerCell {
     pub(crate) cell: u32,
@@ -40,7 +42,7 @@ fn is_static(laid: &Laid, object: u32) -> bool
 }
 
 // The object of an abstract cell of integer type that is of static storage.
-pub(crate) fn object_of(laid: &Laid, cell: usize) -> Option<u32>
+fn object_of(laid: &Laid, cell: usize) -> Option<u32>
     ensures { (o : ℕ) → (result ≡ Some o) ↔ IsIntegerCell (laid_tree laid.now) o cell }
 {
     match laid.abstract_cells.get(cell) {
@@ -56,14 +58,51 @@ pub(crate) fn object_of(laid: &Laid, cell: usize) -> Option<u32>
     }
 }
 
+// An abstract cell by itself, if it is of integer type and of static storage.
+#[tactic(auto, using(crate::proofs::Listing::no_cell_key))]
+fn own_key(laid: &Laid, cell: usize) -> Option<u32>
+    requires { cell < 2 ^ 32 }
+    ensures { (key : ℕ) → (result ≡ Some key) ↔ IsKeyOf Groupings.Cells (laid_tree laid.now) key cell }
+{
+    match object_of(laid, cell) {
+        Some(_) => Some(cell as u32),
+        None => None,
+    }
+}
+
+// What the numbers of an abstract cell are told of, if it is of integer type and of static storage.
+fn key_of(laid: &Laid, grouping: Grouping, cell: usize) -> Option<u32>
+    requires { cell < 2 ^ 32 }
+    ensures { (key : ℕ) → (result ≡ Some key) ↔ IsKeyOf grouping (laid_tree laid.now) key cell }
+{
+    match grouping {
+        Grouping::Objects => object_of(laid, cell),
+        Grouping::Cells => own_key(laid, cell),
+    }
+}
+
+/// Of how much numbers are told: how many objects there are, or abstract cells.
+pub(crate) fn key_count(laid: &Laid, grouping: Grouping) -> usize
+    ensures { result ≡ key_count grouping (laid_tree laid.now) }
+{
+    match grouping {
+        Grouping::Objects => laid.objects.len(),
+        Grouping::Cells => laid.abstract_cells.len(),
+    }
+}
+
 /// The integer cells of objects of static storage.
-pub(crate) fn integer_cells(alloc: Global, laid: &Laid) -> Result<Vec<IntegerCell>, NoMemory>
+pub(crate) fn integer_cells(
+    alloc: Global,
+    laid: &Laid,
+    grouping: Grouping,
+) -> Result<Vec<IntegerCell>, NoMemory>
     requires { length laid.now.abstract_cells.items ≤ 4096 }
-    ensures { IfOk result (λ cells. AreIntegerCells (laid_tree laid.now) cells.items) }
+    ensures { IfOk result (λ cells. AreIntegerCells grouping (laid_tree laid.now) cells.items) }
 {
     let mut cells = Vec::new(alloc);
     for cell in 0..laid.abstract_cells.len() {
-        if let Some(object) = object_of(laid, cell) {
+        if let Some(object) = key_of(laid, grouping, cell) {
             let found = IntegerCell {
                 cell: cell as u32,
                 object,
@@ -100,13 +139,13 @@ fn note_value(noted: &mut Vec<Option<ObjectBounds>>, object: u32, initial: Initi
 }
 
 // Notes the number that a cell holds before the program runs, if it is an integer cell.
-fn note_first(laid: &Laid, cell: usize, noted: &mut Vec<Option<ObjectBounds>>)
+fn note_first(laid: &Laid, grouping: Grouping, cell: usize, noted: &mut Vec<Option<ObjectBounds>>)
     requires cell { cell < length laid.now.initial.items }
-    requires room { length noted.old.items ≡ length laid.now.objects.items }
-    ensures { AreWidened (λ o n. IsFirst (laid_tree laid.now) cell o n) noted.old.items noted.new.items }
+    requires room { length noted.old.items ≡ key_count grouping (laid_tree laid.now) }
+    ensures { AreWidened (λ o n. IsFirst grouping (laid_tree laid.now) cell o n) noted.old.items noted.new.items }
 {
     if cell < laid.cells.len() {
-        if let Some(object) = object_of(laid, laid.cells[cell].abstract_cell as usize) {
+        if let Some(object) = key_of(laid, grouping, laid.cells[cell].abstract_cell as usize) {
             note_value(noted, object, laid.initial[cell]);
         }
     }
@@ -114,12 +153,12 @@ fn note_first(laid: &Laid, cell: usize, noted: &mut Vec<Option<ObjectBounds>>)
 
 /// Notes the numbers that integer cells hold before the program runs: those of all cells for which an abstract cell
 /// stands.
-pub(crate) fn note_initial(laid: &Laid, noted: &mut Vec<Option<ObjectBounds>>)
-    requires { length noted.old.items ≡ length laid.now.objects.items }
-    ensures { AreWidened (λ o n. IsFirstBelow (laid_tree laid.now) (length laid.now.initial.items) o n)
+pub(crate) fn note_initial(laid: &Laid, grouping: Grouping, noted: &mut Vec<Option<ObjectBounds>>)
+    requires { length noted.old.items ≡ key_count grouping (laid_tree laid.now) }
+    ensures { AreWidened (λ o n. IsFirstBelow grouping (laid_tree laid.now) (length laid.now.initial.items) o n)
         noted.old.items noted.new.items }
 {
     for cell in 0..laid.initial.len() {
-        note_first(laid, cell, noted);
+        note_first(laid, grouping, cell, noted);
     }
 }

@@ -4,12 +4,12 @@ ghost use Rattle.post_recheck.specs.program_equations.Solutions.{tables_of};
 ghost use Rattle.post_recheck.specs.program_systems.Analysable.{IsAnalysable};
 ghost use Rattle.post_recheck.specs.program_systems.ProgramFacts.{AreProgramFacts, program_with};
 ghost use Rattle.post_recheck.specs.Pairs.{FitsPair, lists_of, pair_of};
-ghost use Rattle.value_ranges.specs.Ranges.{AreRanges};
+ghost use Rattle.value_ranges.specs.Ranges.{AreRanges, AreCellRanges};
 ghost use Rattle.value_ranges.specs.Places.{AreDead};
 
 use crate::bounds::listed;
 use crate::notes::noted_in;
-use crate::object_bounds::Ranges;
+use crate::object_bounds::{Grouping, ObjectBounds, Ranges};
 use crate::places::dead_places;
 use interfere_set::Store;
 use mutex_configs::Program;
@@ -36,8 +36,27 @@ pub fn ranges(
     ensures dead { IfOk result (λ ranges. AreDead (program_with program.now facts.now)
         (tables_of (lists_of tables.now)) ranges.dead.items) }
 {
-    let noted = noted_in(alloc, &program.laid, tables, store)?;
+    let noted = noted_in(alloc, &program.laid, Grouping::Objects, tables, store)?;
     let bounds = listed(alloc, &noted)?;
     let dead = dead_places(alloc, &program.graphs.graphs, &program.configured, tables)?;
     Ok(Ranges { bounds, dead })
+}
+
+/// For each abstract cell the bounds of the numbers that the tables and the store tell of it, if it is of integer type
+/// and of an object of static storage: of those that it holds before the program runs, of its own values in the states
+/// of all nodes, and of its weak entries.
+pub fn cell_ranges(
+    alloc: Global,
+    program: &Program,
+    facts: &ProgramFacts,
+    tables: &[Table],
+    store: &Store,
+) -> Result<Vec<Option<ObjectBounds>>, NoMemory>
+    requires analysable { IsAnalysable program.now }
+    requires facts { AreProgramFacts program.now facts.now }
+    ensures { IfOk result (λ bounds. AreCellRanges (program_with program.now facts.now)
+        (tables_of (lists_of tables.now)) store.now bounds.items) }
+{
+    let bounds = noted_in(alloc, &program.laid, Grouping::Cells, tables, store)?;
+    Ok(bounds)
 }

@@ -1,5 +1,6 @@
-//! The bounds of the numbers that the integer cells of static objects hold, and the places that no run reaches, as the
-//! tables of a program's bodies and a store tell. Where tables and a store come from, this crate does not know.
+//! The bounds of the numbers that the integer cells of static objects hold, object by object or cell by cell, and the
+//! places that no run reaches, as the tables of a program's bodies and a store tell. Where tables and a store come from,
+//! this crate does not know.
 //!
 //! In `int x; int y; __task(1) void t(void) { x = __input(0, 9); if (x > 20) y = 1; }` the least tables have `x` at 0
 //! to 9 and `y` at 0 wherever a state stands. So the bounds are 0 and 9, and 0 and 0, and the place of `y = 1` is dead.
@@ -12,5 +13,5 @@ mod notes;
 mod object_bounds;
 mod places;
 
-pub use finding::ranges;
-pub use object_bounds::{ObjectBounds, Ranges};
+pub use finding::{cell_ranges, ranges};
+pub use object_bounds::{Grouping, ObjectBounds, Ranges};

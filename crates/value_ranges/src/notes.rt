@@ -8,8 +8,8 @@ ghost use Rattle.value_ranges.specs.reading.Notes.{AreWidened, AreOfObjects, Are
 ghost use Rattle.value_ranges.specs.reading.Notes.{IsInTables, IsInTableOf, IsInWritten, IsInWeak, noted_at};
 
 use crate::bounds::note_numbers;
-use crate::cells::{IntegerCell, integer_cells, note_initial};
-use crate::object_bounds::ObjectBounds;
+use crate::cells::{IntegerCell, integer_cells, key_count, note_initial};
+use crate::object_bounds::{Grouping, ObjectBounds};
 use cell_env::State;
 use interfere_set::Store;
 use pointer_dom::AbsValue;
@@ -108,19 +108,22 @@ fn nothing(alloc: Global, count: usize) -> Result<Vec<Option<ObjectBounds>>, NoM
     Ok(noted)
 }
 
-/// What the tables, the store and the values before the program runs tell of the integer cells of each object.
+/// What the tables, the store and the values before the program runs tell of the integer cells of each object, or of
+/// each abstract cell.
 pub(crate) fn noted_in(
     alloc: Global,
     laid: &Laid,
+    grouping: Grouping,
     tables: &[Table],
     store: &Store,
 ) -> Result<Vec<Option<ObjectBounds>>, NoMemory>
     requires { length laid.now.abstract_cells.items ≤ 4096 }
-    ensures { IfOk result (λ noted. AreNotedIn (laid_tree laid.now) (lists_of tables.now) store.now.weak noted.items) }
+    ensures { IfOk result (λ noted. AreNotedIn grouping (laid_tree laid.now) (lists_of tables.now) store.now.weak
+        noted.items) }
 {
-    let cells = integer_cells(alloc, laid)?;
-    let mut noted = nothing(alloc, laid.objects.len())?;
-    note_initial(laid, &mut noted);
+    let cells = integer_cells(alloc, laid, grouping)?;
+    let mut noted = nothing(alloc, key_count(laid, grouping))?;
+    note_initial(laid, grouping, &mut noted);
     note_tables(&mut noted, &cells, tables);
     note_weak(&mut noted, &cells, store);
     Ok(noted)

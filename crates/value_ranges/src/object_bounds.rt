@@ -1,10 +1,17 @@
 //! Bounds of objects, and what is found of a program.
 use tm_terms::Place;
 
-/// The least and the greatest number that an integer cell of an object is told to hold.
+/// What bounds are told of: of objects, or of abstract cells.
+#[derive(Clone, Copy)]
+pub enum Grouping {
+    Objects,
+    Cells,
+}
+
+/// The least and the greatest number that an integer cell of an object is told to hold, or an abstract cell.
 #[derive(Clone, Copy)]
 pub struct ObjectBounds {
-    /// The number of the object.
+    /// The number of the object, or of the abstract cell.
     pub object: u32,
     pub low: i128,
     pub high: i128,

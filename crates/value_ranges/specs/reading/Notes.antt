@@ -15,7 +15,8 @@ use Rattle.post_recheck.specs.table_covers.Solutions.{at}
 use Rattle.post_recheck.specs.program_equations.Solutions.{table_at}
 use Rattle.value_ranges.specs.declared.object_bounds.ObjectBounds.{ObjectBounds}
 use Rattle.value_ranges.specs.declared.cells.IntegerCell.{IntegerCell}
-use Rattle.value_ranges.specs.Ranges.{IsIntegerCell}
+use Rattle.value_ranges.specs.Ranges.{IsKeyOf, key_count}
+use Rattle.value_ranges.specs.declared.object_bounds.Grouping.{Grouping}
 
 -- ## Bounds that are widened
 
@@ -78,15 +79,15 @@ pub record HasNoted (more : ObjectBounds) (old new : List Noted) : Type 0 where
 abbrev pub Below : (ℕ → Type 0) → ℕ → Type 0
 Below Q i = (k : ℕ) × (k < i) × Q k
 
--- the list has exactly the integer cells of objects of static storage
-abbrev pub AreIntegerCells : LaidTree → List IntegerCell → Type 0
-AreIntegerCells laid cells =
-    (object x : ℕ) → Contains cells (record { cell = x; object = object }) ↔ IsIntegerCell laid object x
+-- the list has exactly the integer cells of objects of static storage, each with what its numbers are told of
+abbrev pub AreIntegerCells : Grouping → LaidTree → List IntegerCell → Type 0
+AreIntegerCells by laid cells =
+    (object x : ℕ) → Contains cells (record { cell = x; object = object }) ↔ IsKeyOf by laid object x
 
 -- those of the first abstract cells
-abbrev pub AreFirstCells : LaidTree → ℕ → List IntegerCell → Type 0
-AreFirstCells laid i cells = (object x : ℕ)
-    → Contains cells (record { cell = x; object = object }) ↔ (IsIntegerCell laid object x × (x < i))
+abbrev pub AreFirstCells : Grouping → LaidTree → ℕ → List IntegerCell → Type 0
+AreFirstCells by laid i cells = (object x : ℕ)
+    → Contains cells (record { cell = x; object = object }) ↔ (IsKeyOf by laid object x × (x < i))
 
 -- the object of each of them is one of the first
 abbrev pub AreOfObjects : List IntegerCell → ℕ → Type 0
@@ -103,13 +104,13 @@ first_bounds object Initials.Null = None
 first_bounds object (Initials.To other offset) = None
 
 -- what a cell holds at first is a number of the object
-pub record IsFirst (laid : LaidTree) (cell object : ℕ) (n : ℤ) : Type 0 where
+pub record IsFirst (by : Grouping) (laid : LaidTree) (cell object : ℕ) (n : ℤ) : Type 0 where
   pub within : cell < length laid.cells
-  pub of : (let c = cell_at laid cell in IsIntegerCell laid object c.abstract_cell)
+  pub of : (let c = cell_at laid cell in IsKeyOf by laid object c.abstract_cell)
   pub is : slice_get laid.initial cell ≡ Some (Initials.Number n)
 
-abbrev pub IsFirstBelow : LaidTree → ℕ → ℕ → ℤ → Type 0
-IsFirstBelow laid i object n = Below (λ cell. IsFirst laid cell object n) i
+abbrev pub IsFirstBelow : Grouping → LaidTree → ℕ → ℕ → ℤ → Type 0
+IsFirstBelow by laid i object n = Below (λ cell. IsFirst by laid cell object n) i
 
 module _ (cells : List IntegerCell) where
   -- the number is in the value of a cell of the object
@@ -163,11 +164,11 @@ pub record AreListed (noted : List Noted) (i : ℕ) (list : List ObjectBounds) :
 -- ## All that is noted
 
 -- nothing was noted before, and what is noted is widened by all numbers
-pub record AreNotedIn (laid : LaidTree) (tables : List (List (Option State))) (weak : Nested)
+pub record AreNotedIn (by : Grouping) (laid : LaidTree) (tables : List (List (Option State))) (weak : Nested)
     (noted : List Noted) : Type 0 where
   pub cells : List IntegerCell
-  pub are : AreIntegerCells laid cells
-  pub count : length noted ≡ length laid.objects
-  pub each : (object : ℕ) → IsWidened (λ n. IsFirstBelow laid (length laid.initial) object n
+  pub are : AreIntegerCells by laid cells
+  pub count : length noted ≡ key_count by laid
+  pub each : (object : ℕ) → IsWidened (λ n. IsFirstBelow by laid (length laid.initial) object n
       ⊎ (IsInTables cells tables (length tables) object n ⊎ IsInWeak cells weak (length (entries weak)) object n))
       object None (noted_at noted object)

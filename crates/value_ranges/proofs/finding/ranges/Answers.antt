@@ -5,6 +5,7 @@ use Rattle.flow_graph.specs.declared.graphs.Graph.{Graph}
 use Rattle.mutex_configs.specs.declared.nodes.ConfiguredGraph.{ConfiguredGraph}
 use Rattle.post_recheck.specs.program_systems.ProgramFacts.{program_with}
 use Rattle.post_recheck.specs.Pairs.{lists_of, pair_of}
+use Rattle.value_ranges.specs.declared.object_bounds.Grouping.TheVariants as Groupings
 use Rattle.value_ranges.specs.reading.Notes.{Noted, IsNamed, noted_at, AreListed}
 use Rattle.value_ranges.specs.reading.Reached.{AreCopiesOf, AreDeadIn}
 use Rattle.value_ranges.proofs.Told.{named_in, are_ranges}
@@ -17,7 +18,7 @@ noted_in-requires c = c.requires.analysable.begins.few
 pub listed-requires : goal.listed-requires
 listed-requires c = λ o.
     subst (λ (xs : List Noted). IsNamed o (noted_at xs o)) (sym c.deref.ensures.value)
-    (named_in (laid_tree c.args.program.now.laid) (lists_of c.args.tables.now) c.args.store.now
+    (named_in Groupings.Objects (laid_tree c.args.program.now.laid) (lists_of c.args.tables.now) c.args.store.now
     c.in_ok-noted.noted.items c.in_ok-noted.ensures o)
 
 pub dead_places-requires : goal.dead_places-requires
