@@ -17,16 +17,16 @@ use std::alloc::Global;
 use tm_lattice::NoMemory;
 use tm_terms::Place;
 
-// What is read of a task: the equations of its body over a store, its edges, nodes and copies, its number, and its
-// priority.
+/// What is read of a task: the equations of its body over a store, its edges, nodes and copies, its number, and its
+/// priority.
 #[derive(Clone, Copy)]
-pub(crate) struct TaskParts<'a> {
-    pub(crate) body: &'a BodyOverStore<'a>,
-    pub(crate) edges: &'a [Edge],
-    pub(crate) nodes: &'a [ConfiguredNode],
-    pub(crate) copies: &'a [EdgeCopy],
-    pub(crate) number: u32,
-    pub(crate) priority: u8,
+pub struct TaskParts<'a> {
+    pub body: &'a BodyOverStore<'a>,
+    pub edges: &'a [Edge],
+    pub nodes: &'a [ConfiguredNode],
+    pub copies: &'a [EdgeCopy],
+    pub number: u32,
+    pub priority: u8,
 }
 
 // Where an operation stands that reaches cells.
@@ -74,8 +74,8 @@ fn add_targets(
     Ok(())
 }
 
-// The way in which a copy reaches cells.
-fn way_of(parts: TaskParts<'_>, copy: usize) -> Way
+/// The way in which a copy reaches cells.
+pub fn way_of(parts: TaskParts<'_>, copy: usize) -> Way
     requires parts { ArePartsOf (body_of parts.body.now) parts }
     requires copy { copy < length parts.copies.now }
     ensures { result ≡ way_of_copy (body_of parts.entry.body.now) copy }
@@ -91,8 +91,8 @@ fn way_of(parts: TaskParts<'_>, copy: usize) -> Way
     }
 }
 
-// Where the operation of a copy stands, if it reaches cells.
-fn place_of_copy(parts: TaskParts<'_>, copy: usize) -> Option<Place>
+/// Where the operation of a copy stands, if it reaches cells.
+pub fn place_of_copy(parts: TaskParts<'_>, copy: usize) -> Option<Place>
     requires parts { ArePartsOf (body_of parts.body.now) parts }
     requires copy { copy < length parts.copies.now }
     ensures { result ≡ access_place (operation_at (body_of parts.entry.body.now) copy) }

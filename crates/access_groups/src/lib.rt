@@ -17,6 +17,7 @@ mod object_access;
 mod tasks;
 mod ways;
 
+pub use copies::{TaskParts, place_of_copy, way_of};
 pub use grouping::groups;
 pub use laws::{alarms_are_grouped, groups_are_one};
 pub use object_access::{AccessGroup, ObjectAccess};

@@ -1,0 +1,20 @@
+use Rattle.std.proofs.Common.{sym, ◌∙◌}
+use Rattle.std.proofs.lemmas.Result.{on_ok_weaker}
+use Rattle.post_recheck.specs.body_systems.Systems.{body_of}
+use Rattle.access_groups.proofs.Targets.{relabelled}
+use Rattle.access_partners.proofs.Adding.{nothing_given, edge_read, site_given}
+use Rattle.access_partners.proofs.copies.add_copy.Goals as goal
+
+pub returns-in_default : goal.returns-in_default
+returns-in_default c = λ x.
+    nothing_given (body_of c.args.parts.body.now) c.args.copy c.args.state.now x
+    (sym c.place_of_copy.ensures ∙ c.in_default.is)
+
+pub returns : goal.returns
+returns c =
+    let b = body_of c.args.parts.body.now in
+    on_ok_weaker c.add_targets.result
+    (λ h x. relabelled (h x) (site_given b c.args.copy c.args.state.now c.args.parts.body.now.store
+    c.in_ok-after.after c.in_ok-after.ensures c.in-Some.place (sym c.place_of_copy.ensures ∙ c.in-Some.is)
+    c.way_of.result c.way_of.ensures _ (edge_read b c.args.parts c.requires.parts c.args.copy) c.deref.result.now
+    c.deref.ensures x)) c.add_targets.ensures

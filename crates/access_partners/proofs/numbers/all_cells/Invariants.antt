@@ -1,0 +1,7 @@
+use Rattle.std.proofs.Common.{◌↔◌, ℕ, take}
+use Rattle.std.specs.Prelude.{Contains}
+use Rattle.access_partners.specs.reading.Accesses.{IsCellOf}
+use Rattle.access_partners.proofs.numbers.all_cells.Given as goal
+
+abbrev pub invariant-loop-site : goal.invariant-loop-site
+invariant-loop-site l = (n : ℕ) → Contains l.cells.items n ↔ IsCellOf (take l.site-index l.sites) n

@@ -1,0 +1,41 @@
+use Rattle.std.proofs.Common.{◌≡◌, ◌↔◌, ◌⊎◌, ◌+◌, ap, sym, subst, ◌∙◌, length, Some, arith, Vec}
+use Rattle.std.specs.Prelude.{Contains}
+use Rattle.std.specs.declared.alloc.Global.{Global}
+use Rattle.post_recheck.specs.table_covers.Solutions.{at}
+use Rattle.post_recheck.specs.body_systems.Systems.{body_of}
+use Rattle.access_races.proofs.Joins.{joined, unchanged}
+use Rattle.access_groups.proofs.Targets.{reached, fits_there}
+use Rattle.access_partners.specs.declared.site.Site.{Site}
+use Rattle.access_partners.specs.reading.Sites.{IsSiteBelow}
+use Rattle.access_partners.proofs.Adding.{sites_more, sites_same}
+use Rattle.access_partners.proofs.tasks.add_copies.Goals as goal
+use Rattle.access_partners.proofs.tasks.add_copies.Goals.{in-Some+in_ok-add_copy-in-Some, in-None}
+
+pub add_copy-requires-clause-fits : goal.add_copy-requires-clause-fits
+add_copy-requires-clause-fits c =
+    fits_there (body_of c.args.parts.body.now) c.args.parts c.requires.parts c.args.table.now c.requires.table
+    c.loop-copy.copy c.loop-copy-test.true c.index-table-parts.result c.index-table-parts.is c.state.result.now
+    (c.in-Some.is ∙ ap Some (sym c.state.ensures))
+
+pub loop-copy-preserved : goal.loop-copy-preserved
+loop-copy-preserved c =
+    let b = body_of c.args.parts.body.now in
+    let table = c.args.table.now in
+    let k = c.loop-copy.copy in
+    let there = reached b c.args.parts c.requires.parts table c.requires.table k c.loop-copy-test.true
+    c.index-table-parts.result c.index-table-parts.is in
+    let Sites = λ (v : Vec Site Global). (x : Site) → Contains v.items x
+    ↔ (Contains c.args.sites.now.items x ⊎ IsSiteBelow b (at table) (k + 1) x) in
+    elim c.match-table-parts.branch [
+      | in-Some+in_ok-add_copy-in-Some w ↦ subst Sites (sym w.sites-is) (λ x.
+          joined (w.in_ok-add_copy-in-Some.ensures x) (c.loop-copy.invariant x)
+          (sites_more b (at table) x k w.state.result.now (there ∙ w.in-Some.is ∙ ap Some (sym w.state.ensures))))
+      | in-None w ↦ subst Sites (sym w.sites-is) (λ x.
+          unchanged (c.loop-copy.invariant x) (sites_same b (at table) x k (there ∙ w.in-None.is)))
+    ]
+
+pub returns : goal.returns
+returns c = λ x.
+    let end : c.loop-copy.copy ≡ length c.args.parts.copies.now = omega arith in
+    subst (λ n. Contains c.loop-copy.sites.items x ↔ (Contains c.args.sites.now.items x
+    ⊎ IsSiteBelow (body_of c.args.parts.body.now) (at c.args.table.now) n x)) end (c.loop-copy.invariant x)

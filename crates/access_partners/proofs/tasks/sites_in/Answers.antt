@@ -1,0 +1,23 @@
+use Rattle.std.proofs.Common.{◌≡◌, ◌↔◌, length, subst, arith}
+use Rattle.std.specs.Prelude.{Contains}
+use Rattle.post_recheck.specs.program_equations.Solutions.{tables_of}
+use Rattle.post_recheck.specs.program_systems.ProgramFacts.{program_with}
+use Rattle.post_recheck.specs.Pairs.{lists_of}
+use Rattle.access_races.proofs.Joins.{grown}
+use Rattle.access_partners.specs.reading.Sites.{IsSiteUpTo}
+use Rattle.access_partners.proofs.Adding.{tasks_more}
+use Rattle.access_partners.proofs.tasks.sites_in.Goals as goal
+
+pub loop-number-preserved : goal.loop-number-preserved
+loop-number-preserved c = λ x.
+    grown (c.in_ok-add_task.ensures x) (c.loop-number.invariant x)
+    (tasks_more (program_with c.args.program.now c.args.facts.now) (tables_of (lists_of c.args.tables.now))
+    c.loop-number.number x)
+
+pub returns : goal.returns
+returns c = λ x.
+    let end : c.loop-number.number ≡ length c.args.program.now.laid.file.tasks.items =
+    omega (arith, c.len-number-end.ensures, c.args.program.now.laid.file.tasks.ok.0) in
+    subst (λ n. Contains c.loop-number.sites.items x
+    ↔ IsSiteUpTo (program_with c.args.program.now c.args.facts.now) (tables_of (lists_of c.args.tables.now)) n x) end
+    (c.loop-number.invariant x)

@@ -1,0 +1,23 @@
+use Rattle.std.proofs.Common.{◌≡◌, ◌≤◌, ◌↔◌, length, subst, arith}
+use Rattle.std.specs.Prelude.{Contains}
+use Rattle.std.proofs.lemmas.List.{take_all}
+use Rattle.access_races.proofs.Joins.{grown}
+use Rattle.access_groups.specs.reading.Noted.{list_at}
+use Rattle.access_partners.specs.declared.site.Site.{Site}
+use Rattle.access_partners.specs.reading.Accesses.{no_site, IsWayOfSite}
+use Rattle.access_partners.proofs.Lists.{one_more}
+use Rattle.access_partners.proofs.ways.ways_by_cell.Goals as goal
+
+pub loop-site-preserved : goal.loop-site-preserved
+loop-site-preserved c = record {
+  small = c.in_ok-add_way.ensures.small;
+  ways = λ cell w. grown (c.in_ok-add_way.ensures.added cell w) (c.loop-site.invariant.ways cell w)
+      (one_more (λ (x : Site). (cell ≡ x.access.cell) × (w ≡ x.access.way)) c.args.sites.now c.loop-site.site-index
+      no_site c.loop-site-test.true);
+}
+
+pub returns : goal.returns
+returns c = λ cell w.
+    let end : length c.args.sites.now ≤ c.loop-site.site-index = omega arith in
+    subst (λ xs. Contains (list_at c.loop-site.ways.items cell) w ↔ IsWayOfSite xs cell w)
+    (take_all c.loop-site.site-index c.args.sites.now end) (c.loop-site.invariant.ways cell w)

@@ -1,0 +1,13 @@
+use Rattle.std.proofs.Common.{◌≤◌, ◌^◌, ◌↔◌, ℕ, length, take}
+use Rattle.std.specs.Prelude.{Contains}
+use Rattle.access_races.specs.declared.accesses.Way.{Way as AWay}
+use Rattle.access_groups.specs.reading.Noted.{list_at}
+use Rattle.access_partners.specs.reading.Accesses.{IsWayOfSite}
+use Rattle.access_partners.proofs.ways.ways_by_cell.Given as goal
+
+abbrev pub invariant-loop-site : goal.invariant-loop-site
+invariant-loop-site l =
+    record {
+      small : length l.ways.items ≤ 2 ^ 32;
+      ways : (c : ℕ) (w : AWay) → Contains (list_at l.ways.items c) w ↔ IsWayOfSite (take l.site-index l.sites) c w;
+    }
