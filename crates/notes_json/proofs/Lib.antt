@@ -1,3 +1,4 @@
--- Pieces of a text (Chains), and that where there are no pointers there are no objects (Objects).
+-- Pieces of a text (Chains), the texts of a list (Listed) and the mutexes of a set (Sets), each behind those before.
 pub mod Chains
-mod Objects
+pub mod Listed
+mod Sets

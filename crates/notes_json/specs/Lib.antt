@@ -7,3 +7,4 @@ pub mod Operands
 pub mod Operations
 pub mod Accesses
 pub mod Alarms
+pub mod reading

@@ -1,5 +1,5 @@
 -- Tasks, mutexes and objects as JSON, and the bounds of what objects hold.
-use Rattle.std.specs.Prelude.{ℕ, ℤ, Bool, true, false, List, [], ◌++◌, codes, decimal, Option, Some, None}
+use Rattle.std.specs.Prelude.{ℕ, ℤ, Bool, true, false, List, [], ◌++◌, codes, Option, Some, None}
 use Rattle.std.specs.Fmt.{signed_decimal}
 use Rattle.tm_terms.specs.declared.places.Place.{Place}
 use Rattle.notes_json.specs.Pieces.{number_text, word_text, truth_text}
@@ -34,19 +34,35 @@ function_text function None = []
 function_text function (Some task) = word_text (codes "\"function\":\"") function ++ codes ","
 
 abbrev pub owner_text : Option ℕ → List ℕ
-owner_text None = codes ",\"static\":true}"
-owner_text (Some task) = number_text (codes ",\"static\":false,\"task\":") task ++ codes "}"
+owner_text None = codes ",\"static\":true"
+owner_text (Some task) = number_text (codes ",\"static\":false,\"task\":") task
 
+-- a number with a sign behind bytes
+abbrev pub signed_text : List ℕ → ℤ → List ℕ
+signed_text before n = before ++ signed_decimal n
+
+-- {"col":COL,["function":"FUNCTION",]
 abbrev pub object_front : Place → List ℕ → Option ℕ → List ℕ
-object_front place function task = number_text (codes "{\"col\":") place.col ++ (codes ","
-    ++ (function_text function task ++ number_text (codes "\"line\":") place.line))
+object_front place function task =
+    number_text (codes "{\"col\":") place.col ++ (codes "," ++ function_text function task)
 
--- {"col":COL,["function":"FUNCTION",]"line":LINE,"name":"NAME","size":CELLS,"static":false[,"task":TASK]}
-abbrev pub object_text : Place → List ℕ → ℕ → List ℕ → Option ℕ → List ℕ
-object_text place name cells function task = object_front place function task
-    ++ (word_text (codes ",\"name\":\"") name ++ (number_text (codes ",\"size\":") cells ++ owner_text task))
+-- "line":LINE
+abbrev pub line_text : ℕ → List ℕ
+line_text line = number_text (codes "\"line\":") line
 
--- {"hi":HIGH,"lo":LOW,"object":OBJECT}
+-- "hi":HIGH,"line":LINE,"lo":LOW,"members":[
 abbrev pub range_text : ℕ → ℤ → ℤ → List ℕ
-range_text object low high = codes "{\"hi\":" ++ (signed_decimal high ++ (codes ",\"lo\":" ++ (signed_decimal low
-    ++ (codes ",\"object\":" ++ (decimal object ++ codes "}")))))
+range_text line low high = signed_text (codes "\"hi\":") high ++ (number_text (codes ",\"line\":") line
+    ++ (signed_text (codes ",\"lo\":") low ++ codes ",\"members\":["))
+
+-- {"hi":HIGH,"lo":LOW,"name":"NAME","volatile":false}
+abbrev pub member_text : List ℕ → ℤ → ℤ → Bool → List ℕ
+member_text name low high volatile = signed_text (codes "{\"hi\":") high
+    ++ (signed_text (codes ",\"lo\":") low ++ (word_text (codes ",\"name\":\"") name
+    ++ ((codes ",\"volatile\":" ++ truth_text volatile) ++ codes "}")))
+
+-- ,"name":"NAME","size":CELLS,"static":false[,"task":TASK],"type":"TYPE"}
+abbrev pub object_back : List ℕ → ℕ → Option ℕ → List ℕ → List ℕ
+object_back name cells task words = word_text (codes ",\"name\":\"") name
+    ++ (number_text (codes ",\"size\":") cells ++ (owner_text task
+    ++ (word_text (codes ",\"type\":\"") words ++ codes "}")))

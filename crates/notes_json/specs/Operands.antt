@@ -1,12 +1,12 @@
 -- Operands of operations that may fail, as JSON.
 use Rattle.std.specs.Prelude.{ℕ, pos, List, [], ◌++◌, codes}
-use Rattle.std.specs.FinMap.{entries}
 use Rattle.std.specs.Fmt.{signed_decimal}
 use Rattle.strided_dom.specs.Progression.{Progression, empty, single, row, first_of, last_of, stride_of}
 use Rattle.pointer_dom.specs.OffsetSets.{OffsetSet}
-use Rattle.pointer_dom.specs.PointerSets.{Pointers}
 use Rattle.pointer_dom.specs.Values.{Values}
-use Rattle.notes_json.specs.Pieces.{listed, number_text, word_text, truth_text}
+use Rattle.tm_cint.specs.declared.int_types.IntType.{IntType}
+use Rattle.notes_json.specs.Pieces.{number_text, word_text, truth_text}
+use Rattle.notes_json.specs.Words.{type_text}
 
 -- ## Numbers
 
@@ -35,32 +35,26 @@ low_text s = unless_empty s (some_low s)
 abbrev pub step_text : Progression → List ℕ
 step_text s = unless_empty s (some_step s)
 
+-- {["hi":HIGH,]["lo":LOW,]"role":"ROLE"[,"step":STRIDE],"type":"TYPE"}
+abbrev pub number_operand : List ℕ → IntType → Values → List ℕ
+number_operand role of v = codes "{" ++ (high_text v.numbers ++ (low_text v.numbers
+    ++ (word_text (codes "\"role\":\"") role ++ (step_text v.numbers
+    ++ (word_text (codes ",\"type\":\"") (type_text of) ++ codes "}")))))
+
 -- ## Pointers
 
--- {"hi":HIGH,"lo":LOW,"object":OBJECT,"size":CELLS,"step":STRIDE}: an object, how many cells it has, and the offsets of
--- the pointers to it
-abbrev pub object_text : ℕ × OffsetSet → List ℕ
-object_text e = (let o = e.1 in codes "{" ++ (high_text o.offsets ++ (low_text o.offsets
-    ++ (number_text (codes "\"object\":") e.0 ++ (number_text (codes ",\"size\":") o.size
-    ++ (step_text o.offsets ++ codes "}"))))))
+-- ",["hi":HIGH,]["lo":LOW,]"object":OBJECT,"size":CELLS[,"step":STRIDE]}: the number of an object, how many cells it
+-- has, and the offsets of the pointers to it, behind what is wrong with these
+abbrev pub offsets_text : ℕ → OffsetSet → List ℕ
+offsets_text object o = codes "\"," ++ (high_text o.offsets ++ (low_text o.offsets
+    ++ (number_text (codes "\"object\":") object ++ (number_text (codes ",\"size\":") o.size
+    ++ (step_text o.offsets ++ codes "}")))))
 
--- those of the objects to which pointers lead, by rising numbers
-abbrev pub objects_text : Pointers → List ℕ
-objects_text p = listed object_text (entries p.objects)
+-- {"invalid":false,"null":false,"objects":[
+abbrev pub pointer_front : Values → List ℕ
+pointer_front v = (codes "{\"invalid\":" ++ truth_text v.pointers.invalid)
+    ++ ((codes ",\"null\":" ++ truth_text v.pointers.null) ++ codes ",\"objects\":[")
 
--- ## Operands
-
-abbrev pub operand_front : Values → List ℕ
-operand_front v = codes "{" ++ (high_text v.numbers ++ ((codes "\"invalid\":" ++ truth_text v.pointers.invalid)
-    ++ (codes "," ++ low_text v.numbers)))
-
-abbrev pub operand_middle : Values → List ℕ
-operand_middle v = (codes "\"null\":" ++ truth_text v.pointers.null) ++ (codes ",\"objects\":["
-    ++ objects_text v.pointers)
-
-abbrev pub operand_back : List ℕ → Values → List ℕ
-operand_back role v = word_text (codes "],\"role\":\"") role ++ (step_text v.numbers ++ codes "}")
-
--- {["hi":HIGH,]"invalid":false,["lo":LOW,]"null":false,"objects":[OBJECT,..],"role":"ROLE"[,"step":STRIDE]}
-abbrev pub operand_text : List ℕ → Values → List ℕ
-operand_text role v = operand_front v ++ (operand_middle v ++ operand_back role v)
+-- ],"role":"ROLE","type":"pointer"}
+abbrev pub pointer_back : List ℕ → List ℕ
+pointer_back role = word_text (codes "],\"role\":\"") role ++ codes ",\"type\":\"pointer\"}"

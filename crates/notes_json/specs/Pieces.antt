@@ -1,6 +1,6 @@
 -- Pieces of JSON (RFC 8259). A number stands in decimal; std's `decimal n` is the number n as `{}` writes it.
-use Rattle.std.specs.Prelude.{ℕ, zero, suc, Bool, cond, List, [], ◌++◌, length, codes, decimal, slice_get}
-use Rattle.std.specs.Prelude.{Option, Some, None}
+use Rattle.std.specs.Prelude.{ℕ, zero, suc, Bool, cond, List, [], ◌++◌, map, codes, decimal, Option, Some, None}
+use Rattle.std.specs.List.{join_with_byte}
 use Rattle.tm_terms.specs.declared.places.Place.{Place}
 
 -- ## Lists
@@ -10,19 +10,19 @@ abbrev pub comma_before : ℕ → List ℕ
 comma_before zero = []
 comma_before (suc n) = codes ","
 
+-- and where some are left out, before one behind others
+abbrev pub comma_if : Bool → List ℕ
+comma_if others = cond others (codes ",") []
+
 module _ {A : Type 0} (text_of : A → List ℕ) where
+  -- the text of what there may be
   abbrev pub or_nothing : Option A → List ℕ
   or_nothing None = []
   or_nothing (Some x) = text_of x
 
-  -- the texts of the first of a list, with a comma between each and the next one
-  abbrev pub listed_below : List A → ℕ → List ℕ
-  listed_below xs zero = []
-  listed_below xs (suc n) = listed_below xs n ++ (comma_before n ++ or_nothing (slice_get xs n))
-
-  -- and those of the whole list
+  -- the texts of a list, with a comma, which is byte 44, between each and the next one
   abbrev pub listed : List A → List ℕ
-  listed xs = listed_below xs (length xs)
+  listed xs = join_with_byte 44 (map text_of xs)
 
 -- ## Members
 

@@ -1,6 +1,7 @@
 //! Alarms, in the parts that stand before, between and behind the lists of one.
 ghost use Rattle.std.specs.Prelude.{◌≡◌, ◌++◌, OnOk};
-ghost use Rattle.notes_json.specs.Alarms.{alarm_front, alarm_middle, alarm_back, alarm_end, type_member, race_text};
+ghost use Rattle.notes_json.specs.Alarms.{alarm_front, alarm_lines, alarm_middle, alarm_back, alarm_end, type_member};
+ghost use Rattle.notes_json.specs.Alarms.{paths_front, race_middle, path_back};
 
 use crate::operations::{cells_of, length_of, mutex_of, operator_text, rule_text, type_of};
 use crate::pieces::{push_bytes, push_number, push_option, push_truth, push_word};
@@ -11,7 +12,7 @@ use tm_cint::{Class, IntType};
 use tm_lattice::NoMemory;
 use tm_terms::{Place, class_word};
 
-/// Appends what stands of an alarm up to the list of what is wrong with pointers.
+/// Appends what stands of an alarm up to its function.
 pub fn push_alarm_front(
     alloc: Global,
     text: &mut Vec<u8>,
@@ -26,20 +27,21 @@ pub fn push_alarm_front(
     push_bytes(text, b",")?;
     push_option(alloc, text, b"\"cells\":", cells_of(operation))?;
     push_word(text, b"\"class\":\"", class_word(class).as_bytes())?;
-    push_number(alloc, text, b",\"col\":", place.col as u64)?;
-    push_bytes(text, b",\"flaws\":[")
+    push_number(alloc, text, b",\"col\":", place.col as u64)
 }
 
-/// Appends what stands behind this list, up to that of operands.
-pub fn push_alarm_middle(
+/// Appends what stands behind this, up to the list of operands.
+pub fn push_alarm_lines(
     alloc: Global,
     text: &mut Vec<u8>,
     place: Place,
+    function: &[u8],
     operation: Operation,
 ) -> Result<(), NoMemory>
-    ensures { OnOk result (text.new.items ≡ text.old.items ++ alarm_middle place operation) }
+    ensures { OnOk result (text.new.items ≡ text.old.items ++ alarm_lines place function.now operation) }
 {
-    push_bytes(text, b"],")?;
+    push_word(text, b",\"function\":\"", function)?;
+    push_bytes(text, b",")?;
     push_option(alloc, text, b"\"length\":", length_of(operation))?;
     push_number(alloc, text, b"\"line\":", place.line as u64)?;
     push_bytes(text, b",")?;
@@ -47,11 +49,32 @@ pub fn push_alarm_middle(
     push_bytes(text, b"\"operands\":[")
 }
 
+/// Appends how many call paths there are, up to the list of them.
+fn push_paths_front(alloc: Global, text: &mut Vec<u8>, paths: usize) -> Result<(), NoMemory>
+    ensures { OnOk result (text.new.items ≡ text.old.items ++ paths_front paths) }
+{
+    push_number(alloc, text, b",\"path_count\":", paths as u64)?;
+    push_bytes(text, b",\"paths\":[")
+}
+
+/// Appends what stands behind the operands, up to the list of call paths.
+pub fn push_alarm_middle(
+    alloc: Global,
+    text: &mut Vec<u8>,
+    operation: Operation,
+    paths: usize,
+) -> Result<(), NoMemory>
+    ensures { OnOk result (text.new.items ≡ text.old.items ++ alarm_middle operation paths) }
+{
+    push_word(text, b"],\"operator\":\"", operator_text(operation))?;
+    push_paths_front(alloc, text, paths)
+}
+
 /// Appends what stands behind this one, up to that of tasks.
 pub fn push_alarm_back(text: &mut Vec<u8>, operation: Operation) -> Result<(), NoMemory>
     ensures { OnOk result (text.new.items ≡ text.old.items ++ alarm_back operation) }
 {
-    push_word(text, b"],\"operator\":\"", operator_text(operation))?;
+    push_bytes(text, b"]")?;
     push_bytes(text, rule_text(operation))?;
     push_bytes(text, b",\"tasks\":[")
 }
@@ -75,17 +98,31 @@ pub fn push_alarm_end(text: &mut Vec<u8>, operation: Operation) -> Result<(), No
     push_bytes(text, b"}")
 }
 
-/// Appends the alarm of a race.
-pub fn push_race_alarm(alloc: Global, text: &mut Vec<u8>, place: Place) -> Result<(), NoMemory>
-    ensures { OnOk result (text.new.items ≡ text.old.items ++ race_text place) }
+/// Appends what stands of the alarm of a race behind its accesses, up to the list of call paths.
+pub fn push_race_middle(
+    alloc: Global,
+    text: &mut Vec<u8>,
+    place: Place,
+    function: &[u8],
+    paths: usize,
+) -> Result<(), NoMemory>
+    ensures { OnOk result (text.new.items ≡ text.old.items ++ race_middle place function.now paths) }
 {
     push_number(
         alloc,
         text,
-        b"{\"class\":\"RACE\",\"col\":",
+        b"],\"class\":\"RACE\",\"col\":",
         place.col as u64,
     )?;
+    push_word(text, b",\"function\":\"", function)?;
     push_number(alloc, text, b",\"line\":", place.line as u64)?;
-    push_bytes(text, b"}")?;
-    Ok(())
+    push_paths_front(alloc, text, paths)
+}
+
+/// Appends what stands of a call path behind its calls.
+pub fn push_path_back(alloc: Global, text: &mut Vec<u8>, task: u32) -> Result<(), NoMemory>
+    ensures { OnOk result (text.new.items ≡ text.old.items ++ path_back task) }
+{
+    push_number(alloc, text, b"],\"task\":", task as u64)?;
+    push_bytes(text, b"}")
 }

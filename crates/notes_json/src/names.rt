@@ -1,7 +1,8 @@
 //! Tasks, mutexes and objects, and the bounds of what objects hold.
 ghost use Rattle.std.specs.Prelude.{◌≡◌, ◌++◌, IfOk, OnOk, string_bytes};
 ghost use Rattle.notes_json.specs.Names.{is_none, priority_text, task_text, mutex_text, function_text, owner_text};
-ghost use Rattle.notes_json.specs.Names.{object_front, object_text, range_text};
+ghost use Rattle.notes_json.specs.Names.{signed_text, object_front, line_text, range_text, member_text, object_back};
+ghost use Rattle.std.specs.Fmt.{signed_decimal};
 
 use crate::pieces::{push_bytes, push_number, push_truth, push_word};
 use std::alloc::Global;
@@ -83,17 +84,37 @@ fn push_owner(alloc: Global, text: &mut Vec<u8>, task: Option<u32>) -> Result<()
     ensures { OnOk result (text.new.items ≡ text.old.items ++ owner_text task) }
 {
     match task {
-        None => push_bytes(text, b",\"static\":true}"),
-        Some(found) => {
-            push_number(alloc, text, b",\"static\":false,\"task\":", found as u64)?;
-            push_bytes(text, b"}")?;
-            Ok(())
-        }
+        None => push_bytes(text, b",\"static\":true"),
+        Some(found) => push_number(alloc, text, b",\"static\":false,\"task\":", found as u64),
     }
 }
 
-/// Appends what stands of an object up to its line.
-fn push_object_front(
+/// A number in decimal.
+fn signed_decimal(alloc: Global, number: i128) -> Result<String, NoMemory>
+    ensures { IfOk result (λ text. string_bytes text ≡ signed_decimal number) }
+{
+    match format!(in alloc; "{number}") {
+        Ok(text) => Ok(text),
+        Err(_) => Err(NoMemory),
+    }
+}
+
+/// Appends a number with a sign behind bytes.
+fn push_signed(
+    alloc: Global,
+    text: &mut Vec<u8>,
+    before: &[u8],
+    number: i128,
+) -> Result<(), NoMemory>
+    ensures { OnOk result (text.new.items ≡ text.old.items ++ signed_text before.now number) }
+{
+    let digits = signed_decimal(alloc, number)?;
+    push_bytes(text, before)?;
+    push_bytes(text, digits.as_bytes())
+}
+
+/// Appends what stands of an object up to its function, or its line.
+pub fn push_object_front(
     alloc: Global,
     text: &mut Vec<u8>,
     place: Place,
@@ -104,50 +125,65 @@ fn push_object_front(
 {
     push_number(alloc, text, b"{\"col\":", place.col as u64)?;
     push_bytes(text, b",")?;
-    push_function(text, function, task)?;
-    push_number(alloc, text, b"\"line\":", place.line as u64)
+    push_function(text, function, task)
 }
 
-/// Appends an object of so many cells. One that has not static storage is a parameter or a local object of the
-/// function, and the task has it to itself.
-pub fn push_object(
-    alloc: Global,
-    text: &mut Vec<u8>,
-    place: Place,
-    name: &[u8],
-    cells: u32,
-    function: &[u8],
-    task: Option<u32>,
-) -> Result<(), NoMemory>
-    ensures { OnOk result (text.new.items ≡ text.old.items
-        ++ object_text place name.now cells function.now task) }
+/// Appends the line of an object of which no numbers are told.
+pub fn push_line(alloc: Global, text: &mut Vec<u8>, line: u32) -> Result<(), NoMemory>
+    ensures { OnOk result (text.new.items ≡ text.old.items ++ line_text line) }
 {
-    push_object_front(alloc, text, place, function, task)?;
-    push_word(text, b",\"name\":\"", name)?;
-    push_number(alloc, text, b",\"size\":", cells as u64)?;
-    push_owner(alloc, text, task)
+    push_number(alloc, text, b"\"line\":", line as u64)
 }
 
-/// The least and the greatest number that an object holds.
-fn range_text(alloc: Global, object: u32, low: i128, high: i128) -> Result<String, NoMemory>
-    ensures { IfOk result (λ text. string_bytes text ≡ range_text object low high) }
-{
-    match format!(in alloc; "{{\"hi\":{high},\"lo\":{low},\"object\":{object}}}") {
-        Ok(text) => Ok(text),
-        Err(_) => Err(NoMemory),
-    }
-}
-
-/// Appends the least and the greatest number that an object holds.
+/// Appends the line of an object, with the least and the greatest number that it holds, up to its members.
 pub fn push_range(
     alloc: Global,
     text: &mut Vec<u8>,
-    object: u32,
+    line: u32,
     low: i128,
     high: i128,
 ) -> Result<(), NoMemory>
-    ensures { OnOk result (text.new.items ≡ text.old.items ++ range_text object low high) }
+    ensures { OnOk result (text.new.items ≡ text.old.items ++ range_text line low high) }
 {
-    let range = range_text(alloc, object, low, high)?;
-    push_bytes(text, range.as_bytes())
+    push_signed(alloc, text, b"\"hi\":", high)?;
+    push_number(alloc, text, b",\"line\":", line as u64)?;
+    push_signed(alloc, text, b",\"lo\":", low)?;
+    push_bytes(text, b",\"members\":[")
+}
+
+/// Appends a member of an object, with the least and the greatest number that it holds.
+pub fn push_member(
+    alloc: Global,
+    text: &mut Vec<u8>,
+    name: &[u8],
+    low: i128,
+    high: i128,
+    volatile: bool,
+) -> Result<(), NoMemory>
+    ensures { OnOk result (text.new.items ≡ text.old.items ++ member_text name.now low high volatile) }
+{
+    push_signed(alloc, text, b"{\"hi\":", high)?;
+    push_signed(alloc, text, b",\"lo\":", low)?;
+    push_word(text, b",\"name\":\"", name)?;
+    push_truth(text, b",\"volatile\":", volatile)?;
+    push_bytes(text, b"}")
+}
+
+/// Appends what stands behind this: an object of so many cells and of this type. One that has not static storage is a
+/// parameter or a local object of the function, and the task has it to itself.
+pub fn push_object_back(
+    alloc: Global,
+    text: &mut Vec<u8>,
+    name: &[u8],
+    cells: u32,
+    task: Option<u32>,
+    words: &[u8],
+) -> Result<(), NoMemory>
+    ensures { OnOk result (text.new.items ≡ text.old.items ++ object_back name.now cells task words.now) }
+{
+    push_word(text, b",\"name\":\"", name)?;
+    push_number(alloc, text, b",\"size\":", cells as u64)?;
+    push_owner(alloc, text, task)?;
+    push_word(text, b",\"type\":\"", words)?;
+    push_bytes(text, b"}")
 }

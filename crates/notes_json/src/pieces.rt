@@ -1,7 +1,8 @@
 //! Pieces of JSON.
 ghost use Rattle.std.specs.Prelude.{◌≡◌, ◌++◌, IfOk, OnOk, string_bytes, decimal};
 ghost use Rattle.tm_terms.specs.Spelling.{text_of};
-ghost use Rattle.notes_json.specs.Pieces.{comma_before, number_text, option_text, word_text, truth_text, place_text};
+ghost use Rattle.notes_json.specs.Pieces.{comma_before, comma_if, number_text, option_text, word_text, truth_text};
+ghost use Rattle.notes_json.specs.Pieces.{place_text};
 
 use std::alloc::Global;
 use tm_lattice::NoMemory;
@@ -43,6 +44,17 @@ pub fn push_comma(text: &mut Vec<u8>, at: usize) -> Result<(), NoMemory>
         return Ok(());
     }
     push_bytes(text, b",")
+}
+
+/// Appends the comma that stands before what is behind others in a list of which some are left out.
+pub fn push_comma_if(text: &mut Vec<u8>, others: bool) -> Result<(), NoMemory>
+    ensures { OnOk result (text.new.items ≡ text.old.items ++ comma_if others) }
+{
+    if others {
+        push_bytes(text, b",")
+    } else {
+        Ok(())
+    }
 }
 
 /// A number in decimal.

@@ -1,14 +1,22 @@
--- The alarms of a report as JSON: those of races by their places, since what races stands with the objects, and the
--- others with what they stand on.
-use Rattle.std.specs.Prelude.{ℕ, zero, suc, ◌+◌, Bool, true, false, cond, List, [], ◌∷◌, ◌++◌, length, slice_get}
-use Rattle.std.specs.Prelude.{Option, Some, None}
+-- The alarms of a report as JSON: those of races with the accesses that race at their places, and the others with what
+-- they stand on.
+use Rattle.std.specs.Prelude.{ℕ, Bool, true, false, cond, List, [], ◌∷◌, ◌++◌, length, take, codes, decimal}
+use Rattle.std.specs.Prelude.{slice_get, Option}
+use Rattle.std.specs.List.{enumerate_from}
 use Rattle.tm_cint.specs.declared.Class.{Class}
 use Rattle.tm_cint.specs.declared.Class.TheVariants.{Overflow, Div, Shift, Index, Pointer, Deref, Lock, Race}
 use Rattle.tm_terms.specs.declared.alarms.Alarm.{Alarm}
+use Rattle.tm_terms.specs.declared.places.Place.{Place}
+use Rattle.tm_terms.specs.Spelling.{text_of}
 use Rattle.flow_graph.specs.declared.operations.Operation.{Operation}
+use Rattle.access_groups.specs.declared.object_access.ObjectAccess.{ObjectAccess}
 use Rattle.alarm_contexts.specs.declared.alarm_context.AlarmContexts.{AlarmContexts}
-use Rattle.notes_json.specs.Pieces.{comma_before, or_nothing}
-use Rattle.notes_json.specs.Alarms.{race_text}
+use Rattle.note_details.specs.declared.alarms.AlarmDetails.{AlarmDetails}
+use Rattle.note_details.specs.declared.races.RaceAccess.{RaceAccess}
+use Rattle.notes_json.specs.Pieces.{listed, or_nothing}
+use Rattle.notes_json.specs.Accesses.{race_front, race_back, partner_text}
+use Rattle.notes_json.specs.Alarms.{race_middle}
+use Rattle.program_notes.specs.Paths.{path_text}
 use Rattle.program_notes.specs.ContextTexts.{context_text}
 
 -- ## Races and others
@@ -31,42 +39,52 @@ abbrev pub other_alarms : List Alarm → List Alarm
 other_alarms [] = []
 other_alarms (a ∷ report) = cond (is_race a) (other_alarms report) (a ∷ other_alarms report)
 
--- how many alarms at this place are others, and how many of the first ones
-abbrev pub count_other : Option Alarm → ℕ
-count_other None = 0
-count_other (Some a) = cond (is_race a) 0 1
+-- ## Races
 
-abbrev pub others_at : List Alarm → ℕ → ℕ
-others_at report n = count_other (slice_get report n)
+-- an access with which another one races
+abbrev pub partner_object : ObjectAccess → List ℕ
+partner_object p = partner_text p.place p.held p.stores p.task
 
-abbrev pub others_below : List Alarm → ℕ → ℕ
-others_below report zero = 0
-others_below report (suc n) = others_below report n + others_at report n
+-- {"held":[MUTEX,..],"kind":"store","member":"MEMBER","partner_count":COUNT,"partners":[PARTNER,..],"race":RACE,
+-- "task":TASK}
+abbrev pub race_object : RaceAccess → List ℕ
+race_object a = race_front a.held a.stores a.member.items a.partner_count
+    ++ (listed partner_object a.partners.items ++ race_back a.race a.task)
+
+abbrev pub race_alarm_back : AlarmDetails → List ℕ
+race_alarm_back d = listed path_text d.paths.items ++ (codes "],\"tasks\":["
+    ++ (listed decimal d.tasks.items ++ codes "]}"))
+
+module _ (bytes : List ℕ) where
+  abbrev pub race_alarm_front : Place → AlarmDetails → List ℕ
+  race_alarm_front place d = codes "{\"accesses\":[" ++ (listed race_object d.accesses.items
+      ++ race_middle place (text_of bytes d.function) d.path_count)
+
+  -- {"accesses":[ACCESS,..],"class":"RACE","col":COL,"function":"FUNCTION","line":LINE,"path_count":COUNT,
+  -- "paths":[PATH,..],"tasks":[TASK,..]}
+  abbrev pub race_alarm : Place → AlarmDetails → List ℕ
+  race_alarm place d = race_alarm_front place d ++ race_alarm_back d
 
 -- ## Texts
 
-module _ (operation_of : AlarmContexts → Operation) where
-  -- the one at this place among the others, if there is one
-  abbrev pub other_text : List AlarmContexts → ℕ → List ℕ
-  other_text others next = or_nothing (λ a. context_text a (operation_of a)) (slice_get others next)
+-- The contexts of the alarm at this place of a report, which is no race: they stand where it does among those that are
+-- not.
+abbrev pub contexts_at : List Alarm → List AlarmContexts → ℕ → Option AlarmContexts
+contexts_at report others n = slice_get others (length (other_alarms (take n report)))
 
-  -- an alarm, where this is the next of the others
-  abbrev pub alarm_text : List AlarmContexts → ℕ → Alarm → List ℕ
-  alarm_text others next a = cond (is_race a) (race_text a.place) (other_text others next)
+module _ (operation_of : AlarmContexts → Operation) (bytes : List ℕ) (numbers : List (Option ℕ)) where
+  -- an alarm that is no race, with its contexts
+  abbrev pub other_text : AlarmDetails → Option AlarmContexts → List ℕ
+  other_text d contexts = or_nothing (λ c. context_text bytes numbers c (operation_of c) d) contexts
 
-  abbrev pub alarm_or_nothing : List AlarmContexts → ℕ → Option Alarm → List ℕ
-  alarm_or_nothing others next None = []
-  alarm_or_nothing others next (Some a) = alarm_text others next a
+  -- an alarm, with these contexts if it is no race
+  abbrev pub alarm_text : Option AlarmContexts → Alarm → AlarmDetails → List ℕ
+  alarm_text contexts a d = cond (is_race a) (race_alarm bytes a.place d) (other_text d contexts)
 
-  abbrev pub alarm_at : List Alarm → List AlarmContexts → ℕ → ℕ → List ℕ
-  alarm_at report others next n = alarm_or_nothing others next (slice_get report n)
+  module _ (report : List Alarm) (others : List AlarmContexts) (details : List AlarmDetails) where
+    -- one with its place in the report
+    abbrev pub alarm_object : ℕ × Alarm → List ℕ
+    alarm_object e = or_nothing (alarm_text (contexts_at report others e.0) e.1) (slice_get details e.0)
 
-  -- the first alarms of a report, with a comma between each and the next one
-  abbrev pub alarms_below : List Alarm → List AlarmContexts → ℕ → List ℕ
-  alarms_below report others zero = []
-  alarms_below report others (suc n) = alarms_below report others n
-      ++ (comma_before n ++ alarm_at report others (others_below report n) n)
-
-  -- and all of them
-  abbrev pub alarms_text : List Alarm → List AlarmContexts → List ℕ
-  alarms_text report others = alarms_below report others (length report)
+    abbrev pub alarms_text : List ℕ
+    alarms_text = listed alarm_object (enumerate_from 0 report)

@@ -6,37 +6,42 @@ use Rattle.alarm_contexts.specs.declared.alarm_context.AlarmContexts.{AlarmConte
 use Rattle.notes_json.specs.Pieces.{listed, number_text, place_text}
 use Rattle.program_notes.specs.declared.declarations.Declared.{Declared}
 use Rattle.program_notes.specs.declared.noted.Contents.{Contents}
-use Rattle.program_notes.specs.Lists.{runner_text, mutex_text, object_text, bounds_text}
+use Rattle.program_notes.specs.Lists.{runner_text, mutex_text}
+use Rattle.program_notes.specs.ObjectTexts.{objects_text}
 use Rattle.program_notes.specs.AlarmTexts.{alarms_text}
-use Rattle.program_notes.specs.GroupTexts.{group_text}
-use Rattle.program_notes.specs.RingTexts.{ring_text}
+use Rattle.program_notes.specs.GroupTexts.{groups_text}
 
 -- ],"count":N
 abbrev pub count_text : List Alarm → List ℕ
 count_text report = number_text (codes "],\"count\":") (length report)
 
 -- {"alarms":[ALARM,..],"count":N
-abbrev pub alarms_part : (AlarmContexts → Operation) → Contents → List ℕ
-alarms_part operation_of c = (let r = c.report in codes "{\"alarms\":["
-    ++ (alarms_text operation_of r.alarms.items c.others.items ++ count_text r.alarms.items))
+abbrev pub alarms_part : (AlarmContexts → Operation) → List ℕ → Contents → List ℕ
+alarms_part operation_of bytes c = (let r = c.report in let d = c.details in codes "{\"alarms\":["
+    ++ (alarms_text operation_of bytes d.numbers.items r.alarms.items c.others.items d.alarms.items
+    ++ count_text r.alarms.items))
 
--- ],"races":[GROUP,..],"ranges":[RANGE,..
+-- ],"races":[GROUP,..
 abbrev pub races_part : Contents → List ℕ
-races_part c = (let r = c.ranges in codes "],\"races\":[" ++ (listed group_text c.groups.items
-    ++ (codes "],\"ranges\":[" ++ listed bounds_text r.bounds.items)))
+races_part c = (let d = c.details in codes "],\"races\":["
+    ++ groups_text d.numbers.items c.groups.items d.members.items)
 
 module _ (bytes : List ℕ) (d : Declared) where
+  -- the objects that are listed
+  abbrev pub objects_part : Contents → List ℕ
+  objects_part c = (let r = c.ranges in let more = c.details in codes "],\"objects\":["
+      ++ objects_text bytes r.bounds.items d.objects.items more.objects.items more.numbers.items)
+
   -- ,"dead":[PLACE,..],"mutexes":[MUTEX,..],"objects":[OBJECT,..
   abbrev pub names_part : Contents → List ℕ
   names_part c = (let r = c.ranges in codes ",\"dead\":[" ++ (listed place_text r.dead.items
-      ++ (codes "],\"mutexes\":[" ++ (listed (mutex_text bytes) d.mutexes.items
-      ++ (codes "],\"objects\":[" ++ listed (object_text bytes) d.objects.items)))))
+      ++ (codes "],\"mutexes\":[" ++ (listed (mutex_text bytes) d.mutexes.items ++ objects_part c))))
 
-  -- ],"tasks":[TASK,..],"waits":[RING,..]} and the end of the line
-  abbrev pub tasks_part : Contents → List ℕ
-  tasks_part c = codes "],\"tasks\":[" ++ (listed (runner_text bytes) d.runners.items ++ (codes "],\"waits\":["
-      ++ (listed ring_text c.rings.items ++ codes "]}\n")))
+  -- ],"tasks":[TASK,..]} and the end of the line
+  abbrev pub tasks_part : List ℕ
+  tasks_part = codes "],\"tasks\":[" ++ (listed (runner_text bytes) d.runners.items ++ codes "]}\n")
 
   -- the notes, where the operation of an alarm is found so
   abbrev pub notes_text : (AlarmContexts → Operation) → Contents → List ℕ
-  notes_text operation_of c = alarms_part operation_of c ++ (names_part c ++ (races_part c ++ tasks_part c))
+  notes_text operation_of c =
+      alarms_part operation_of bytes c ++ (names_part c ++ (races_part c ++ tasks_part))

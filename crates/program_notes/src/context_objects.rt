@@ -1,61 +1,30 @@
 //! Alarms that are not races.
-ghost use Rattle.std.specs.Prelude.{◌≡◌, ◌++◌, OnOk, length};
-ghost use Rattle.program_notes.specs.ContextTexts.{operand_at, operands_below, task_at, tasks_below, context_front};
-ghost use Rattle.program_notes.specs.ContextTexts.{context_back, context_text};
+ghost use Rattle.std.specs.Prelude.{◌≡◌, ◌++◌, OnOk};
+ghost use Rattle.program_notes.specs.ContextTexts.{tasks_text, context_front, context_middle, context_back};
+ghost use Rattle.program_notes.specs.ContextTexts.{context_text};
+ghost use Rattle.program_notes.specs.reading.Choices.{task_if};
 
 use crate::edges::{edge_body, is_first};
-use crate::flaws::push_flaws;
+use crate::operand_objects::push_operands;
+use crate::path_objects::push_paths;
 use alarm_contexts::{AlarmContexts, ContextEdge};
 use flow_graph::Operation;
+use note_details::AlarmDetails;
 use notes_json::{
-    push_alarm_back, push_alarm_end, push_alarm_front, push_alarm_middle, push_comma, push_number,
-    push_operand, role_at,
+    push_alarm_back, push_alarm_end, push_alarm_front, push_alarm_lines, push_alarm_middle,
+    push_comma, push_number, text_of,
 };
-use pointer_dom::AbsValue;
 use std::alloc::Global;
 use tm_lattice::NoMemory;
 
-/// Appends the operand at this place of a list, if there is one.
-fn push_operand_at(
-    alloc: Global,
-    text: &mut Vec<u8>,
-    operands: &[AbsValue],
-    operation: Operation,
-    at: usize,
-) -> Result<(), NoMemory>
-    ensures { OnOk result (text.new.items ≡ text.old.items ++ operand_at operation operands.now at) }
-{
-    match operands.get(at) {
-        None => Ok(()),
-        Some(value) => push_operand(alloc, text, role_at(operation, at), value),
-    }
-}
-
-/// Appends operands.
-fn push_operands(
-    alloc: Global,
-    text: &mut Vec<u8>,
-    operands: &[AbsValue],
-    operation: Operation,
-) -> Result<(), NoMemory>
-    ensures { OnOk result (text.new.items ≡ text.old.items
-        ++ operands_below operation operands.now (length operands.now)) }
-{
-    for at in 0..operands.len() {
-        push_comma(text, at)?;
-        push_operand_at(alloc, text, operands, operation, at)?;
-    }
-    Ok(())
-}
-
-/// Appends the task of an edge, where it is the first of that.
-fn push_task_at(
+/// Appends the task of an edge, if it is the first of that task. The first edge of all is one.
+fn push_task_if(
     alloc: Global,
     text: &mut Vec<u8>,
     edges: &[ContextEdge],
     at: usize,
 ) -> Result<(), NoMemory>
-    ensures { OnOk result (text.new.items ≡ text.old.items ++ task_at edges.now at) }
+    ensures { OnOk result (text.new.items ≡ text.old.items ++ task_if edges.now at) }
 {
     if !is_first(edges, at) {
         return Ok(());
@@ -66,22 +35,26 @@ fn push_task_at(
 
 /// Appends the tasks of edges.
 fn push_tasks(alloc: Global, text: &mut Vec<u8>, edges: &[ContextEdge]) -> Result<(), NoMemory>
-    ensures { OnOk result (text.new.items ≡ text.old.items ++ tasks_below edges.now (length edges.now)) }
+    ensures { OnOk result (text.new.items ≡ text.old.items ++ tasks_text edges.now) }
 {
     for at in 0..edges.len() {
-        push_task_at(alloc, text, edges, at)?;
+        push_task_if(alloc, text, edges, at)?;
     }
     Ok(())
 }
 
-/// Appends what stands of an alarm with this operation up to its operands.
+/// Appends what stands of an alarm with this operation up to its operands, and these.
 fn push_front(
     alloc: Global,
     text: &mut Vec<u8>,
+    bytes: &[u8],
+    numbers: &[Option<u32>],
     alarm: &AlarmContexts,
     operation: Operation,
+    details: &AlarmDetails,
 ) -> Result<(), NoMemory>
-    ensures { OnOk result (text.new.items ≡ text.old.items ++ context_front alarm.now operation) }
+    ensures { OnOk result (text.new.items ≡ text.old.items
+        ++ context_front bytes.now numbers.now alarm.now operation details.now) }
 {
     push_alarm_front(
         alloc,
@@ -91,11 +64,33 @@ fn push_front(
         alarm.always,
         operation,
     )?;
-    push_flaws(alloc, text, &alarm.flaws)?;
-    push_alarm_middle(alloc, text, alarm.place, operation)
+    let function = text_of(bytes, details.function);
+    push_alarm_lines(alloc, text, alarm.place, function, operation)?;
+    push_operands(
+        alloc,
+        text,
+        numbers,
+        &alarm.flaws,
+        operation,
+        &details.operands,
+        &alarm.operands,
+    )
 }
 
-/// Appends these, and what stands behind them.
+/// Appends its operator and its call paths.
+fn push_middle(
+    alloc: Global,
+    text: &mut Vec<u8>,
+    operation: Operation,
+    details: &AlarmDetails,
+) -> Result<(), NoMemory>
+    ensures { OnOk result (text.new.items ≡ text.old.items ++ context_middle operation details.now) }
+{
+    push_alarm_middle(alloc, text, operation, details.path_count)?;
+    push_paths(alloc, text, &details.paths)
+}
+
+/// Appends what stands behind these.
 fn push_back(
     alloc: Global,
     text: &mut Vec<u8>,
@@ -104,22 +99,25 @@ fn push_back(
 ) -> Result<(), NoMemory>
     ensures { OnOk result (text.new.items ≡ text.old.items ++ context_back alarm.now operation) }
 {
-    push_operands(alloc, text, &alarm.operands, operation)?;
     push_alarm_back(text, operation)?;
     push_tasks(alloc, text, &alarm.edges)?;
-    push_alarm_end(text, operation)?;
-    Ok(())
+    push_alarm_end(text, operation)
 }
 
-/// Appends an alarm with this operation.
+/// Appends an alarm with this operation and these details.
 pub(crate) fn push_context(
     alloc: Global,
     text: &mut Vec<u8>,
+    bytes: &[u8],
+    numbers: &[Option<u32>],
     alarm: &AlarmContexts,
     operation: Operation,
+    details: &AlarmDetails,
 ) -> Result<(), NoMemory>
-    ensures { OnOk result (text.new.items ≡ text.old.items ++ context_text alarm.now operation) }
+    ensures { OnOk result (text.new.items ≡ text.old.items
+        ++ context_text bytes.now numbers.now alarm.now operation details.now) }
 {
-    push_front(alloc, text, alarm, operation)?;
+    push_front(alloc, text, bytes, numbers, alarm, operation, details)?;
+    push_middle(alloc, text, operation, details)?;
     push_back(alloc, text, alarm, operation)
 }

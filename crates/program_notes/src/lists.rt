@@ -1,36 +1,25 @@
-//! Tasks, mutexes, objects, bounds and places.
-ghost use Rattle.std.specs.Prelude.{◌≡◌, ◌++◌, OnOk, slice_get};
-ghost use Rattle.notes_json.specs.Pieces.{or_nothing, listed, place_text};
-ghost use Rattle.program_notes.specs.Lists.{runner_text, mutex_text, object_text, bounds_text};
+//! Tasks, mutexes and places.
+ghost use Rattle.std.specs.Prelude.{◌≡◌, ◌++◌, OnOk};
+ghost use Rattle.notes_json.specs.Pieces.{listed, place_text};
+ghost use Rattle.program_notes.specs.Lists.{runner_text, mutex_text};
 
-use crate::declarations::{Declaration, DeclaredObject, Runner};
-use notes_json::{push_comma, push_mutex, push_object, push_place, push_range, push_task, text_of};
+use crate::declarations::{Declaration, Runner};
+use notes_json::{push_comma, push_mutex, push_place, push_task, text_of};
 use std::alloc::Global;
 use tm_lattice::NoMemory;
 use tm_terms::Place;
-use value_ranges::ObjectBounds;
 
-/// Appends the task at this place of a list, if there is one.
-fn push_runner_at(
+/// Appends a task.
+fn push_runner(
     alloc: Global,
     text: &mut Vec<u8>,
     bytes: &[u8],
-    runners: &[Runner],
-    at: usize,
+    runner: Runner,
 ) -> Result<(), NoMemory>
-    ensures { OnOk result (text.new.items ≡ text.old.items
-        ++ or_nothing (runner_text bytes.now) (slice_get runners.now at)) }
+    ensures { OnOk result (text.new.items ≡ text.old.items ++ runner_text bytes.now runner) }
 {
-    match runners.get(at) {
-        None => Ok(()),
-        Some(runner) => push_task(
-            alloc,
-            text,
-            runner.of.place,
-            text_of(bytes, runner.of.name),
-            runner.priority,
-        ),
-    }
+    let name = text_of(bytes, runner.of.name);
+    push_task(alloc, text, runner.of.place, name, runner.priority)
 }
 
 /// Appends tasks.
@@ -42,28 +31,23 @@ pub(crate) fn push_runners(
 ) -> Result<(), NoMemory>
     ensures { OnOk result (text.new.items ≡ text.old.items ++ listed (runner_text bytes.now) runners.now) }
 {
-    for at in 0..runners.len() {
+    for (at, runner) in runners.iter().enumerate() {
         push_comma(text, at)?;
-        push_runner_at(alloc, text, bytes, runners, at)?;
+        push_runner(alloc, text, bytes, *runner)?;
     }
     Ok(())
 }
 
-/// Appends the mutex at this place of a list, if there is one.
-fn push_mutex_at(
+/// Appends a mutex that is declared.
+fn push_declared(
     alloc: Global,
     text: &mut Vec<u8>,
     bytes: &[u8],
-    mutexes: &[Declaration],
-    at: usize,
+    mutex: Declaration,
 ) -> Result<(), NoMemory>
-    ensures { OnOk result (text.new.items ≡ text.old.items
-        ++ or_nothing (mutex_text bytes.now) (slice_get mutexes.now at)) }
+    ensures { OnOk result (text.new.items ≡ text.old.items ++ mutex_text bytes.now mutex) }
 {
-    match mutexes.get(at) {
-        None => Ok(()),
-        Some(mutex) => push_mutex(alloc, text, mutex.place, text_of(bytes, mutex.name)),
-    }
+    push_mutex(alloc, text, mutex.place, text_of(bytes, mutex.name))
 }
 
 /// Appends mutexes.
@@ -75,97 +59,11 @@ pub(crate) fn push_mutexes(
 ) -> Result<(), NoMemory>
     ensures { OnOk result (text.new.items ≡ text.old.items ++ listed (mutex_text bytes.now) mutexes.now) }
 {
-    for at in 0..mutexes.len() {
+    for (at, mutex) in mutexes.iter().enumerate() {
         push_comma(text, at)?;
-        push_mutex_at(alloc, text, bytes, mutexes, at)?;
+        push_declared(alloc, text, bytes, *mutex)?;
     }
     Ok(())
-}
-
-/// Appends the object at this place of a list, if there is one.
-fn push_object_at(
-    alloc: Global,
-    text: &mut Vec<u8>,
-    bytes: &[u8],
-    objects: &[DeclaredObject],
-    at: usize,
-) -> Result<(), NoMemory>
-    ensures { OnOk result (text.new.items ≡ text.old.items
-        ++ or_nothing (object_text bytes.now) (slice_get objects.now at)) }
-{
-    match objects.get(at) {
-        None => Ok(()),
-        Some(object) => push_object(
-            alloc,
-            text,
-            object.of.place,
-            text_of(bytes, object.of.name),
-            object.cells,
-            text_of(bytes, object.function),
-            object.task,
-        ),
-    }
-}
-
-/// Appends objects.
-pub(crate) fn push_objects(
-    alloc: Global,
-    text: &mut Vec<u8>,
-    bytes: &[u8],
-    objects: &[DeclaredObject],
-) -> Result<(), NoMemory>
-    ensures { OnOk result (text.new.items ≡ text.old.items ++ listed (object_text bytes.now) objects.now) }
-{
-    for at in 0..objects.len() {
-        push_comma(text, at)?;
-        push_object_at(alloc, text, bytes, objects, at)?;
-    }
-    Ok(())
-}
-
-/// Appends the bounds at this place of a list, if there are any.
-fn push_bounds_at(
-    alloc: Global,
-    text: &mut Vec<u8>,
-    bounds: &[ObjectBounds],
-    at: usize,
-) -> Result<(), NoMemory>
-    ensures { OnOk result (text.new.items ≡ text.old.items ++ or_nothing bounds_text (slice_get bounds.now at)) }
-{
-    match bounds.get(at) {
-        None => Ok(()),
-        Some(of) => push_range(alloc, text, of.object, of.low, of.high),
-    }
-}
-
-/// Appends the bounds of objects.
-pub(crate) fn push_ranges(
-    alloc: Global,
-    text: &mut Vec<u8>,
-    bounds: &[ObjectBounds],
-) -> Result<(), NoMemory>
-    ensures { OnOk result (text.new.items ≡ text.old.items ++ listed bounds_text bounds.now) }
-{
-    for at in 0..bounds.len() {
-        push_comma(text, at)?;
-        push_bounds_at(alloc, text, bounds, at)?;
-    }
-    Ok(())
-}
-
-/// Appends the place at this place of a list, if there is one.
-fn push_place_at(
-    alloc: Global,
-    text: &mut Vec<u8>,
-    places: &[Place],
-    at: usize,
-) -> Result<(), NoMemory>
-    ensures { OnOk result (text.new.items ≡ text.old.items ++ or_nothing place_text (slice_get places.now at)) }
-{
-    match places.get(at) {
-        None => Ok(()),
-        Some(place) => push_place(alloc, text, *place),
-    }
 }
 
 /// Appends places.
@@ -176,9 +74,9 @@ pub(crate) fn push_places(
 ) -> Result<(), NoMemory>
     ensures { OnOk result (text.new.items ≡ text.old.items ++ listed place_text places.now) }
 {
-    for at in 0..places.len() {
+    for (at, place) in places.iter().enumerate() {
         push_comma(text, at)?;
-        push_place_at(alloc, text, places, at)?;
+        push_place(alloc, text, *place)?;
     }
     Ok(())
 }

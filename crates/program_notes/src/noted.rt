@@ -1,9 +1,10 @@
 //! What is noted of a program.
 use access_groups::AccessGroup;
+use access_partners::AccessDetails;
 use alarm_contexts::AlarmContexts;
-use request_circles::Ring;
+use note_details::Details;
 use tm_terms::Report;
-use value_ranges::Ranges;
+use value_ranges::{ObjectBounds, Ranges};
 
 /// What tables and a store tell of a program.
 #[derive(Drop)]
@@ -14,8 +15,12 @@ pub struct Contents {
     pub others: Vec<AlarmContexts>,
     /// The objects with races, with all accesses to each.
     pub groups: Vec<AccessGroup>,
-    /// Rings of requests for mutexes.
-    pub rings: Vec<Ring>,
+    /// Of each access, in the same order, those with which it races.
+    pub accesses: Vec<Vec<AccessDetails>>,
     /// The bounds of objects, and the dead places.
     pub ranges: Ranges,
+    /// The bounds of abstract cells, by their numbers.
+    pub cells: Vec<Option<ObjectBounds>>,
+    /// Details of the alarms, the groups and the objects, of which nothing is promised.
+    pub details: Details,
 }

@@ -1,36 +1,47 @@
 //! Races by object.
-ghost use Rattle.std.specs.Prelude.{◌≡◌, ◌++◌, OnOk, slice_get};
-ghost use Rattle.notes_json.specs.Pieces.{or_nothing, listed};
-ghost use Rattle.program_notes.specs.GroupTexts.{access_object, group_text};
+ghost use Rattle.std.specs.Prelude.{◌≡◌, ◌++◌, OnOk};
+ghost use Rattle.std.specs.List.{enumerate_from};
+ghost use Rattle.notes_json.specs.Pieces.{listed};
+ghost use Rattle.program_notes.specs.GroupTexts.{member_at, access_object, members_at, group_text, groups_text};
 
 use crate::guards::{guard_of, push_guard};
+use crate::operand_objects::number_of;
 use access_groups::{AccessGroup, ObjectAccess};
 use notes_json::{push_access, push_bytes, push_comma, push_number};
 use std::alloc::Global;
 use tm_lattice::NoMemory;
 
-/// Appends the access at this place of a list, if there is one.
-fn push_access_at(
+/// The member that the access at this place reaches.
+fn member_at(members: &[Vec<u8>], at: usize) -> &[u8]
+    ensures { result.now ≡ member_at members.now at }
+{
+    match members.get(at) {
+        None => &[],
+        Some(member) => member.as_slice(),
+    }
+}
+
+/// Appends an access with its place among them.
+fn push_placed(
     alloc: Global,
     text: &mut Vec<u8>,
-    accesses: &[ObjectAccess],
+    members: &[Vec<u8>],
     at: usize,
+    access: ObjectAccess,
 ) -> Result<(), NoMemory>
-    ensures { OnOk result (text.new.items ≡ text.old.items ++ or_nothing access_object (slice_get accesses.now at)) }
+    ensures { OnOk result (text.new.items ≡ text.old.items ++ access_object members.now (at, access)) }
 {
-    match accesses.get(at) {
-        None => Ok(()),
-        Some(access) => push_access(
-            alloc,
-            text,
-            access.place,
-            access.free,
-            access.held,
-            access.stores,
-            access.racing,
-            access.task,
-        ),
-    }
+    push_access(
+        alloc,
+        text,
+        access.place,
+        access.free,
+        access.held,
+        access.stores,
+        member_at(members, at),
+        access.racing,
+        access.task,
+    )
 }
 
 /// Appends accesses.
@@ -38,40 +49,48 @@ fn push_accesses(
     alloc: Global,
     text: &mut Vec<u8>,
     accesses: &[ObjectAccess],
+    members: &[Vec<u8>],
 ) -> Result<(), NoMemory>
-    ensures { OnOk result (text.new.items ≡ text.old.items ++ listed access_object accesses.now) }
+    ensures { OnOk result (text.new.items ≡ text.old.items
+        ++ listed (access_object members.now) (enumerate_from 0 accesses.now)) }
 {
-    for at in 0..accesses.len() {
+    for (at, access) in accesses.iter().enumerate() {
         push_comma(text, at)?;
-        push_access_at(alloc, text, accesses, at)?;
+        push_placed(alloc, text, members, at, *access)?;
     }
     Ok(())
 }
 
 /// Appends a group.
-fn push_group(alloc: Global, text: &mut Vec<u8>, group: &AccessGroup) -> Result<(), NoMemory>
-    ensures { OnOk result (text.new.items ≡ text.old.items ++ group_text group.now) }
+fn push_group(
+    alloc: Global,
+    text: &mut Vec<u8>,
+    numbers: &[Option<u32>],
+    group: &AccessGroup,
+    members: &[Vec<u8>],
+) -> Result<(), NoMemory>
+    ensures { OnOk result (text.new.items ≡ text.old.items ++ group_text numbers.now members.now group.now) }
 {
     push_bytes(text, b"{\"accesses\":[")?;
-    push_accesses(alloc, text, &group.accesses)?;
+    push_accesses(alloc, text, &group.accesses, members)?;
     push_guard(alloc, text, guard_of(&group.accesses))?;
-    push_number(alloc, text, b",\"object\":", group.object as u64)?;
+    push_number(
+        alloc,
+        text,
+        b",\"object\":",
+        number_of(numbers, group.object) as u64,
+    )?;
     push_bytes(text, b"}")?;
     Ok(())
 }
 
-/// Appends the group at this place of a list, if there is one.
-fn push_group_at(
-    alloc: Global,
-    text: &mut Vec<u8>,
-    groups: &[AccessGroup],
-    at: usize,
-) -> Result<(), NoMemory>
-    ensures { OnOk result (text.new.items ≡ text.old.items ++ or_nothing group_text (slice_get groups.now at)) }
+/// The members that the accesses of the group at this place reach.
+fn members_at(members: &[Vec<Vec<u8>>], at: usize) -> &[Vec<u8>]
+    ensures { result.now ≡ members_at members.now at }
 {
-    match groups.get(at) {
-        None => Ok(()),
-        Some(group) => push_group(alloc, text, group),
+    match members.get(at) {
+        None => &[],
+        Some(found) => found.as_slice(),
     }
 }
 
@@ -79,13 +98,15 @@ fn push_group_at(
 pub(crate) fn push_groups(
     alloc: Global,
     text: &mut Vec<u8>,
+    numbers: &[Option<u32>],
     groups: &[AccessGroup],
+    members: &[Vec<Vec<u8>>],
 ) -> Result<(), NoMemory>
-    ensures { OnOk result (text.new.items ≡ text.old.items ++ listed group_text groups.now) }
+    ensures { OnOk result (text.new.items ≡ text.old.items ++ groups_text numbers.now groups.now members.now) }
 {
-    for at in 0..groups.len() {
+    for (at, group) in groups.iter().enumerate() {
         push_comma(text, at)?;
-        push_group_at(alloc, text, groups, at)?;
+        push_group(alloc, text, numbers, group, members_at(members, at))?;
     }
     Ok(())
 }

@@ -3,15 +3,15 @@ ghost use Rattle.std.specs.Prelude.{◌≡◌, ◌++◌, IfOk, OnOk};
 ghost use Rattle.post_recheck.specs.program_systems.Analysable.{IsAnalysable};
 ghost use Rattle.post_recheck.specs.program_systems.ProgramFacts.{AreProgramFacts, program_with};
 ghost use Rattle.program_notes.specs.Operations.{operation_of};
-ghost use Rattle.program_notes.specs.NotesTexts.{count_text, alarms_part, names_part, races_part, tasks_part};
-ghost use Rattle.program_notes.specs.NotesTexts.{notes_text};
+ghost use Rattle.program_notes.specs.NotesTexts.{count_text, alarms_part, objects_part, names_part, races_part};
+ghost use Rattle.program_notes.specs.NotesTexts.{tasks_part, notes_text};
 
 use crate::alarm_objects::push_alarms;
 use crate::declarations::Declared;
-use crate::lists::{push_mutexes, push_objects, push_places, push_ranges, push_runners};
+use crate::lists::{push_mutexes, push_places, push_runners};
 use crate::noted::Contents;
+use crate::object_objects::push_objects;
 use crate::race_objects::push_groups;
-use crate::ring_objects::push_rings;
 use mutex_configs::Program;
 use notes_json::{push_bytes, push_number};
 use post_recheck::ProgramFacts;
@@ -30,6 +30,7 @@ fn push_count(alloc: Global, text: &mut Vec<u8>, report: &[Alarm]) -> Result<(),
 fn push_alarms_part(
     alloc: Global,
     text: &mut Vec<u8>,
+    bytes: &[u8],
     program: &Program,
     facts: &ProgramFacts,
     contents: &Contents,
@@ -37,19 +38,44 @@ fn push_alarms_part(
     requires analysable { IsAnalysable program.now }
     requires facts { AreProgramFacts program.now facts.now }
     ensures { OnOk result (text.new.items ≡ text.old.items
-        ++ alarms_part (operation_of (program_with program.now facts.now)) contents.now) }
+        ++ alarms_part (operation_of (program_with program.now facts.now)) bytes.now contents.now) }
 {
     push_bytes(text, b"{\"alarms\":[")?;
     push_alarms(
         alloc,
         text,
+        bytes,
+        &contents.details.numbers,
         program,
         facts,
         &contents.report.alarms,
         &contents.others,
+        &contents.details.alarms,
     )?;
     push_count(alloc, text, &contents.report.alarms)?;
     Ok(())
+}
+
+/// Appends the objects that are listed.
+fn push_objects_part(
+    alloc: Global,
+    text: &mut Vec<u8>,
+    bytes: &[u8],
+    declared: &Declared,
+    contents: &Contents,
+) -> Result<(), NoMemory>
+    ensures { OnOk result (text.new.items ≡ text.old.items ++ objects_part bytes.now declared.now contents.now) }
+{
+    push_bytes(text, b"],\"objects\":[")?;
+    push_objects(
+        alloc,
+        text,
+        bytes,
+        &contents.ranges.bounds,
+        &declared.objects,
+        &contents.details.objects,
+        &contents.details.numbers,
+    )
 }
 
 /// Appends the dead places, the mutexes and the objects.
@@ -66,38 +92,35 @@ fn push_names_part(
     push_places(alloc, text, &contents.ranges.dead)?;
     push_bytes(text, b"],\"mutexes\":[")?;
     push_mutexes(alloc, text, bytes, &declared.mutexes)?;
-    push_bytes(text, b"],\"objects\":[")?;
-    push_objects(alloc, text, bytes, &declared.objects)?;
-    Ok(())
+    push_objects_part(alloc, text, bytes, declared, contents)
 }
 
-/// Appends the races by object, and the bounds of objects.
+/// Appends the races by object.
 fn push_races_part(alloc: Global, text: &mut Vec<u8>, contents: &Contents) -> Result<(), NoMemory>
     ensures { OnOk result (text.new.items ≡ text.old.items ++ races_part contents.now) }
 {
     push_bytes(text, b"],\"races\":[")?;
-    push_groups(alloc, text, &contents.groups)?;
-    push_bytes(text, b"],\"ranges\":[")?;
-    push_ranges(alloc, text, &contents.ranges.bounds)?;
-    Ok(())
+    push_groups(
+        alloc,
+        text,
+        &contents.details.numbers,
+        &contents.groups,
+        &contents.details.members,
+    )
 }
 
-/// Appends the tasks, and the rings.
+/// Appends the tasks.
 fn push_tasks_part(
     alloc: Global,
     text: &mut Vec<u8>,
     bytes: &[u8],
     declared: &Declared,
-    contents: &Contents,
 ) -> Result<(), NoMemory>
-    ensures { OnOk result (text.new.items ≡ text.old.items ++ tasks_part bytes.now declared.now contents.now) }
+    ensures { OnOk result (text.new.items ≡ text.old.items ++ tasks_part bytes.now declared.now) }
 {
     push_bytes(text, b"],\"tasks\":[")?;
     push_runners(alloc, text, bytes, &declared.runners)?;
-    push_bytes(text, b"],\"waits\":[")?;
-    push_rings(alloc, text, &contents.rings)?;
-    push_bytes(text, b"]}\n")?;
-    Ok(())
+    push_bytes(text, b"]}\n")
 }
 
 /// All notes on a program, in one line.
@@ -115,9 +138,9 @@ pub fn notes_text(
         (operation_of (program_with program.now facts.now)) contents.now) }
 {
     let mut text = Vec::new(alloc);
-    push_alarms_part(alloc, &mut text, program, facts, contents)?;
+    push_alarms_part(alloc, &mut text, bytes, program, facts, contents)?;
     push_names_part(alloc, &mut text, bytes, declared, contents)?;
     push_races_part(alloc, &mut text, contents)?;
-    push_tasks_part(alloc, &mut text, bytes, declared, contents)?;
+    push_tasks_part(alloc, &mut text, bytes, declared)?;
     Ok(text)
 }

@@ -2,6 +2,6 @@
 -- (Listed); certificates that are written, and that they are certified (Certified).
 pub mod Solved
 mod Listed
-mod Told
+pub mod Told
 pub mod Certified
 pub mod low

@@ -1,7 +1,8 @@
 -- What the code tells of the least solution of a source is what the source is answered; and answers come with a whole
 -- text, which sources that are too long have already where only a front of them is known.
 use Rattle.std.proofs.Common.{◌≡◌, ◌∙◌, sym, ap, subst, ℕ, ◌<◌, ◌≤◌, ◌^◌, List, [], ◌∷◌, ◌++◌, length, map, arith}
-use Rattle.std.proofs.Common.{length-append}
+use Rattle.std.proofs.Common.{length-append, Vec, Option}
+use Rattle.std.specs.declared.alloc.Global.{Global}
 use Rattle.tm_terms.specs.declared.refusals.Refusal.{Refusal}
 use Rattle.tm_laid.specs.Layouts.{LaidTree}
 use Rattle.program_solutions.specs.program_equations.Programs.{ProgramBodies, IsProgram}
@@ -10,6 +11,8 @@ use Rattle.program_solutions.specs.LeastReports.{IsLeastPair}
 use Rattle.program_solutions.specs.program_equations.Solutions.{tables_of}
 use Rattle.access_groups.specs.declared.object_access.AccessGroup.{AccessGroup}
 use Rattle.access_groups.proofs.One.{grouped_alarms}
+use Rattle.access_partners.specs.declared.details.AccessDetails.{AccessDetails}
+use Rattle.access_partners.specs.Partners.{AreAllDetails}
 use Rattle.alarm_contexts.specs.declared.alarm_context.AlarmContexts.{AlarmContexts}
 use Rattle.alarm_contexts.proofs.One.{report_alarms, no_races}
 use Rattle.request_circles.specs.declared.rings.Ring.{Ring}
@@ -23,15 +26,16 @@ use Rattle.sound_core.proofs.Rings.{ring_listed}
 use Rattle.sound_core.proofs.ToldStops.{stops_listed}
 use Rattle.sound_notes.proofs.Told.{operands_listed}
 use Rattle.sound_notes.proofs.Always.{always_ends}
+use Rattle.sound_notes.proofs.Locked.{locks_stop}
 use Rattle.program_streams.specs.declared.statuses.Status.{Status}
 use Rattle.program_streams.specs.declared.statuses.Status.TheVariants.{NoAlarm, Alarms, Refused, Usage, ReadFault}
 use Rattle.program_streams.specs.declared.statuses.Status.TheVariants.{WriteFault, NoMemory}
 use Rattle.program_streams.specs.Statuses.{IsWhole}
-use Rattle.source_findings.specs.Findings.{Solves, FindsRanges, TellsWaits, TellsRanges}
+use Rattle.source_findings.specs.Findings.{Solves, FindsRanges}
 use Rattle.value_ranges.specs.declared.object_bounds.ObjectBounds.{ObjectBounds}
-use Rattle.value_ranges.specs.Ranges.{AreRanges}
+use Rattle.value_ranges.specs.Ranges.{AreRanges, AreCellRanges}
 use Rattle.value_ranges.specs.Places.{AreDead}
-use Rattle.sound_core.proofs.Within.{within}
+use Rattle.sound_core.proofs.Within.{within, within_cells}
 use Rattle.sound_core.proofs.Reached.{never_listed}
 use Rattle.tm_terms.specs.declared.alarms.Alarm.{Alarm}
 use Rattle.tm_terms.specs.declared.places.Place.{Place}
@@ -43,24 +47,22 @@ use Rattle.program_notes.specs.AlarmTexts.{other_alarms}
 use Rattle.program_notes.proofs.Paired.{paired}
 use Rattle.program_notes.specs.declared.declarations.Declared.{Declared}
 use Rattle.certificate_check.proofs.Sourced.{comes_from}
-use Rattle.source_notes.specs.Names.{task_names, task_priorities, mutex_names, object_names}
-use Rattle.source_notes.specs.RingTexts.{rings_text}
-use Rattle.source_notes.specs.RaceTexts.{groups_text}
-use Rattle.source_notes.specs.AlarmTexts.{alarms_text}
+use Rattle.note_lines.specs.Names.{task_names, task_priorities, mutex_names, object_names}
+use Rattle.note_lines.specs.RingTexts.{rings_text}
+use Rattle.note_lines.specs.RaceTexts.{groups_text}
+use Rattle.note_lines.specs.AlarmTexts.{alarms_text}
 use Rattle.program_notes.specs.Operations.{operation_of}
-use Rattle.source_notes.specs.declared.names.Names.{Names}
+use Rattle.note_lines.specs.declared.names.Names.{Names}
 use Rattle.source_notes.specs.declared.answers.Note.{Note}
 use Rattle.source_notes.specs.declared.answers.Note.TheVariants.{Rings, Races, Alarms as Others, Whole, Parts}
 use Rattle.source_notes.specs.Notes.{rings_status, races_status, alarms_status, TellsRings, TellsRaces, TellsAlarms}
-use Rattle.source_notes.specs.Notes.{FindsRings, FindsRaces, FindsAlarms, Declares, TellsNotes}
+use Rattle.source_notes.specs.Notes.{FindsRings, FindsRaces, FindsAlarms, FindsDetails, FindsCells, Declares}
+use Rattle.source_notes.specs.Notes.{TellsNotes}
 use Rattle.source_notes.specs.Notes.{report_status, TellsReport, TellsParts, Tells, HasNotes}
 use Rattle.source_notes.specs.PartTexts.{Part}
 use Rattle.source_notes.specs.reading.Told.{TellsRingsOf, TellsRacesOf, TellsAlarmsOf, TellsNotesOf}
 use Rattle.source_notes.specs.reading.PartsTold.{TellsReportOf, TellsPartsOf, TellsOf}
-use Rattle.source_findings.specs.Tellings.{TellsWaitsOf, TellsRangesOf, bounds_line_of}
-use Rattle.solution_lines.specs.SolutionTexts.{dead_text}
-use Rattle.program_solutions.specs.program_equations.Readings.{read_layout}
-use Rattle.std.specs.List.{flat_map}
+use Rattle.source_findings.proofs.Told.{waits_told, ranges_told}
 
 -- a part of which more is told
 of_part : {A B : Status → List ℕ → Type 0} → ((status : Status) (text : List ℕ) → A status text → B status text)
@@ -104,6 +106,7 @@ module _ (bytes : List ℕ) (p : ProgramBodies) (a : IsAccepted [] bytes p) (few
     operands = operands_listed a.laid p (comes_from [] bytes p a) is few pair.tables pair.store least.solution alarms
         are;
     ends = always_ends a.laid p (comes_from [] bytes p a) is few pair.tables pair.store least.solution alarms are;
+    stops = λ told. locks_stop a.laid p (comes_from [] bytes p a) is few pair.tables pair.store least.solution told;
     alarmed = λ report r place class other.
         report_alarms p (tables_of pair.tables) report alarms r are place class other;
   }
@@ -129,35 +132,21 @@ module _ (bytes : List ℕ) (p : ProgramBodies) (a : IsAccepted [] bytes p) (few
         pair.tables pair.store least.solution w reached dead places place has body may acts;
   }
 
-  -- the waits and the ranges, as `waits` and `ranges` tell them
-  waits_told : (status : Status) (text : List ℕ) → TellsWaitsOf p pair status text → TellsWaits bytes status text
+  -- the bounds of cells
+  cells_found : (bounds : List (Option ObjectBounds))
+      → AreCellRanges p (tables_of pair.tables) pair.store bounds → FindsCells bytes bounds
   unfolding solves
-  waits_told status text t = record {
-    places = t.places;
-    finds = record {
-      solves = solves;
-      are = t.are;
-      rings = λ w reached tasks ring. ring_listed a.laid p (comes_from [] bytes p a) is few pair.tables pair.store
-          least.solution t.places t.are w reached tasks ring;
-    };
-    comes = t.comes;
-    is = t.is;
+  cells_found bounds are = record {
+    solves = solves;
+    are = are;
+    within = λ w reached object cell n h. within_cells a.laid p (comes_from [] bytes p a) is few pair.tables pair.store
+        least.solution bounds are w reached object cell n h;
   }
 
-  ranges_told : (status : Status) (text : List ℕ) → TellsRangesOf p bytes pair status text
-      → TellsRanges bytes status text
-  unfolding solves ranges_found
-  ranges_told status text t =
-      let of = a.is in
-      let same : p.laid ≡ read_layout a.laid = of.laid in
-      record {
-        bounds = t.bounds;
-        dead = t.dead;
-        finds = ranges_found t.bounds t.dead t.ranges t.places;
-        comes = t.comes;
-        is = t.is
-            ∙ ap (λ (l : LaidTree). flat_map (bounds_line_of bytes l.objects) t.bounds ++ dead_text t.dead) same;
-      }
+  details_found : (groups : List AccessGroup) (details : List (Vec AccessDetails Global))
+      → AreAllDetails p (tables_of pair.tables) groups details → FindsDetails bytes groups details
+  unfolding solves
+  details_found groups details are = record { solves = solves; are = are }
 
   module _ (laid : LaidTree) (of : IsLaidSource bytes laid) (names : Names) (are_tasks : names.tasks.items
       ≡ task_names laid) (are_priorities : names.priorities.items ≡ task_priorities laid) (are_mutexes
@@ -223,7 +212,9 @@ module _ (bytes : List ℕ) (p : ProgramBodies) (a : IsAccepted [] bytes p) (few
             others = alarms_found c.others.items are.others;
             paired = paired_found c.others.items report.alarms.items are.others are.report;
             groups = races_found c.groups.items are.groups;
-            rings = rings_found c.rings.items are.rings;
+            accesses = details_found c.groups.items c.accesses.items are.accesses;
+            raced = are.raced;
+            cells = cells_found c.cells.items are.cells;
             ranges = ranges_found r.bounds.items r.dead.items are.bounds are.dead;
           };
           comes = t.comes;
@@ -243,16 +234,17 @@ module _ (bytes : List ℕ) (p : ProgramBodies) (a : IsAccepted [] bytes p) (few
       is = t.is;
     }
 
-    parts_told : (status : Status) (text : List ℕ) → TellsPartsOf p bytes names pair status text
+    parts_told : (status : Status) (text : List ℕ) → TellsPartsOf p bytes names declared pair status text
         → TellsParts bytes status text
     unfolding of_part
     parts_told status text t = record {
       report = of_part report_told t.report;
-      waits = of_part waits_told t.waits;
-      ranges = of_part ranges_told t.ranges;
+      waits = of_part (waits_told bytes p a few pair least) t.waits;
+      ranges = of_part (ranges_told bytes p a few pair least) t.ranges;
       rings = of_part rings_told t.rings;
       races = of_part races_told t.races;
       alarms = of_part alarms_told t.alarms;
+      notes = of_part notes_told t.notes;
       comes = t.comes;
       is = t.is;
     }

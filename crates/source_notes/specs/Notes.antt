@@ -1,6 +1,8 @@
 -- What is answered to a source: the rings in which its tasks may come to wait for each other, its races by object, its
--- other alarms and what they stand on, all of this and its ranges and dead places, or each as a text of its own.
-use Rattle.std.specs.Prelude.{◌≡◌, ◌↔◌, ℕ, List, [], ◌∷◌, ◌++◌, map, Contains, codes}
+-- other alarms and what they stand on, the whole notes on all alarms, or each as a text of its own.
+use Rattle.std.specs.Prelude.{◌≡◌, ◌↔◌, ℕ, ℤ, List, [], ◌∷◌, ◌++◌, map, Contains, Option, codes}
+use Rattle.std.specs.declared.vec.Vec.{Vec}
+use Rattle.std.specs.declared.alloc.Global.{Global}
 use Rattle.tm_cint.specs.declared.Class.{Class}
 use Rattle.tm_cint.specs.declared.Class.TheVariants.{Race}
 use Rattle.tm_terms.specs.declared.alarms.Alarm.{Alarm}
@@ -14,6 +16,13 @@ use Rattle.lock_waits.specs.Waits.{AreRings}
 use Rattle.program_reports.specs.Reports.{IsReport}
 use Rattle.access_groups.specs.declared.object_access.AccessGroup.{AccessGroup}
 use Rattle.access_groups.specs.Groups.{AreGroups, HasRacingAt}
+use Rattle.access_partners.specs.declared.details.AccessDetails.{AccessDetails}
+use Rattle.access_partners.specs.Partners.{AreAllDetails}
+use Rattle.note_details.specs.declared.alarms.AlarmDetails.{AlarmDetails}
+use Rattle.note_details.specs.Races.{accesses_of, told_of, races_seen}
+use Rattle.note_details.specs.Details.{races_of}
+use Rattle.value_ranges.specs.declared.object_bounds.ObjectBounds.{ObjectBounds}
+use Rattle.value_ranges.specs.Ranges.{AreCellRanges}
 use Rattle.alarm_contexts.specs.declared.alarm_context.AlarmContexts.{AlarmContexts}
 use Rattle.alarm_contexts.specs.Contexts.{AreContexts, HasAlarm, alarm_of}
 use Rattle.tm_laid.specs.Layouts.{LaidTree}
@@ -24,7 +33,8 @@ use Rattle.program_streams.specs.declared.statuses.Status.TheVariants.{NoAlarm, 
 use Rattle.program_streams.specs.declared.statuses.Status.TheVariants.{WriteFault, NoMemory}
 use Rattle.sound_core.specs.Accesses.{ListsAccesses}
 use Rattle.sound_core.specs.Stops.{ListsStops}
-use Rattle.sound_notes.specs.Passes.{ListsOperands, EndsAlways}
+use Rattle.sound_core.specs.Ranges.{StayWithinCells}
+use Rattle.sound_notes.specs.Passes.{ListsOperands, EndsAlways, StopsThere}
 use Rattle.report_json.specs.JsonReports.{json_text}
 use Rattle.source_findings.specs.Findings.{Solves, ListsRings, FindsRanges, TellsWaits, TellsRanges}
 use Rattle.program_notes.specs.Declarations.{runners_of, mutexes_of, objects_of}
@@ -32,10 +42,10 @@ use Rattle.program_notes.specs.AlarmTexts.{other_alarms}
 use Rattle.program_notes.specs.NotesTexts.{notes_text}
 use Rattle.program_notes.specs.declared.declarations.Declared.{Declared}
 use Rattle.program_notes.specs.declared.noted.Contents.{Contents}
-use Rattle.source_notes.specs.Names.{task_names, task_priorities, mutex_names, object_names}
-use Rattle.source_notes.specs.RingTexts.{rings_text}
-use Rattle.source_notes.specs.RaceTexts.{groups_text}
-use Rattle.source_notes.specs.AlarmTexts.{alarms_text}
+use Rattle.note_lines.specs.Names.{task_names, task_priorities, mutex_names, object_names}
+use Rattle.note_lines.specs.RingTexts.{rings_text}
+use Rattle.note_lines.specs.RaceTexts.{groups_text}
+use Rattle.note_lines.specs.AlarmTexts.{alarms_text}
 use Rattle.source_notes.specs.PartTexts.{Part, shown}
 use Rattle.program_notes.specs.Operations.{operation_of}
 use Rattle.source_notes.specs.declared.answers.Note.{Note}
@@ -95,8 +105,8 @@ pub record TellsRaces (bytes : List ℕ) (status : Status) (text : List ℕ) : T
 -- The alarms in the tables of the least solution, each with its edges and operands, that are not races. Wherever a run
 -- stops with an error, one of them tells it: the body that stops stands before one of its edges, with values that lie
 -- in its operands. Each time that a run comes before such an edge, where its class is not excluded, its values lie in
--- these operands, whether or not it stops; and of an alarm of always none goes on by itself from there. And the report
--- of these tables has of the other classes exactly these.
+-- these operands, whether or not it stops; of an alarm of always none goes on by itself from there; and at a lock or an
+-- unlock no step lets it go on. And the report of these tables has of the other classes exactly these.
 pub record FindsAlarms (bytes : List ℕ) (alarms : List AlarmContexts) : Type 0 where
   pub solves : Solves bytes
   pub are : (let s = solves in let pair = s.pair in AreContexts s.program (tables_of pair.tables) alarms)
@@ -105,6 +115,8 @@ pub record FindsAlarms (bytes : List ℕ) (alarms : List AlarmContexts) : Type 0
       ListsOperands a.laid s.program (tables_of pair.tables) alarms)
   pub ends : (let s = solves in let a = s.accepted in let pair = s.pair in
       EndsAlways a.laid s.program (tables_of pair.tables) alarms)
+  pub stops : (let s = solves in let a = s.accepted in let pair = s.pair in
+      (told : AlarmContexts) → StopsThere a.laid s.program (tables_of pair.tables) told)
   pub alarmed : (let s = solves in let pair = s.pair in (report : List Alarm)
       → IsReport s.program (tables_of pair.tables) report → (place : Place) (class : Class) → (class ≡ Race → ⊥)
       → Contains report (record { place = place; class = class }) ↔ HasAlarm alarms place class)
@@ -129,14 +141,39 @@ pub record FindsReport (bytes : List ℕ) (report : List Alarm) : Type 0 where
   pub solves : Solves bytes
   pub is : (let s = solves in let pair = s.pair in IsReport s.program (tables_of pair.tables) report)
 
--- The report of the least solution, the alarms of it that are not races, in the same order, the races by object, the
--- rings, and the bounds of objects with the dead places, each with what that promises of runs.
+-- What each access of an object with races reaches and races with, in the tables of the least solution.
+pub record FindsDetails (bytes : List ℕ) (groups : List AccessGroup) (details : List (Vec AccessDetails Global))
+    : Type 0 where
+  pub solves : Solves bytes
+  pub are : (let s = solves in let pair = s.pair in AreAllDetails s.program (tables_of pair.tables) groups details)
+
+-- Of each alarm of races the accesses at its place that race are told, in the order of the groups, with what they race
+-- with.
+abbrev pub TellPartners : List Alarm → List AccessGroup → List (Vec AccessDetails Global) → List AlarmDetails → Type 0
+TellPartners report groups accesses alarms =
+    map (λ (d : AlarmDetails). races_seen d.accesses) alarms ≡ map (races_of (accesses_of groups) (told_of accesses)) report
+
+-- The bounds of the abstract cells that the tables and the store of the least solution tell; a number that an integer
+-- cell of static storage holds in a world that a run reaches lies within those of its abstract cell.
+pub record FindsCells (bytes : List ℕ) (bounds : List (Option ObjectBounds)) : Type 0 where
+  pub solves : Solves bytes
+  pub are : (let s = solves in let pair = s.pair in
+      AreCellRanges s.program (tables_of pair.tables) pair.store bounds)
+  pub within : (let s = solves in let a = s.accepted in StayWithinCells a.laid s.program bounds)
+
+-- The report of the least solution, the alarms of it that are not races, in the same order, the races by object with
+-- what each access races with, which each alarm of races tells, and the bounds of objects and of cells with the dead
+-- places, each with what that promises of runs. Of the other details, as call paths and the names of members, nothing is
+-- promised.
 pub record FindsNotes (bytes : List ℕ) (c : Contents) : Type 0 where
   pub report : (let r = c.report in FindsReport bytes r.alarms.items)
   pub others : FindsAlarms bytes c.others.items
   pub paired : (let r = c.report in map alarm_of c.others.items ≡ other_alarms r.alarms.items)
   pub groups : FindsRaces bytes c.groups.items
-  pub rings : FindsRings bytes c.rings.items
+  pub accesses : FindsDetails bytes c.groups.items c.accesses.items
+  pub raced : (let r = c.report in let d = c.details in
+      TellPartners r.alarms.items c.groups.items c.accesses.items d.alarms.items)
+  pub cells : FindsCells bytes c.cells.items
   pub ranges : (let r = c.ranges in FindsRanges bytes r.bounds.items r.dead.items)
 
 -- whether there is an alarm
@@ -170,8 +207,8 @@ pub record TellsReport (bytes : List ℕ) (status : Status) (text : List ℕ) : 
   pub comes : status ≡ report_status report
   pub is : text ≡ json_text report
 
--- The report as JSON, the waits, the ranges, and the notes on rings, races and other alarms, each as it is answered
--- alone, behind a line with its name, its status and its length; the status is that of the report.
+-- The report as JSON, the waits, the ranges, the notes on rings, races and other alarms, and the whole notes, each as it
+-- is answered alone, behind a line with its name, its status and its length; the status is that of the report.
 pub record TellsParts (bytes : List ℕ) (status : Status) (text : List ℕ) : Type 0 where
   pub report : Part (TellsReport bytes)
   pub waits : Part (TellsWaits bytes)
@@ -179,10 +216,11 @@ pub record TellsParts (bytes : List ℕ) (status : Status) (text : List ℕ) : T
   pub rings : Part (TellsRings bytes)
   pub races : Part (TellsRaces bytes)
   pub alarms : Part (TellsAlarms bytes)
+  pub notes : Part (TellsNotes bytes)
   pub comes : status ≡ report.status
-  pub is : text ≡ ((((shown (codes "report") report ++ shown (codes "waits") waits)
+  pub is : text ≡ (((((shown (codes "report") report ++ shown (codes "waits") waits)
       ++ shown (codes "ranges") ranges) ++ shown (codes "rings") rings)
-      ++ shown (codes "races") races) ++ shown (codes "alarms") alarms
+      ++ shown (codes "races") races) ++ shown (codes "alarms") alarms) ++ shown (codes "notes") notes
 
 -- ## All
 

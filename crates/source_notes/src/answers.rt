@@ -3,18 +3,17 @@ ghost use Rattle.std.specs.Prelude.{◌≡◌, IfOk};
 ghost use Rattle.program_solutions.specs.program_systems.ReadPrograms.{program_of};
 ghost use Rattle.program_solutions.specs.LeastReports.{IsLeastPair};
 ghost use Rattle.source_notes.specs.Notes.{HasNotes, rings_status, races_status, alarms_status, report_status};
-ghost use Rattle.source_notes.specs.reading.Told.{TellsRingsOf, TellsRacesOf, TellsAlarmsOf, TellsNotesOf};
-ghost use Rattle.source_notes.specs.reading.Told.{AreContents};
+ghost use Rattle.source_notes.specs.reading.Told.{TellsRingsOf, TellsRacesOf, TellsAlarmsOf};
+ghost use Rattle.source_notes.specs.reading.Told.{TellsNotesOf, AreContents};
 ghost use Rattle.source_notes.specs.reading.PartsTold.{TellsOf};
 
-use crate::alarm_operations::alarms_text;
-use crate::names::{Names, names_of};
 use crate::parts::parts_reply;
-use crate::race_lines::groups_text;
-use crate::ring_lines::rings_text;
 use access_groups::{AccessGroup, groups};
+use access_partners::access_details;
 use alarm_contexts::{AlarmContexts, alarm_contexts};
 use lock_waits::rings;
+use note_details::report_details;
+use note_lines::{Names, alarms_text, groups_text, names_of, rings_text};
 use program_notes::{Contents, Declared, declared_of, notes_text};
 use program_reports::judge;
 use program_solutions::{Analysis, Solution, solution};
@@ -24,7 +23,7 @@ use source_programs::source_program;
 use std::alloc::Global as Heap;
 use tm_lattice::NoMemory;
 use tm_terms::{Alarm, Fail, refusal_line};
-use value_ranges::ranges;
+use value_ranges::{cell_ranges, ranges};
 
 /// What the notes are on.
 #[derive(Clone, Copy)]
@@ -35,10 +34,10 @@ pub enum Note {
     Races,
     /// Alarms of values and locks, and what they stand on.
     Alarms,
-    /// All of it, with ranges and dead places, as one line of JSON.
+    /// All of it but the rings, with ranges, dead places and details, as one line of JSON.
     Whole,
-    /// The report as JSON, the waits, the ranges, and the notes on rings, races and other alarms, each as it is
-    /// answered alone, behind a line with its name, its status and its length in bytes.
+    /// The report as JSON, the waits, the ranges, the notes on rings, races and other alarms, and the whole notes, each as
+    /// it is answered alone, behind a line with its name, its status and its length in bytes.
     Parts,
 }
 
@@ -157,7 +156,12 @@ pub(crate) fn alarms_reply(
 }
 
 /// All that a least solution tells.
-fn contents_of(alloc: Heap, analysis: &Analysis, found: &Solution) -> Result<Contents, NoMemory>
+fn contents_of(
+    alloc: Heap,
+    bytes: &[u8],
+    analysis: &Analysis,
+    found: &Solution,
+) -> Result<Contents, NoMemory>
     requires { IsLeastPair (program_of analysis.now) found.now }
     ensures { IfOk result (λ contents. AreContents (program_of analysis.now) found.now contents) }
 {
@@ -165,19 +169,40 @@ fn contents_of(alloc: Heap, analysis: &Analysis, found: &Solution) -> Result<Con
     let report = judge(alloc, program, facts, found.tables(), found.store())?;
     let others = alarm_contexts(alloc, program, facts, found.tables(), found.store())?;
     let groups = groups(alloc, program, facts, found.tables(), found.store())?;
-    let rings = rings(alloc, program, found.tables())?;
+    let accesses = access_details(
+        alloc,
+        program,
+        facts,
+        found.tables(),
+        found.store(),
+        &groups,
+    )?;
     let ranges = ranges(alloc, program, facts, found.tables(), found.store())?;
+    let cells = cell_ranges(alloc, program, facts, found.tables(), found.store())?;
+    let details = report_details(
+        alloc,
+        bytes,
+        &program.laid,
+        &program.graphs.graphs,
+        &report.alarms,
+        &others,
+        &groups,
+        &accesses,
+        &cells,
+    )?;
     Ok(Contents {
         report,
         others,
         groups,
-        rings,
+        accesses,
         ranges,
+        cells,
+        details,
     })
 }
 
 /// All notes on a least solution.
-fn whole_reply(
+pub(crate) fn whole_reply(
     alloc: Heap,
     bytes: &[u8],
     declared: &Declared,
@@ -189,7 +214,7 @@ fn whole_reply(
         found.now reply.status reply.text.items) }
 {
     let (program, facts) = analysis.parts();
-    let contents = contents_of(alloc, analysis, found)?;
+    let contents = contents_of(alloc, bytes, analysis, found)?;
     let text = notes_text(alloc, bytes, declared, program, facts, &contents)?;
     Ok(NoteReply {
         status: report_status(&contents.report.alarms),
@@ -216,7 +241,7 @@ fn reply_of(
         Note::Races => races_reply(alloc, bytes, names, analysis, found),
         Note::Alarms => alarms_reply(alloc, bytes, names, analysis, found),
         Note::Whole => whole_reply(alloc, bytes, declared, analysis, found),
-        Note::Parts => parts_reply(alloc, bytes, names, analysis, found),
+        Note::Parts => parts_reply(alloc, bytes, names, declared, analysis, found),
     }
 }
 

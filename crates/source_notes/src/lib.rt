@@ -3,8 +3,8 @@
 //! and asks for; or its races by object, with all accesses to each object that has one, the mutexes that are held there
 //! and those that were found free; or its other alarms, with the operation of each, the values that its operands may
 //! have there, and the tasks; or the whole report with all of this, the bounds of objects and the dead places, as one
-//! line of JSON or as texts behind one another. How a solution is found, how rings, races and contexts are read off it,
-//! and how it stands in JSON, the crates below know.
+//! line of JSON; or all of these as texts behind one another. How a solution is found, how rings, races and contexts are read off it,
+//! and how they stand in lines and in JSON, the crates below know.
 //!
 //! Where one task `a` locks `m` and then `n`, at 3:34, and another one `b` `n` and then `m`, at 4:34, the notes on
 //! rings are `3:34 RING 2`, `3:34 a holds m asks n`, `4:34 b holds n asks m`, then `4:34 RING 2` with the same lines in
@@ -14,16 +14,8 @@
 //! `5:40 DIV / in int edges 1 tasks c 7`, `5:40 left 8 8 0`, `5:40 right 0 3 1`, `alarms 1`.
 #![tactic(auto)]
 
-mod alarm_lines;
-mod alarm_operations;
 mod answers;
-mod names;
-mod operand_lines;
-mod operation_words;
 mod parts;
-mod race_lines;
-mod ring_lines;
-mod spelling;
 mod streams;
 
 pub use answers::{Note, NoteReply, notes_of};

@@ -5,11 +5,15 @@ ghost use Rattle.program_solutions.specs.LeastReports.{IsLeastPair};
 ghost use Rattle.source_findings.specs.Tellings.{TellsOf as FindingTellsOf};
 ghost use Rattle.source_notes.specs.PartTexts.{part_text};
 ghost use Rattle.source_notes.specs.reading.Told.{TellsRingsOf, TellsRacesOf, TellsAlarmsOf};
+ghost use Rattle.source_notes.specs.reading.Told.{TellsNotesOf};
 ghost use Rattle.source_notes.specs.reading.PartsTold.{TellsReportOf, TellsPartsOf, Adds, AddsFirst};
 
-use crate::answers::{NoteReply, alarms_reply, races_reply, report_status, rings_reply};
-use crate::names::Names;
+use crate::answers::{
+    NoteReply, alarms_reply, races_reply, report_status, rings_reply, whole_reply,
+};
+use note_lines::Names;
 use notes_json::{push_bytes, push_number};
+use program_notes::Declared;
 use program_reports::judge;
 use program_solutions::{Analysis, Solution};
 use program_streams::Status;
@@ -123,17 +127,35 @@ fn push_alarms(
     push_part(alloc, text, b"alarms", reply.status, &reply.text)
 }
 
+/// Appends the whole notes.
+fn push_notes(
+    alloc: Heap,
+    text: &mut Vec<u8>,
+    bytes: &[u8],
+    declared: &Declared,
+    analysis: &Analysis,
+    found: &Solution,
+) -> Result<(), NoMemory>
+    requires { IsLeastPair (program_of analysis.now) found.now }
+    ensures { OnOk result (Adds (TellsNotesOf (program_of analysis.now) bytes.now declared.now found.now)
+        (codes "notes") text.old.items text.new.items) }
+{
+    let reply = whole_reply(alloc, bytes, declared, analysis, found)?;
+    push_part(alloc, text, b"notes", reply.status, &reply.text)
+}
+
 /// All texts on a least solution, with the status of the report. Each is made and let go before the next one.
 pub(crate) fn parts_reply(
     alloc: Heap,
     bytes: &[u8],
     names: &Names,
+    declared: &Declared,
     analysis: &Analysis,
     found: &Solution,
 ) -> Result<NoteReply, NoMemory>
     requires { IsLeastPair (program_of analysis.now) found.now }
-    ensures { IfOk result (λ reply. TellsPartsOf (program_of analysis.now) bytes.now names.now found.now reply.status
-        reply.text.items) }
+    ensures { IfOk result (λ reply. TellsPartsOf (program_of analysis.now) bytes.now names.now declared.now found.now
+        reply.status reply.text.items) }
 {
     let mut text = Vec::new(alloc);
     let status = push_report(alloc, &mut text, analysis, found)?;
@@ -158,5 +180,6 @@ pub(crate) fn parts_reply(
     push_rings(alloc, &mut text, bytes, names, analysis, found)?;
     push_races(alloc, &mut text, bytes, names, analysis, found)?;
     push_alarms(alloc, &mut text, bytes, names, analysis, found)?;
+    push_notes(alloc, &mut text, bytes, declared, analysis, found)?;
     Ok(NoteReply { status, text })
 }

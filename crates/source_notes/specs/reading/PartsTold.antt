@@ -8,7 +8,7 @@ use Rattle.program_reports.specs.Reports.{IsReport}
 use Rattle.report_json.specs.JsonReports.{json_text}
 use Rattle.program_streams.specs.declared.statuses.Status.{Status}
 use Rattle.source_findings.specs.Tellings.{TellsWaitsOf, TellsRangesOf}
-use Rattle.source_notes.specs.declared.names.Names.{Names}
+use Rattle.note_lines.specs.declared.names.Names.{Names}
 use Rattle.source_notes.specs.declared.answers.Note.{Note}
 use Rattle.source_notes.specs.declared.answers.Note.TheVariants.{Rings, Races, Alarms, Whole, Parts}
 use Rattle.program_notes.specs.declared.declarations.Declared.{Declared}
@@ -33,22 +33,23 @@ pub record AddsFirst (Told : Status → List ℕ → Type 0) (name before after 
   pub comes : status ≡ part.status
   pub is : after ≡ before ++ shown name part
 
-pub record TellsPartsOf (p : ProgramBodies) (bytes : List ℕ) (names : Names) (pair : Pair) (status : Status)
-    (text : List ℕ) : Type 0 where
+pub record TellsPartsOf (p : ProgramBodies) (bytes : List ℕ) (names : Names) (declared : Declared) (pair : Pair)
+    (status : Status) (text : List ℕ) : Type 0 where
   pub report : Part (TellsReportOf p pair)
   pub waits : Part (TellsWaitsOf p pair)
   pub ranges : Part (TellsRangesOf p bytes pair)
   pub rings : Part (TellsRingsOf p bytes names.tasks.items names.mutexes.items pair)
   pub races : Part (TellsRacesOf p bytes names.objects.items names.tasks.items names.mutexes.items pair)
   pub alarms : Part (TellsAlarmsOf p bytes names pair)
+  pub notes : Part (TellsNotesOf p bytes declared pair)
   pub comes : status ≡ report.status
-  pub is : text ≡ ((((shown (codes "report") report ++ shown (codes "waits") waits)
+  pub is : text ≡ (((((shown (codes "report") report ++ shown (codes "waits") waits)
       ++ shown (codes "ranges") ranges) ++ shown (codes "rings") rings)
-      ++ shown (codes "races") races) ++ shown (codes "alarms") alarms
+      ++ shown (codes "races") races) ++ shown (codes "alarms") alarms) ++ shown (codes "notes") notes
 
 abbrev pub TellsOf : Note → ProgramBodies → List ℕ → Names → Declared → Pair → Status → List ℕ → Type 0
 TellsOf Rings p bytes names declared = TellsRingsOf p bytes names.tasks.items names.mutexes.items
 TellsOf Races p bytes names declared = TellsRacesOf p bytes names.objects.items names.tasks.items names.mutexes.items
 TellsOf Alarms p bytes names declared = TellsAlarmsOf p bytes names
 TellsOf Whole p bytes names declared = TellsNotesOf p bytes declared
-TellsOf Parts p bytes names declared = TellsPartsOf p bytes names
+TellsOf Parts p bytes names declared = TellsPartsOf p bytes names declared

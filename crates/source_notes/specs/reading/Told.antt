@@ -12,18 +12,19 @@ use Rattle.alarm_contexts.specs.declared.alarm_context.AlarmContexts.{AlarmConte
 use Rattle.alarm_contexts.specs.Contexts.{AreContexts}
 use Rattle.program_streams.specs.declared.statuses.Status.{Status}
 use Rattle.program_reports.specs.Reports.{IsReport}
-use Rattle.value_ranges.specs.Ranges.{AreRanges}
+use Rattle.value_ranges.specs.Ranges.{AreRanges, AreCellRanges}
+use Rattle.access_partners.specs.Partners.{AreAllDetails}
 use Rattle.value_ranges.specs.Places.{AreDead}
 use Rattle.program_notes.specs.NotesTexts.{notes_text}
 use Rattle.program_notes.specs.declared.declarations.Declared.{Declared}
 use Rattle.program_notes.specs.declared.noted.Contents.{Contents}
-use Rattle.source_notes.specs.Notes.{rings_status, races_status, alarms_status, report_status}
-use Rattle.source_notes.specs.RingTexts.{rings_text}
-use Rattle.source_notes.specs.RaceTexts.{groups_text}
-use Rattle.source_notes.specs.AlarmTexts.{alarms_text}
+use Rattle.source_notes.specs.Notes.{rings_status, races_status, alarms_status, report_status, TellPartners}
+use Rattle.note_lines.specs.RingTexts.{rings_text}
+use Rattle.note_lines.specs.RaceTexts.{groups_text}
+use Rattle.note_lines.specs.AlarmTexts.{alarms_text}
 use Rattle.program_notes.specs.Operations.{operation_of}
-use Rattle.source_notes.specs.declared.names.Names.{Names}
-use Rattle.source_notes.specs.declared.names.ObjectName.{ObjectName}
+use Rattle.note_lines.specs.declared.names.Names.{Names}
+use Rattle.note_lines.specs.declared.names.ObjectName.{ObjectName}
 
 pub record TellsRingsOf (p : ProgramBodies) (bytes : List ℕ) (tasks mutexes : List Name) (pair : Pair)
     (status : Status) (text : List ℕ) : Type 0 where
@@ -52,8 +53,11 @@ pub record AreContents (p : ProgramBodies) (pair : Pair) (c : Contents) : Type 0
   pub report : (let r = c.report in IsReport p (tables_of pair.tables) r.alarms.items)
   pub others : AreContexts p (tables_of pair.tables) c.others.items
   pub groups : AreGroups p (tables_of pair.tables) c.groups.items
-  pub rings : AreRings p (tables_of pair.tables) c.rings.items
+  pub accesses : AreAllDetails p (tables_of pair.tables) c.groups.items c.accesses.items
+  pub raced : (let r = c.report in let d = c.details in
+      TellPartners r.alarms.items c.groups.items c.accesses.items d.alarms.items)
   pub bounds : (let r = c.ranges in AreRanges p (tables_of pair.tables) pair.store r.bounds.items)
+  pub cells : AreCellRanges p (tables_of pair.tables) pair.store c.cells.items
   pub dead : (let r = c.ranges in AreDead p (tables_of pair.tables) r.dead.items)
 
 pub record TellsNotesOf (p : ProgramBodies) (bytes : List ℕ) (declared : Declared) (pair : Pair) (status : Status)

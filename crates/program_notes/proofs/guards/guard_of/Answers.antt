@@ -1,5 +1,5 @@
 use Rattle.std.proofs.Common.{ap, ◌∙◌}
-use Rattle.notes_json.proofs.Chains.{next_of}
+use Rattle.program_notes.proofs.Firsts.{next_of}
 use Rattle.program_notes.specs.Guards.{better, guard_below}
 use Rattle.program_notes.proofs.guards.guard_of.Goals as goal
 

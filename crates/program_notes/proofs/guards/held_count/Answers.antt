@@ -1,5 +1,5 @@
 use Rattle.std.proofs.Common.{ap, ◌∙◌, ◌+◌, arith}
-use Rattle.notes_json.proofs.Chains.{next_of}
+use Rattle.program_notes.proofs.Firsts.{next_of}
 use Rattle.program_notes.specs.Guards.{held_below}
 use Rattle.program_notes.proofs.guards.held_count.Goals as goal
 

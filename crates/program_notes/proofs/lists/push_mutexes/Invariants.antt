@@ -1,8 +1,9 @@
-use Rattle.std.proofs.Common.{◌≡◌, ◌++◌}
-use Rattle.notes_json.specs.Pieces.{listed_below}
+use Rattle.std.proofs.Common.{◌≡◌, ◌++◌, take}
+use Rattle.notes_json.specs.Pieces.{listed}
 use Rattle.program_notes.specs.Lists.{mutex_text}
 use Rattle.program_notes.proofs.lists.push_mutexes.Given as goal
 
--- what is listed so far
+-- what is written so far
 abbrev pub invariant-loop-at : goal.invariant-loop-at
-invariant-loop-at l = l.text.items ≡ l.fn.text.items ++ listed_below (mutex_text l.bytes) l.mutexes l.at
+invariant-loop-at l = l.text.items ≡ l.fn.text.items
+    ++ listed (mutex_text l.bytes) (take l.at l.mutexes)

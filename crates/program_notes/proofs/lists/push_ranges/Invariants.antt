@@ -1,8 +1,0 @@
-use Rattle.std.proofs.Common.{◌≡◌, ◌++◌}
-use Rattle.notes_json.specs.Pieces.{listed_below}
-use Rattle.program_notes.specs.Lists.{bounds_text}
-use Rattle.program_notes.proofs.lists.push_ranges.Given as goal
-
--- what is listed so far
-abbrev pub invariant-loop-at : goal.invariant-loop-at
-invariant-loop-at l = l.text.items ≡ l.fn.text.items ++ listed_below bounds_text l.bounds l.at

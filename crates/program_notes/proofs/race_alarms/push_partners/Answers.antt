@@ -1,0 +1,14 @@
+use Rattle.program_notes.specs.AlarmTexts.{partner_object}
+use Rattle.notes_json.proofs.Listed.{next_listed, all_listed}
+use Rattle.program_notes.proofs.race_alarms.push_partners.Goals as goal
+
+pub loop-at-preserved : goal.loop-at-preserved
+loop-at-preserved c =
+    next_listed partner_object
+    c.args.partners.now c.loop-at.at _ c.args.text.now.items c.loop-at-test.true c.loop-at.invariant
+    c.in_ok-push_comma.ensures c.in_ok-push_partner.ensures
+
+pub returns : goal.returns
+returns c =
+    all_listed partner_object
+    c.args.partners.now c.loop-at.at c.args.text.now.items c.loop-at-test.false c.loop-at.invariant

@@ -1,8 +1,0 @@
-use Rattle.std.proofs.Common.{◌≡◌, ◌++◌}
-use Rattle.notes_json.specs.Pieces.{listed_below}
-use Rattle.program_notes.specs.RingTexts.{ring_text}
-use Rattle.program_notes.proofs.ring_objects.push_rings.Given as goal
-
--- what is listed so far
-abbrev pub invariant-loop-at : goal.invariant-loop-at
-invariant-loop-at l = l.text.items ≡ l.fn.text.items ++ listed_below ring_text l.rings l.at

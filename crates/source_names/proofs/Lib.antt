@@ -1,0 +1,3 @@
+mod PathCalls
+mod Reading
+mod TagLists

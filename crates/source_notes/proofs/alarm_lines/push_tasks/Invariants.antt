@@ -1,8 +1,0 @@
-use Rattle.std.proofs.Common.{◌≡◌, ◌++◌}
-use Rattle.source_notes.specs.AlarmTexts.{tasks_below}
-use Rattle.source_notes.proofs.alarm_lines.push_tasks.Given as goal
-
--- the tasks of the edges so far
-abbrev pub invariant-loop-at : goal.invariant-loop-at
-invariant-loop-at l = l.text.items ≡ l.fn.text.items
-    ++ tasks_below l.bytes l.names.tasks.items l.names.priorities.items l.edges l.at
