@@ -1,6 +1,7 @@
-# Writes the lines of a report in its files, and below each why its alarm stands there. It reads six parts: the places of
-# the notes, `LINE:COL`, in a line each; these places in their files, line by line; the notes on races and those on the
-# other alarms, as `alarm_notes` writes them; the report as it counts the lines of the text, and as its files do.
+# Writes the lines of a report in its files, and below each why its alarm stands there. It reads seven parts: the places
+# of the notes, `LINE:COL`, in a line each; these places in their files, line by line; the notes on races and those on the
+# other alarms, as `alarm_notes` writes them; the ways to alarms, as `ways.awk` writes them; the report as it counts the
+# lines of the text, and as its files do.
 
 BEGIN {
     # Bounds of types (C99 5.2.4.2.1), and those that the types long and unsigned long have instead.
@@ -164,40 +165,68 @@ function tell_alarm(key, class,    computes) {
         note(place, "a run that comes here so always ends here: what stands behind is not analysed for such runs")
 }
 
+# ----- Call paths -----
+
+# Reads a call path: LINE:COL CLASS path TASK LINE:COL ..
+function read_path() {
+    paths[$1 " " $2, ++path_count[$1 " " $2]] = $0
+}
+
+# Tells by which calls tasks come to an alarm: at the innermost call of each path.
+function tell_paths(key,    at, words, last, call, text) {
+    for (at = 1; at <= path_count[key]; at++) {
+        last = split(paths[key, at], words, " ")
+        text = ""
+        for (call = 5; call < last; call++) text = text (call > 5 ? ", " : "") shown[words[call]]
+        note(words[last], words[4] " comes here by " (text == "" ? "this call" : \
+            "the call" (last > 6 ? "s" : "") " at " text " and this one"))
+    }
+    if (key in all_paths) note(place, "there are " all_paths[key] " call paths to here, of which these are the first")
+}
+
 # ----- Races -----
 
-# Reads an access: LINE:COL TASK stores|loads holds MUTEX .. free MUTEX .. [races]
-function read_access(    free, last) {
-    free = 5
-    while ($free != "free") free++
-    last = NF - ($NF == "races" && NF > free)
+# Reads an access to an object: LINE:COL TASK stores|loads holds MUTEX .. free MUTEX .. [races]
+function read_access(    last) {
+    last = NF - ($NF == "races")
     accesses[group]++
     if (last == NF) return
-    races[group, ++racing[group]] = $1 " " $2 " " $3 ", holds " listed(5, free - 1, "nothing") \
-        (last > free ? " and has found free " listed(free + 1, last) : "")
+    racing[group]++
     if (!(($1, group) in races_at)) {
         races_at[$1, group] = 1
         groups_at[$1] = groups_at[$1] " " group
     }
 }
 
-# Tells of the objects that are raced for here: their accesses once, at the first warning.
-function tell_race(    at, numbers_of, group, it, text, words) {
+# Reads an access that races: LINE:COL races TASK stores|loads OBJECT MEMBER holds MUTEX .. with COUNT
+function read_race() {
+    raced = $1 " " ++races[$1]
+    race_text[raced] = $3 " " $4 " " $5 ($6 == "." ? "" : $6) " here, holds " listed(8, NF - 2, "nothing") \
+        ", and races with " counted_accesses($NF)
+}
+
+function counted_accesses(number) {
+    return number " access" (number == 1 ? "" : "es") (number > MOST ? ", of which these are the first" : "")
+}
+
+# Reads what it races with: LINE:COL with LINE:COL TASK stores|loads holds MUTEX ..
+function read_partner() {
+    partner_place[raced, ++partners[raced]] = $3
+    partner_text[raced, partners[raced]] = $4 " " $5 " it here, holds " listed(7, NF, "nothing")
+}
+
+# Tells of the objects that are raced for here, of each once, of each access here, and of what it races with.
+function tell_race(    at, numbers_of, group, it) {
     split(groups_at[place], numbers_of, " ")
     for (at = 1; at in numbers_of; at++) {
         group = numbers_of[at]
-        if (told[group]++) {
-            note(of[group], name[group] " is declared here; its accesses stand above")
-            continue
-        }
-        note(of[group], name[group] " is declared here; " racing[group] " of its " accesses[group] " accesses race" \
-            (racing[group] > MOST ? ", of which these are the first" : ""))
-        for (it = 1; it <= racing[group] && it <= MOST; it++) {
-            text = races[group, it]
-            split(text, words, " ")
-            sub(/^[^ ]* /, "", text)
-            note(words[1], text)
-        }
+        if (!told[group]++)
+            note(of[group], name[group] " is declared here; " racing[group] " of its " accesses[group] " accesses race")
+    }
+    for (at = 1; at <= races[place]; at++) {
+        note(place, race_text[place " " at])
+        for (it = 1; it <= partners[place " " at]; it++)
+            note(partner_place[place " " at, it], partner_text[place " " at, it])
     }
 }
 
@@ -215,11 +244,16 @@ part == 4 && $3 == "of" && $5 == "at" { read_object(); next }
 part == 4 && NF == 4 && $3 == "bad" { read_flaw(); next }
 part == 4 && $2 ~ /^[A-Z]+$/ { read_head(); next }
 part == 4 && NF >= 2 && $1 in shown { read_operand(); next }
-part == 5 { alarms[FNR] = $1; classes[FNR] = $2; next }
-part == 6 {
+part == 5 && $3 == "path" { read_path(); next }
+part == 5 && $3 == "paths" { all_paths[$1 " " $2] = $4; next }
+part == 5 && $2 == "races" { read_race(); next }
+part == 5 && $2 == "with" { read_partner(); next }
+part == 6 { alarms[FNR] = $1; classes[FNR] = $2; next }
+part == 7 {
     print
     place = alarms[FNR]
     class = classes[FNR]
     if (class == "RACE") tell_race()
     else if ((place " " class) in operator) tell_alarm(place " " class, class)
+    tell_paths(place " " class)
 }
