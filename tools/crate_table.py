@@ -38,11 +38,12 @@ STATIONS = {
     " edge_effects edge_filters memory_effects transfer_mem state_fits",
     "Equations and passes": "table_covers edge_contributions least_tables task_equations program_equations store_limits"
     " body_systems entry_states program_systems program_equality program_laws thread_pass post_recheck"
-    " program_solutions sparse_tables cell_placings sparse_rows sparse_bodies row_checks cell_carries cell_touches"
+    " program_solutions sparse_tables cell_placings sparse_rows sparse_bodies row_checks cell_touches"
     " least_assignments front_constraints slot_numbers body_fronts body_slots",
     "Workers": "store_core thread_workers shared_programs shared_analyses worker_solutions history_lines",
     "Reports": "place_lists access_races request_circles program_reports value_ranges lock_waits access_groups"
-    " alarm_contexts notes_json program_notes report_json solution_lines source_findings source_notes",
+    " access_partners alarm_contexts source_names note_details notes_json program_notes note_lines report_json solution_lines"
+    " source_findings source_notes",
     "Soundness": "tm_soundness program_shape sound_foundations sound_runs sound_tables sound_addresses sound_core sound_notes",
     "Certificates": "certificate_words certificate_parts certificate_texts certificate_reading certificate_check"
     " check_main",
