@@ -1,6 +1,6 @@
 #!/usr/bin/env bash
 # Writes anew what stands beside each example of its circular waits and its ranges, examples/NAME.waits and
-# examples/NAME.ranges, and its certificate, examples/NAME.certificate, where that has at most 300,000 bytes, by the
+# examples/NAME.ranges, why its alarms stand, examples/NAME.why, and its certificate, examples/NAME.certificate, where that has at most 300,000 bytes, by the
 # program that ./analyse --program names; and of each project of several units its waits, rings, races and ranges,
 # examples/NAME/NAME.waits and so on, by ./analyse: benches/answers.sh [--unproved].
 #
@@ -31,6 +31,10 @@ for source in "$top"/examples/*.c; do
         cat -- "$work/answer" >"$beside"
         echo "${source##*/}: $told"
     done
+    status=0
+    (cd "$top/examples" && "$top/analyse" "$@" --why --preprocessed "${source##*/}") >"$work/answer" || status=$?
+    [ "$status" -le 1 ] || { echo "why of ${source##*/}: status $status" >&2 && exit 1; }
+    cat -- "$work/answer" >"${source%.c}.why"
 done
 
 for project in boiler gateway motor; do

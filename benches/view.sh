@@ -186,10 +186,12 @@ noted() { # SOURCE
     told "$top/analyse" --preprocessed --why "$work/why.c" | sed 's/: warning: .* \[\([A-Z]*\)\]$/ \1/; s/: note: /: /'
 }
 wanted=$'a.h:8:36 RACE\na.h:7:5: level is declared here; 3 of its 3 accesses race\n'
-wanted+=$'a.h:8:36: drain stores, holds nothing\na.h:9:33: show loads, holds nothing\na.h:9:58: show loads, holds nothing\n'
-wanted+=$'a.h:9:33 RACE\na.h:7:5: level is declared here; its accesses stand above\na.h:9:56 DIV\n'
+wanted+=$'a.h:8:36: drain stores level here, holds nothing, and races with 2 accesses\n'
+wanted+=$'a.h:9:33: show loads it here, holds nothing\na.h:9:58: show loads it here, holds nothing\n'
+wanted+=$'a.h:9:33 RACE\na.h:9:33: show loads level here, holds nothing, and races with 1 access\n'
+wanted+=$'a.h:8:36: drain stores it here, holds nothing\na.h:9:56 DIV\n'
 wanted+=$'a.h:9:56: the divisor is 0 to 4 here, and the dividend is 100\na.h:9:56: in show (priority 1)\n'
-wanted+=$'a.h:9:58 RACE\na.h:7:5: level is declared here; its accesses stand above\nalarms 4\nstatus 1'
+wanted+=$'a.h:9:58 RACE\na.h:9:58: show loads level here, holds nothing, and races with 1 access\na.h:8:36: drain stores it here, holds nothing\nalarms 4\nstatus 1'
 same "$wanted" "$(noted 'int level, shown;\n__task(2) void drain(void) { level = __input(0, 4); }\n__task(1) void show(void) { if (level > 0) shown = 100 / level; }\n')" \
     "why of two tasks"
 wanted=$'a.h:8:46 LOCK\na.h:8:46: m is held already where it is locked here\na.h:8:46: in t (priority 3)\n'

@@ -215,7 +215,8 @@ function read_partner() {
     partner_text[raced, partners[raced]] = $4 " " $5 " it here, holds " listed(7, NF, "nothing")
 }
 
-# Tells of the objects that are raced for here, of each once, of each access here, and of what it races with.
+# Tells of the objects that are raced for here, of each once, of each access here, and of what it races with elsewhere:
+# what it races with here has a line of its own.
 function tell_race(    at, numbers_of, group, it) {
     split(groups_at[place], numbers_of, " ")
     for (at = 1; at in numbers_of; at++) {
@@ -226,7 +227,8 @@ function tell_race(    at, numbers_of, group, it) {
     for (at = 1; at <= races[place]; at++) {
         note(place, race_text[place " " at])
         for (it = 1; it <= partners[place " " at]; it++)
-            note(partner_place[place " " at, it], partner_text[place " " at, it])
+            if (partner_place[place " " at, it] != place)
+                note(partner_place[place " " at, it], partner_text[place " " at, it])
     }
 }
 
