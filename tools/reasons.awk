@@ -1,7 +1,7 @@
-# Writes the lines of a report in its files, and below each why its alarm stands there. It reads eight parts: the places
-# of the notes, `LINE:COL`, in a line each; these places in their files, line by line; the notes on races, those on the
-# other alarms and the advice on these, as `alarm_notes` writes them; the ways to alarms, as `ways.awk` writes them; the
-# report as it counts the lines of the text, and as its files do.
+# Writes the lines of a report in its files, and below each why its alarm stands there. It reads seven parts: the places
+# of the notes, `LINE:COL`, in a line each; these places in their files, line by line; the notes on races and those on the
+# other alarms, as `alarm_notes` writes them; the ways to alarms, as `ways.awk` writes them; the report as it counts the
+# lines of the text, and as its files do.
 
 BEGIN {
     # Bounds of types (C99 5.2.4.2.1), and those that the types long and unsigned long have instead.
@@ -165,58 +165,6 @@ function tell_alarm(key, class,    computes) {
         note(place, "a run that comes here so always ends here: what stands behind is not analysed for such runs")
 }
 
-# ----- Advice -----
-
-# Reads the first line of advice: LINE:COL CLASS CAUSE [ROLE]
-function read_cause() {
-    advised = $1 " " $2
-    cause[advised] = $3
-    blamed[advised] = $4
-}
-
-# Reads a step of the way back: PLACE KIND TASK [LEAST GREATEST] [null] [invalid] [of NAME]
-function read_step() {
-    last_place[advised] = $1
-    last_task[advised] = $3
-    if ($2 == "store") {
-        store_place[advised] = $1
-        store_task[advised] = $3
-    }
-    if ($(NF - 1) == "of") last_name[advised] = $NF
-}
-
-# What the operand to blame is called.
-function operand_named(key) {
-    if (blamed[key] == "right" && key ~ / DIV$/) return "divisor"
-    return blamed[key] == "pointer" || blamed[key] == "subscript" || blamed[key] == "offset" ? blamed[key] : "value"
-}
-
-# Tells where the values of the operand to blame come from, if that is known.
-function tell_cause(key,    at, of, what) {
-    at = last_place[key]
-    what = operand_named(key)
-    of = last_name[key] == "" ? "" : " of " last_name[key]
-    if (cause[key] == "interference" && store_place[key] in shown) {
-        note(store_place[key], store_task[key] " stores what the " what " is then, after " task_named(key) " has looked")
-        return
-    }
-    if (!(at in shown)) return
-    if (cause[key] == "alarm") note(at, "the " what " comes from the alarm here: see that first")
-    if (cause[key] == "loop") note(at, "the " what " comes back to this from turn to turn of a loop")
-    if (cause[key] == "input") note(at, "the " what " comes from an input here, or from a function that may end without return")
-    if (cause[key] == "volatile") note(at, "the " what " comes from a volatile object here")
-    if (cause[key] == "open") note(at, "the " what " comes from a local object that may not have been set" of)
-    if (cause[key] == "unset") note(at, "the " what " comes from a function that may end without return")
-    if (cause[key] == "null") note(at, "the " what " is null from here")
-    if (cause[key] == "initial") note(at, "the " what " comes from what holds before the program runs" of)
-}
-
-# The first task of an alarm.
-function task_named(key,    words) {
-    split(tasks[key], words, " ")
-    return words[2]
-}
-
 # ----- Call paths -----
 
 # Reads a call path: LINE:COL CLASS path TASK LINE:COL ..
@@ -267,7 +215,8 @@ function read_partner() {
     partner_text[raced, partners[raced]] = $4 " " $5 " it here, holds " listed(7, NF, "nothing")
 }
 
-# Tells of the objects that are raced for here, of each once, of each access here, and of what it races with.
+# Tells of the objects that are raced for here, of each once, of each access here, and of what it races with elsewhere:
+# what it races with here has a line of its own.
 function tell_race(    at, numbers_of, group, it) {
     split(groups_at[place], numbers_of, " ")
     for (at = 1; at in numbers_of; at++) {
@@ -278,7 +227,8 @@ function tell_race(    at, numbers_of, group, it) {
     for (at = 1; at <= races[place]; at++) {
         note(place, race_text[place " " at])
         for (it = 1; it <= partners[place " " at]; it++)
-            note(partner_place[place " " at, it], partner_text[place " " at, it])
+            if (partner_place[place " " at, it] != place)
+                note(partner_place[place " " at, it], partner_text[place " " at, it])
     }
 }
 
@@ -296,21 +246,16 @@ part == 4 && $3 == "of" && $5 == "at" { read_object(); next }
 part == 4 && NF == 4 && $3 == "bad" { read_flaw(); next }
 part == 4 && $2 ~ /^[A-Z]+$/ { read_head(); next }
 part == 4 && NF >= 2 && $1 in shown { read_operand(); next }
-part == 5 && $1 ~ /:/ && $2 ~ /^[A-Z]+$/ { read_cause(); next }
-part == 5 && NF > 2 { read_step(); next }
-part == 6 && $3 == "path" { read_path(); next }
-part == 6 && $3 == "paths" { all_paths[$1 " " $2] = $4; next }
-part == 6 && $2 == "races" { read_race(); next }
-part == 6 && $2 == "with" { read_partner(); next }
-part == 7 { alarms[FNR] = $1; classes[FNR] = $2; next }
-part == 8 {
+part == 5 && $3 == "path" { read_path(); next }
+part == 5 && $3 == "paths" { all_paths[$1 " " $2] = $4; next }
+part == 5 && $2 == "races" { read_race(); next }
+part == 5 && $2 == "with" { read_partner(); next }
+part == 6 { alarms[FNR] = $1; classes[FNR] = $2; next }
+part == 7 {
     print
     place = alarms[FNR]
     class = classes[FNR]
     if (class == "RACE") tell_race()
-    else if ((place " " class) in operator) {
-        tell_alarm(place " " class, class)
-        tell_cause(place " " class)
-    }
+    else if ((place " " class) in operator) tell_alarm(place " " class, class)
     tell_paths(place " " class)
 }

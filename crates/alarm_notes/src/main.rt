@@ -1,7 +1,7 @@
-//! The program `alarm_notes rings|races|alarms|causes|notes|parts < SOURCE`: it analyses standard input, writes notes to
+//! The program `alarm_notes rings|races|alarms|notes|parts < SOURCE`: it analyses standard input, writes notes to
 //! standard output, on the rings in which tasks may come to wait for each other, on the races by object, on what the
-//! other alarms stand on, advice on these, or all of it as one line of JSON or as texts that can be cut out again, and
-//! ends with the number of the status. With other words it ends with the status of words that are no command, and where the system
+//! other alarms stand on, or all of it as one line of JSON or as texts that can be cut out again, and ends with the
+//! number of the status. With other words it ends with the status of words that are no command, and where the system
 //! does not give it its words, with status 7.
 #![tactic(auto)]
 
@@ -16,7 +16,7 @@ use tm_io::{StdSink, StdSource};
 const NO_WORDS: u8 = 7;
 
 /// The line that says how the program is used.
-const USAGE: &str = "usage: alarm_notes rings|races|alarms|causes|notes|parts < SOURCE";
+const USAGE: &str = "usage: alarm_notes rings|races|alarms|notes|parts < SOURCE";
 
 /// The status where the words cannot be had for this reason: memory may run out while they are copied.
 fn status_without_words(reason: ErrorKind) -> u8 {
@@ -39,9 +39,6 @@ fn asked(words: &[String]) -> Option<Note> {
     }
     if words[0].as_str() == "alarms" {
         return Some(Note::Alarms);
-    }
-    if words[0].as_str() == "causes" {
-        return Some(Note::Causes);
     }
     if words[0].as_str() == "notes" {
         return Some(Note::Whole);

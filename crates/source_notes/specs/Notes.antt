@@ -1,6 +1,6 @@
 -- What is answered to a source: the rings in which its tasks may come to wait for each other, its races by object, its
 -- other alarms and what they stand on, the whole notes on all alarms, or each as a text of its own.
-use Rattle.std.specs.Prelude.{◌≡◌, ◌↔◌, ℕ, ℤ, List, [], ◌∷◌, ◌++◌, map, length, Contains, Option, codes}
+use Rattle.std.specs.Prelude.{◌≡◌, ◌↔◌, ℕ, ℤ, List, [], ◌∷◌, ◌++◌, map, Contains, Option, codes}
 use Rattle.std.specs.declared.vec.Vec.{Vec}
 use Rattle.std.specs.declared.alloc.Global.{Global}
 use Rattle.tm_cint.specs.declared.Class.{Class}
@@ -46,13 +46,10 @@ use Rattle.note_lines.specs.Names.{task_names, task_priorities, mutex_names, obj
 use Rattle.note_lines.specs.RingTexts.{rings_text}
 use Rattle.note_lines.specs.RaceTexts.{groups_text}
 use Rattle.note_lines.specs.AlarmTexts.{alarms_text}
-use Rattle.note_lines.specs.CauseTexts.{causes_text}
-use Rattle.alarm_causes.specs.declared.advices.Advice.{Advice}
-use Rattle.alarm_causes.specs.Advised.{AreAdvised}
 use Rattle.source_notes.specs.PartTexts.{Part, shown}
 use Rattle.program_notes.specs.Operations.{operation_of}
 use Rattle.source_notes.specs.declared.answers.Note.{Note}
-use Rattle.source_notes.specs.declared.answers.Note.TheVariants.{Rings, Races, Alarms as Others, Causes, Whole, Parts}
+use Rattle.source_notes.specs.declared.answers.Note.TheVariants.{Rings, Races, Alarms as Others, Whole, Parts}
 
 -- ## Rings
 
@@ -201,22 +198,6 @@ pub record TellsNotes (bytes : List ℕ) (status : Status) (text : List ℕ) : T
   pub is : (let o = finds.others in let s = o.solves in
       text ≡ notes_text bytes declared (operation_of s.program) contents)
 
--- ## Advice
-
--- The alarms that are not races, and advice on each with these races, of which nothing is promised but its form.
-pub record TellsCauses (bytes : List ℕ) (status : Status) (text : List ℕ) : Type 0 where
-  pub alarms : List AlarmContexts
-  pub finds : FindsAlarms bytes alarms
-  pub groups : List AccessGroup
-  pub raced : FindsRaces bytes groups
-  pub advices : List Advice
-  pub advised : AreAdvised (length groups) alarms advices
-  pub comes : status ≡ alarms_status alarms
-  pub laid : LaidTree
-  pub of : IsLaidSource bytes laid
-  pub is : (let s = finds.solves in
-      text ≡ causes_text bytes (object_names laid) (task_names laid) (operation_of s.program) alarms advices)
-
 -- ## All texts
 
 -- the report alone
@@ -226,8 +207,8 @@ pub record TellsReport (bytes : List ℕ) (status : Status) (text : List ℕ) : 
   pub comes : status ≡ report_status report
   pub is : text ≡ json_text report
 
--- The report as JSON, the waits, the ranges, the notes on rings, races and other alarms, the advice, and the whole notes,
--- each as it is answered alone, behind a line with its name, its status and its length; the status is that of the report.
+-- The report as JSON, the waits, the ranges, the notes on rings, races and other alarms, and the whole notes, each as it
+-- is answered alone, behind a line with its name, its status and its length; the status is that of the report.
 pub record TellsParts (bytes : List ℕ) (status : Status) (text : List ℕ) : Type 0 where
   pub report : Part (TellsReport bytes)
   pub waits : Part (TellsWaits bytes)
@@ -235,13 +216,11 @@ pub record TellsParts (bytes : List ℕ) (status : Status) (text : List ℕ) : T
   pub rings : Part (TellsRings bytes)
   pub races : Part (TellsRaces bytes)
   pub alarms : Part (TellsAlarms bytes)
-  pub causes : Part (TellsCauses bytes)
   pub notes : Part (TellsNotes bytes)
   pub comes : status ≡ report.status
-  pub is : text ≡ ((((((shown (codes "report") report ++ shown (codes "waits") waits)
+  pub is : text ≡ (((((shown (codes "report") report ++ shown (codes "waits") waits)
       ++ shown (codes "ranges") ranges) ++ shown (codes "rings") rings)
-      ++ shown (codes "races") races) ++ shown (codes "alarms") alarms) ++ shown (codes "causes") causes)
-      ++ shown (codes "notes") notes
+      ++ shown (codes "races") races) ++ shown (codes "alarms") alarms) ++ shown (codes "notes") notes
 
 -- ## All
 
@@ -249,7 +228,6 @@ abbrev pub Tells : Note → List ℕ → Status → List ℕ → Type 0
 Tells Rings = TellsRings
 Tells Races = TellsRaces
 Tells Others = TellsAlarms
-Tells Causes = TellsCauses
 Tells Whole = TellsNotes
 Tells Parts = TellsParts
 

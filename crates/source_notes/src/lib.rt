@@ -3,7 +3,7 @@
 //! and asks for; or its races by object, with all accesses to each object that has one, the mutexes that are held there
 //! and those that were found free; or its other alarms, with the operation of each, the values that its operands may
 //! have there, and the tasks; or the whole report with all of this, the bounds of objects and the dead places, as one
-//! line of JSON; or advice on the alarms; or all of these as texts behind one another. How a solution is found, how rings, races and contexts are read off it,
+//! line of JSON; or all of these as texts behind one another. How a solution is found, how rings, races and contexts are read off it,
 //! and how they stand in lines and in JSON, the crates below know.
 //!
 //! Where one task `a` locks `m` and then `n`, at 3:34, and another one `b` `n` and then `m`, at 4:34, the notes on
