@@ -1,6 +1,6 @@
 //! The program `alarm_notes rings|races|alarms|notes|parts < SOURCE`: it analyses standard input, writes notes to
 //! standard output, on the rings in which tasks may come to wait for each other, on the races by object, on what the
-//! other alarms stand on, or all of it as one line of JSON or as texts that can be cut out again, and ends with the
+//! other alarms stand on, or on all of it as one line of JSON or as texts that can be cut out again, and ends with the
 //! number of the status. With other words it ends with the status of words that are no command, and where the system
 //! does not give it its words, with status 7.
 #![tactic(auto)]
