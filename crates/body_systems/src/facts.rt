@@ -73,7 +73,7 @@ impl BodyFacts {
         configured: &ConfiguredGraph,
     ) -> Result<BodyFacts, NoMemory>
         requires range { AreInRange graph.now.edges.items graph.now.nodes }
-        requires few { length laid.now.abstract_cells.items ≤ 4096 }
+        requires few { length laid.now.abstract_cells.items ≤ 65536 }
         ensures { IfOk result (λ facts. AreFactsOf (laid_tree laid.now) graph.now configured.now facts) }
     {
         let links = links_of(alloc, &configured.copies)?;

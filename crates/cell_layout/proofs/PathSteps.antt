@@ -53,8 +53,8 @@ unfolding laid_count
 paths_counted file = bodies_counted 0 0 (body_trees file)
 
 -- .. which are at most 4,096
-pub paths_few : (file : TypedFileTree) → is_exceeded file Limits.Paths ≡ false → length (paths_of file) ≤ 4096
-paths_few file e = let a = ltb-false 4096 (laid_count file Limits.Paths) e in let b = paths_counted file in omega (arith, a, b)
+pub paths_few : (file : TypedFileTree) → is_exceeded file Limits.Paths ≡ false → length (paths_of file) ≤ 65536
+paths_few file e = let a = ltb-false 65536 (laid_count file Limits.Paths) e in let b = paths_counted file in omega (arith, a, b)
 
 length_sum : (w : ℕ → ℕ) → ((f : ℕ) → 1 ≤ w f) → (fs : List ℕ) → length fs ≤ sum_of w fs
 length_sum w h [] = omega arith
@@ -67,7 +67,7 @@ size_some file f = by_tree (tree_of file f)
     by_tree (a_call_of g ts) = omega arith
 
 -- there are few bodies
-pub bodies_few : (file : TypedFileTree) → is_exceeded file Limits.Paths ≡ false → length (bodies_of file) ≤ 4096
+pub bodies_few : (file : TypedFileTree) → is_exceeded file Limits.Paths ≡ false → length (bodies_of file) ≤ 65536
 bodies_few file e =
     let a = paths_few file e in
     let b = bodies_counted 0 0 (body_trees file) in
@@ -76,7 +76,7 @@ bodies_few file e =
     omega (arith, a, b, c, d)
 
 -- a function has few calls
-pub calls_few : (file : TypedFileTree) (order : List ℕ) → IsLayable file order → (f : ℕ) → size_of file f ≤ 4096 → length (calls_in file.calls f) ≤ 4095
+pub calls_few : (file : TypedFileTree) (order : List ℕ) → IsLayable file order → (f : ℕ) → size_of file f ≤ 65536 → length (calls_in file.calls f) ≤ 65535
 calls_few file order h f small =
     let a = size_opens file order h f in
     let b = length_sum (size_of file) (size_some file) (calls_in file.calls f) in
@@ -127,7 +127,7 @@ numbers_more file order calls first i numbers number total lt e h = record {
     more = drop_more calls i 0 lt
 
 -- a total that is exact
-pub exact : (file : TypedFileTree) (order : List ℕ) (totals : List ℕ) (f i total : ℕ) → IsLayable file order → AreTotals file Limits.Paths totals → size_of file f ≤ 4096
+pub exact : (file : TypedFileTree) (order : List ℕ) (totals : List ℕ) (f i total : ℕ) → IsLayable file order → AreTotals file Limits.Paths totals → size_of file f ≤ 65536
     → i < length (calls_in file.calls f) → total ≡ get_or totals (get_or (calls_in file.calls f) i 0) 0 → total ≡ size_of file (get_or (calls_in file.calls f) i 0)
 exact file order totals f i total h found small lt e =
     let g : ℕ = get_or (calls_in file.calls f) i 0 in
@@ -227,7 +227,7 @@ callees_open file order h number w ws =
 
 -- the waiting path is small
 pub waiting_small : (file : TypedFileTree) (number : ℕ) (ps : List CallPath) (cs : List (List ℕ)) (rest : List Waiting) (w : Waiting) → is_exceeded file Limits.Paths ≡ false
-    → IsNumbered file number ps cs (rest ++ w ∷ []) → size_of file w.function ≤ 4096
+    → IsNumbered file number ps cs (rest ++ w ∷ []) → size_of file w.function ≤ 65536
 waiting_small file number ps cs rest w few h =
     let P : List Waiting → Type 0 = λ ws. ps ++ paths_from file number ws ≡ paths_of file in
     let e : ps ++ (tree_paths w.body w.caller number (tree_of file w.function) ++ paths_from file (number + size_of file w.function) (reverse rest)) ≡ paths_of file =
@@ -350,7 +350,7 @@ numbered_all file number ps cs ws e h =
 
 -- a total of a body is exact
 pub body_exact : (file : TypedFileTree) (order : List ℕ) (totals bodies : List ℕ) (i total : ℕ) → IsLayable file order → AreTotals file Limits.Paths totals → is_exceeded file Limits.Paths ≡ false → bodies ≡ bodies_of file
-    → i < length bodies → total ≡ get_or totals (get_or bodies i 0) 0 → (total ≡ size_of file (get_or bodies i 0)) × (total + sum_of (size_of file) (drop (i + 1) bodies) ≤ 4096)
+    → i < length bodies → total ≡ get_or totals (get_or bodies i 0) 0 → (total ≡ size_of file (get_or bodies i 0)) × (total + sum_of (size_of file) (drop (i + 1) bodies) ≤ 65536)
 body_exact file order totals bodies i total h found few same lt e =
     let g : ℕ = get_or bodies i 0 in
     let a : sum_of (size_of file) (drop i bodies) ≡ size_of file g + sum_of (size_of file) (drop (i + 1) bodies) = ap (sum_of (size_of file)) (drop_more bodies i 0 lt) in
@@ -366,7 +366,7 @@ body_exact file order totals bodies i total h found few same lt e =
     let exact : total ≡ size_of file g = e ∙ n ∙ (let z : min 4097 (total_of file Limits.Paths g) ≡ size_of file g = omega (arith, s, a, b, c, d, k, m) in z) in
     (exact, omega (arith, exact, a, b, c, d, k, m))
 
-pub all_sizes : (file : TypedFileTree) (bodies : List ℕ) → is_exceeded file Limits.Paths ≡ false → bodies ≡ bodies_of file → sum_of (size_of file) bodies ≤ 4096
+pub all_sizes : (file : TypedFileTree) (bodies : List ℕ) → is_exceeded file Limits.Paths ≡ false → bodies ≡ bodies_of file → sum_of (size_of file) bodies ≤ 65536
 all_sizes file bodies few same =
     let c = ap (sum_of (size_of file)) same in
     let d = weights_sum one (tree_of file) (bodies_of file) in

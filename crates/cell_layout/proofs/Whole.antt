@@ -83,9 +83,9 @@ pub cells_few : (file : TypedFileTree) → IsAllWithin file → over_objects fil
 unfolding laid_count
 cells_few file w = ltb-false 65536 (over_objects file (cells_of_type file)) w.cells
 
-pub abstracts_few : (file : TypedFileTree) → IsAllWithin file → over_objects file (abstract_cells_of_type file) ≤ 4096
+pub abstracts_few : (file : TypedFileTree) → IsAllWithin file → over_objects file (abstract_cells_of_type file) ≤ 65536
 unfolding laid_count
-abstracts_few file w = ltb-false 4096 (over_objects file (abstract_cells_of_type file)) w.abstract_cells
+abstracts_few file w = ltb-false 65536 (over_objects file (abstract_cells_of_type file)) w.abstract_cells
 
 -- ## The answer
 

@@ -80,7 +80,7 @@ pub(crate) fn declared(
     file: &TypedFile,
     paths: &[CallPath],
 ) -> Result<Vec<DeclaredObject>, NoMemory>
-    requires few { length paths.now ≤ 4096 }
+    requires few { length paths.now ≤ 65536 }
     ensures { IfOk result (λ v. v.items ≡ declared_objects (typed_file_tree file.now) paths.now) }
 {
     let mut objects = statics(alloc, file)?;

@@ -44,7 +44,7 @@ fn waiting_calls(
     function: u32,
 ) -> Result<Vec<Waiting>, NoMemory>
     requires layable { IsLayable (typed_file_tree file.now) file.now.order.items }
-    requires small { size_of (typed_file_tree file.now) function ≤ 4096 }
+    requires small { size_of (typed_file_tree file.now) function ≤ 65536 }
     ensures { IfOk result (λ v. v.items ≡ calls_waiting body path 0
         (calls_in (typed_file_tree file.now).calls function)) }
 {
@@ -71,8 +71,8 @@ fn callee_numbers(
 ) -> Result<Vec<u32>, NoMemory>
     requires layable { IsLayable (typed_file_tree file.now) file.now.order.items }
     requires totals { AreTotals (typed_file_tree file.now) Limits.Paths totals.now }
-    requires small { size_of (typed_file_tree file.now) function ≤ 4096 }
-    requires number { first ≤ 4096 }
+    requires small { size_of (typed_file_tree file.now) function ≤ 65536 }
+    requires number { first ≤ 65536 }
     ensures { IfOk result (λ v. v.items ≡ numbers_from first (trees_of (tree_of (typed_file_tree file.now))
         (calls_in (typed_file_tree file.now).calls function))) }
 {

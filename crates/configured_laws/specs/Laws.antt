@@ -1,8 +1,9 @@
--- Each layout of a typed file has a program or exceeds a limit, and not both.
+-- Each layout of a typed file has a program on a scale or exceeds a limit, and not both.
 use Rattle.std.specs.Prelude.{◌≡◌, ◌⊎◌, ℕ, List, [], ◌∷◌, map, Ok, Err}
 use Rattle.region_cells.specs.tm_terms.declared.refusals.Fail.TheVariants as Fails
 use Rattle.region_cells.specs.tm_terms.declared.refusals.Limit.TheVariants as Limits
 use Rattle.region_cells.specs.tm_terms.declared.refusals.Refusal.{Refusal}
+use Rattle.region_cells.specs.tm_laid.declared.scales.Scale.{Scale}
 use Rattle.region_cells.specs.tm_laid.Layouts.{LaidTree, beyond}
 use Rattle.region_cells.specs.flow_graph.declared.graphs.Graph.{Graph}
 use Rattle.region_cells.specs.flow_graph.Graphs.{Edges}
@@ -15,25 +16,26 @@ use Rattle.program_graphs.specs.lowering_laws.LaidFiles.{IsLaidFile}
 use Rattle.program_graphs.specs.Prepared.{Graphed, IsPrepared}
 
 -- the layout has these graphs with their configured graphs
-abbrev pub IsProgram : LaidTree → Graphed → Type 0
-IsProgram laid p = IsPrepared laid (Ok p)
+abbrev pub IsProgram : Scale → LaidTree → Graphed → Type 0
+IsProgram scale laid p = IsPrepared scale laid (Ok p)
 
 -- the layout is refused for this reason
-abbrev pub IsBeyond : LaidTree → Refusal → Type 0
-IsBeyond laid r = IsPrepared laid (Err (Fails.Refused r))
+abbrev pub IsBeyond : Scale → LaidTree → Refusal → Type 0
+IsBeyond scale laid r = IsPrepared scale laid (Err (Fails.Refused r))
 
 -- a layout has a program, or exceeds the limit of nodes or that of work
 abbrev pub SomeProgram : Type 0
-SomeProgram = (laid : LaidTree) → IsLaidFile laid
-    → ((p : Graphed) × IsProgram laid p) ⊎ (IsBeyond laid (beyond Limits.Nodes) ⊎ IsBeyond laid (beyond Limits.Work))
+SomeProgram = (scale : Scale) (laid : LaidTree) → IsLaidFile laid → ((p : Graphed) × IsProgram scale laid p)
+    ⊎ (IsBeyond scale laid (beyond Limits.Nodes) ⊎ IsBeyond scale laid (beyond Limits.Work))
 
 -- one that has a program exceeds no limit
 abbrev pub NeverBoth : Type 0
-NeverBoth = (laid : LaidTree) (p : Graphed) (r : Refusal) → IsProgram laid p → IsBeyond laid r → ⊥
+NeverBoth = (scale : Scale) (laid : LaidTree) (p : Graphed) (r : Refusal) → IsProgram scale laid p
+    → IsBeyond scale laid r → ⊥
 
 -- it exceeds one limit
 abbrev pub OneLimit : Type 0
-OneLimit = (laid : LaidTree) (r s : Refusal) → IsBeyond laid r → IsBeyond laid s → r ≡ s
+OneLimit = (scale : Scale) (laid : LaidTree) (r s : Refusal) → IsBeyond scale laid r → IsBeyond scale laid s → r ≡ s
 
 abbrev pub edges_of : List Graph → List Edges
 edges_of gs = map (λ (g : Graph). g.edges.items) gs
@@ -45,10 +47,10 @@ AreAlike [] (d ∷ ds) = ⊥
 AreAlike (c ∷ cs) [] = ⊥
 AreAlike (c ∷ cs) (d ∷ ds) = (c.nodes.keys ≡ d.nodes.keys) × (c.copies.items ≡ d.copies.items) × AreAlike cs ds
 
--- and its program is one: the same edges, and the same configured graphs
+-- and its program is one, on whatever scales: the same edges, and the same configured graphs
 abbrev pub ProgramsAreAlike : Type 0
 ProgramsAreAlike =
-    (laid : LaidTree) (p q : Graphed) → IsProgram laid p → IsProgram laid q
+    (scale other : Scale) (laid : LaidTree) (p q : Graphed) → IsProgram scale laid p → IsProgram other laid q
     → (edges_of p.graphs ≡ edges_of q.graphs) × AreAlike p.configured q.configured
 
 -- ## What the graphs of a program have

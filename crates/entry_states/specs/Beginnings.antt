@@ -9,7 +9,7 @@ use Rattle.body_systems.specs.program_equations.Entries.{initial_at, initial_of}
 pub record BeginsInTypes (laid : LaidTree) : Type 0 where
   pub initial : (cell : ℕ) → cell < length laid.initial
       → (let a = abstract_at laid (cell_at laid cell).abstract_cell in IsOfType laid a.scalar (initial_at laid cell))
-  pub few : length laid.abstract_cells ≤ 4096
+  pub few : length laid.abstract_cells ≤ 65536
 
 -- the values of all abstract cells before anything has run, by their numbers
 pub record AreInitialValues (laid : LaidTree) (values : List Values) : Type 0 where

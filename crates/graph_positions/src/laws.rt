@@ -3,6 +3,7 @@ ghost use Rattle.std.specs.Prelude.{◌≡◌, ℕ, List, Ok};
 ghost use Rattle.tm_laid.specs.tm_typed.declared.files.TypedFile.{TypedFile};
 ghost use Rattle.tm_laid.specs.tm_typed.TypedFiles.{typed_file_tree};
 ghost use Rattle.tm_laid.specs.declared.layouts.Laid.{Laid};
+ghost use Rattle.tm_laid.specs.declared.scales.Scale.{Scale};
 ghost use Rattle.tm_laid.specs.Layouts.{LaidTree, laid_tree, laid_out};
 ghost use Rattle.tm_laid.specs.Layable.{IsLayable};
 ghost use Rattle.concrete_values.specs.declared.values.Answer.{Answer};
@@ -14,8 +15,8 @@ ghost use Rattle.graph_positions.specs.Layouts.{IsServing};
 
 /// The layout of a file that can be laid out serves, where it keeps the file's order of functions.
 pub fn layouts_serve()
-    ensures { (typed : TypedFile) (laid : Laid) → IsLayable (typed_file_tree typed) typed.order.items
-        → laid_out (typed_file_tree typed) ≡ Ok (laid_tree laid) → laid.file.order.items ≡ typed.order.items
+    ensures { (scale : Scale) (typed : TypedFile) (laid : Laid) → IsLayable (typed_file_tree typed) typed.order.items
+        → laid_out scale (typed_file_tree typed) ≡ Ok (laid_tree laid) → laid.file.order.items ≡ typed.order.items
         → IsServing laid }
 {}
 

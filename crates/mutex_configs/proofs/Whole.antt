@@ -41,8 +41,8 @@ same_length [] (c ∷ cs) a = absurd a
 same_length (g ∷ gs) [] a = absurd a
 same_length (g ∷ gs) (c ∷ cs) a = ap suc (same_length gs cs a.2)
 
-pub all_small : (gs : List Graph) (cs : List ConfiguredGraph) → AreConfigured gs cs → All (λ (c : ConfiguredGraph). length c.nodes.keys ≤ 20000) cs
-all_small [] [] a = All-nil (λ (c : ConfiguredGraph). length c.nodes.keys ≤ 20000)
+pub all_small : (gs : List Graph) (cs : List ConfiguredGraph) → AreConfigured gs cs → All (λ (c : ConfiguredGraph). length c.nodes.keys ≤ 200000) cs
+all_small [] [] a = All-nil (λ (c : ConfiguredGraph). length c.nodes.keys ≤ 200000)
 all_small [] (c ∷ cs) a = absurd a
 all_small (g ∷ gs) [] a = absurd a
-all_small (g ∷ gs) (c ∷ cs) a = All-cons (λ (d : ConfiguredGraph). length d.nodes.keys ≤ 20000) c cs a.1 (all_small gs cs a.2)
+all_small (g ∷ gs) (c ∷ cs) a = All-cons (λ (d : ConfiguredGraph). length d.nodes.keys ≤ 200000) c cs a.1 (all_small gs cs a.2)

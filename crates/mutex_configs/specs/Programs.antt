@@ -4,8 +4,9 @@ use Rattle.std.specs.Prelude.{filter, Any, Option, Some, None, Result, Ok, Err}
 use Rattle.tm_terms.specs.declared.refusals.Fail.{Fail}
 use Rattle.tm_terms.specs.declared.refusals.Fail.TheVariants as Fails
 use Rattle.tm_terms.specs.declared.refusals.Limit.TheVariants as Limits
-use Rattle.tm_terms.specs.Limits.{limit_number}
 use Rattle.tm_laid.specs.declared.cells.AbstractCell.{AbstractCell}
+use Rattle.tm_laid.specs.declared.scales.Scale.{Scale}
+use Rattle.tm_laid.specs.Scales.{number_on}
 use Rattle.tm_laid.specs.Layouts.{LaidTree, object_at, path_at, beyond}
 use Rattle.flow_graph.specs.declared.graphs.Graph.{Graph}
 use Rattle.mutex_configs.specs.declared.nodes.ConfiguredGraph.{ConfiguredGraph}
@@ -33,26 +34,26 @@ work_from laid body (c ∷ cs) = length c.nodes.keys * seen_cells laid body + wo
 
 -- ## Programs
 
--- each graph with its configured graph, of at most as many nodes as the limit allows
-abbrev pub AreConfigured : List Graph → List ConfiguredGraph → Type 0
-AreConfigured [] [] = Unit {0}
-AreConfigured [] (c ∷ cs) = ⊥
-AreConfigured (g ∷ gs) [] = ⊥
-AreConfigured (g ∷ gs) (c ∷ cs) = IsConfigured g.edges.items c × (length c.nodes.keys ≤ limit_number Limits.Nodes)
-    × AreConfigured gs cs
+-- each graph with its configured graph, of at most as many nodes as the limit allows on a scale
+abbrev pub AreConfigured : Scale → List Graph → List ConfiguredGraph → Type 0
+AreConfigured scale [] [] = Unit {0}
+AreConfigured scale [] (c ∷ cs) = ⊥
+AreConfigured scale (g ∷ gs) [] = ⊥
+AreConfigured scale (g ∷ gs) (c ∷ cs) = IsConfigured g.edges.items c × (length c.nodes.keys ≤ number_on scale Limits.Nodes)
+    × AreConfigured scale gs cs
 
-abbrev pub HasTooManyNodes : List Graph → Type 0
-HasTooManyNodes gs = Any (λ (g : Graph). HasMoreNodes g.edges.items (limit_number Limits.Nodes)) gs
+abbrev pub HasTooManyNodes : Scale → List Graph → Type 0
+HasTooManyNodes scale gs = Any (λ (g : Graph). HasMoreNodes g.edges.items (number_on scale Limits.Nodes)) gs
 
 -- the configured graphs are more work than the limit allows
-pub record HasTooMuchWork (laid : LaidTree) (gs : List Graph) : Type 0 where
+pub record HasTooMuchWork (scale : Scale) (laid : LaidTree) (gs : List Graph) : Type 0 where
   pub configured : List ConfiguredGraph
-  pub are : AreConfigured gs configured
-  pub more : limit_number Limits.Work < work_from laid 0 configured
+  pub are : AreConfigured scale gs configured
+  pub more : number_on scale Limits.Work < work_from laid 0 configured
 
--- The answer to a layout and its graphs: their configured graphs, or the first limit that is exceeded.
-abbrev pub IsAnswer : LaidTree → List Graph → Result (List ConfiguredGraph) Fail → Type 0
-IsAnswer laid gs (Ok cs) = AreConfigured gs cs × (work_from laid 0 cs ≤ limit_number Limits.Work)
-IsAnswer laid gs (Err (Fails.Refused r)) =
-    ((r ≡ beyond Limits.Nodes) × HasTooManyNodes gs) ⊎ ((r ≡ beyond Limits.Work) × HasTooMuchWork laid gs)
-IsAnswer laid gs (Err Fails.NoMemory) = Unit {0}
+-- The answer to a layout and its graphs on a scale: their configured graphs, or the first limit that is exceeded.
+abbrev pub IsAnswer : Scale → LaidTree → List Graph → Result (List ConfiguredGraph) Fail → Type 0
+IsAnswer scale laid gs (Ok cs) = AreConfigured scale gs cs × (work_from laid 0 cs ≤ number_on scale Limits.Work)
+IsAnswer scale laid gs (Err (Fails.Refused r)) =
+    ((r ≡ beyond Limits.Nodes) × HasTooManyNodes scale gs) ⊎ ((r ≡ beyond Limits.Work) × HasTooMuchWork scale laid gs)
+IsAnswer scale laid gs (Err Fails.NoMemory) = Unit {0}

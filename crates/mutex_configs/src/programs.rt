@@ -107,9 +107,9 @@ fn is_cell_seen(laid: &Laid, body: u32, cell: AbstractCell) -> bool
 
 // How many abstract cells are static or the body's own.
 fn cells_seen(laid: &Laid, body: u32) -> u32
-    requires { length laid.now.abstract_cells.items ≤ 4096 }
+    requires { length laid.now.abstract_cells.items ≤ 65536 }
     ensures count { result ≡ seen_cells (laid_tree laid.now) body }
-    ensures most { result ≤ 4096 }
+    ensures most { result ≤ 65536 }
 {
     let mut count = 0;
     for cell in &laid.abstract_cells {
@@ -122,8 +122,8 @@ fn cells_seen(laid: &Laid, body: u32) -> u32
 
 // Whether the work of the configured graphs is within the limit.
 fn is_within_work(laid: &Laid, configured: &[ConfiguredGraph]) -> bool
-    requires cells { length laid.now.abstract_cells.items ≤ 4096 }
-    requires nodes { All (λ (c : AConfigured). length c.nodes.keys ≤ 20000) configured.now }
+    requires cells { length laid.now.abstract_cells.items ≤ 65536 }
+    requires nodes { All (λ (c : AConfigured). length c.nodes.keys ≤ 200000) configured.now }
     requires bodies { length configured.now < 2 ^ 32 }
     ensures { IsTrue result ↔ (work_from (laid_tree laid.now) 0 configured.now ≤ 8000000) }
 {
@@ -141,7 +141,7 @@ fn is_within_work(laid: &Laid, configured: &[ConfiguredGraph]) -> bool
 // The configured graphs of a layout's graphs, within the limits.
 fn within_limits(alloc: Global, laid: &Laid, graphs: &[Graph]) -> Result<Vec<ConfiguredGraph>, Fail>
     requires graphs { All IsGraph graphs.now }
-    requires cells { length laid.now.abstract_cells.items ≤ 4096 }
+    requires cells { length laid.now.abstract_cells.items ≤ 65536 }
     requires bodies { length graphs.now < 2 ^ 32 }
     ensures { IsAnswer (laid_tree laid.now) graphs.now (result_map_both (λ v. v.items) (λ e. e) result) }
 {
@@ -160,7 +160,7 @@ fn within_limits(alloc: Global, laid: &Laid, graphs: &[Graph]) -> Result<Vec<Con
 /// own, are more than 8,000,000 in all.
 pub fn configured(alloc: Global, laid: Laid, graphs: Graphs, marks: Marks) -> Result<Program, Fail>
     requires graphs { All IsGraph graphs.graphs.items }
-    requires cells { length laid.abstract_cells.items ≤ 4096 }
+    requires cells { length laid.abstract_cells.items ≤ 65536 }
     requires bodies { length graphs.graphs.items < 2 ^ 32 }
     ensures answer { IsAnswer (laid_tree laid) graphs.graphs.items
         (result_map_both (λ p. p.configured.items) (λ e. e) result) }

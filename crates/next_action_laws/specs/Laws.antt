@@ -7,6 +7,7 @@ use Rattle.cell_layout.specs.tm_typed.Scopes.{ctype_of, cells_of}
 use Rattle.cell_layout.specs.tm_typed.Files.{TypedFileTree, IsTyped}
 use Rattle.cell_layout.specs.tm_typed.WellTyped.{HasPart}
 use Rattle.cell_layout.specs.tm_laid.Layable.{IsLayable, tables_of}
+use Rattle.cell_layout.specs.tm_laid.declared.scales.Scale.{Scale}
 use Rattle.cell_layout.specs.tm_laid.Layouts.{LaidTree, laid_out}
 use Rattle.cell_types.specs.concrete_values.declared.values.Pointer.TheVariants.{To}
 use Rattle.cell_types.specs.concrete_values.declared.values.Value.{Value}
@@ -18,10 +19,11 @@ use Rattle.concrete_steps.specs.NextAction.{next}
 use Rattle.next_action_laws.specs.Actions.{Fit, IsProper, IsPlace}
 use Rattle.next_action_laws.specs.Regular.{AreRegularBodies}
 
--- the file is laid out so, and numbers of 32 bits are enough for its objects
+-- the file is laid out so on some scale, and numbers of 32 bits are enough for its objects
 pub record HasLayout (file : TypedFileTree) (order : List ℕ) (laid : LaidTree) : Type 0 where
   pub layable : IsLayable file order
-  pub is : laid_out file ≡ Ok laid
+  pub scale : Scale
+  pub is : laid_out scale file ≡ Ok laid
   pub few : length laid.objects ≤ 2 ^ 32
 
 -- the bodies of a typed file are regular

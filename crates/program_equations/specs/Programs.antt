@@ -135,4 +135,4 @@ pub record IsProgram (p : ProgramBodies) : Type 0 where
       → (let a = abstract_at p.laid (cell_at p.laid cell).abstract_cell in
       IsOfType p.laid a.scalar (initial_at p.laid cell))
   pub few_cells : length p.laid.cells ≤ 65536
-  pub few : length p.laid.abstract_cells ≤ 4096
+  pub few : length p.laid.abstract_cells ≤ 65536

@@ -18,7 +18,7 @@ are_graphs laid graphs file are k d lt =
     let g = are.each k d lt in
     configurable laid file k (get_or graphs k d) g.edges g.nodes
 
-pub few_cells : (laid : LaidTree) → IsLaidFile laid → length laid.abstract_cells ≤ 4096
+pub few_cells : (laid : LaidTree) → IsLaidFile laid → length laid.abstract_cells ≤ 65536
 few_cells laid file = (limits_kept file.file laid file.answered).abstract_cells
 
 few_listed : (o : Option ℕ) → length (listed o) ≤ 1

@@ -4,6 +4,7 @@ use Rattle.tm_terms.specs.declared.refusals.Fail.{Fail}
 use Rattle.tm_terms.specs.declared.refusals.Fail.TheVariants as Fails
 use Rattle.tm_terms.specs.declared.refusals.Limit.TheVariants as Limits
 use Rattle.tm_terms.specs.declared.refusals.Refusal.{Refusal}
+use Rattle.tm_laid.specs.declared.scales.Scale.{Scale}
 use Rattle.tm_laid.specs.Layouts.{LaidTree, beyond}
 use Rattle.mutex_configs.specs.flow_graph.declared.graphs.Graph.{Graph}
 use Rattle.mutex_configs.specs.declared.nodes.ConfiguredGraph.{ConfiguredGraph}
@@ -20,15 +21,16 @@ abbrev pub answer_of : Result Program Fail → Result Graphed Fail
 answer_of (Ok p) = Ok (record { graphs = p.graphs.graphs.items; configured = p.configured.items })
 answer_of (Err e) = Err e
 
--- the graphs of the bodies exceed a limit once they are configured
-pub record AreBeyond (laid : LaidTree) (r : Refusal) : Type 0 where
+-- the graphs of the bodies exceed a limit of a scale once they are configured
+pub record AreBeyond (scale : Scale) (laid : LaidTree) (r : Refusal) : Type 0 where
   pub graphs : List Graph
-  pub are : AreGraphs laid graphs
-  pub beyond : IsAnswer laid graphs (Err (Fails.Refused r))
+  pub are : AreGraphs scale laid graphs
+  pub beyond : IsAnswer scale laid graphs (Err (Fails.Refused r))
 
--- The answer to a layout: the graph of each body with its configured graph, or the limit of nodes that a graph exceeds,
+-- The answer to a layout on a scale: the graph of each body with its configured graph, or the limit of nodes that a graph exceeds,
 -- or else that of nodes or work that configured graphs exceed.
-abbrev pub IsPrepared : LaidTree → Result Graphed Fail → Type 0
-IsPrepared laid (Ok p) = AreGraphs laid p.graphs × IsAnswer laid p.graphs (Ok p.configured)
-IsPrepared laid (Err (Fails.Refused r)) = ((r ≡ beyond Limits.Nodes) × HasTooManyNodes laid) ⊎ AreBeyond laid r
-IsPrepared laid (Err Fails.NoMemory) = Unit {0}
+abbrev pub IsPrepared : Scale → LaidTree → Result Graphed Fail → Type 0
+IsPrepared scale laid (Ok p) = AreGraphs scale laid p.graphs × IsAnswer scale laid p.graphs (Ok p.configured)
+IsPrepared scale laid (Err (Fails.Refused r)) =
+    ((r ≡ beyond Limits.Nodes) × HasTooManyNodes scale laid) ⊎ AreBeyond scale laid r
+IsPrepared scale laid (Err Fails.NoMemory) = Unit {0}

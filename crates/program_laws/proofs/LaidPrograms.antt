@@ -89,5 +89,5 @@ module _ (laid : LaidTree) (is : IsLaidFile laid) (graphs : List Graph) (configu
         priorities = ap length priorities ∙ more ∙ ap suc (sym tasks_are);
         initial = subst HoldsAtFirst (sym of.laid) (held_read laid is);
         few_cells = subst (λ (l : LaidTree). length l.cells ≤ 65536) (sym of.laid) limits.cells;
-        few = subst (λ (l : LaidTree). length l.abstract_cells ≤ 4096) (sym of.laid) limits.abstract_cells;
+        few = subst (λ (l : LaidTree). length l.abstract_cells ≤ 65536) (sym of.laid) limits.abstract_cells;
       }

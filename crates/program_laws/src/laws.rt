@@ -2,6 +2,7 @@
 ghost use Rattle.std.specs.Prelude.{ℕ, ℤ, List, Ok};
 ghost use Rattle.layout_laws.specs.tm_typed.TypedFiles.{typed_file_tree};
 ghost use Rattle.layout_laws.specs.tm_laid.declared.layouts.Laid.{Laid};
+ghost use Rattle.layout_laws.specs.tm_laid.declared.scales.Scale.{Scale};
 ghost use Rattle.layout_laws.specs.tm_laid.Layouts.{LaidTree, laid_tree};
 ghost use Rattle.layout_laws.specs.tm_laid.Layable.{IsLayable};
 ghost use Rattle.operation_laws.specs.call_graph.Orders.{IsWholeOrder};
@@ -28,7 +29,7 @@ pub fn thresholds_have_ends()
 /// edge leads; cells of static storage hold values of their types at first; and no limit is exceeded.
 pub fn prepared_programs_are_programs()
     ensures { (laid : LaidTree) → IsLaidFile laid → (graphs : List Graph) (configured : List ConfiguredGraph)
-        → AreGraphs laid graphs → IsAnswer laid graphs (Ok configured) → (numbers : Numbers) (marks : List ℤ)
+        → (scale : Scale) → AreGraphs scale laid graphs → IsAnswer scale laid graphs (Ok configured) → (numbers : Numbers) (marks : List ℤ)
         → AreThresholds numbers marks → (p : ProgramBodies) → IsProgramOf laid graphs configured marks p
         → IsProgram p }
 {}
@@ -46,7 +47,7 @@ pub fn files_are_layable()
 pub fn prepared_programs_are_analysable()
     ensures { (program : Program) → IsLaidFile (laid_tree program.laid)
         → IsWholeOrder (typed_file_tree program.laid.file).calls program.laid.file.order.items
-        → AreGraphs (laid_tree program.laid) program.graphs.graphs.items
-        → IsAnswer (laid_tree program.laid) program.graphs.graphs.items (Ok program.configured.items)
+        → (scale : Scale) → AreGraphs scale (laid_tree program.laid) program.graphs.graphs.items
+        → IsAnswer scale (laid_tree program.laid) program.graphs.graphs.items (Ok program.configured.items)
         → (numbers : Numbers) → AreThresholds numbers program.marks → IsAnalysable program }
 {}

@@ -37,7 +37,7 @@ fn listed(
     covered: &[bool],
 ) -> Result<Vec<u32>, NoMemory>
     requires objects { length laid.now.objects.items < 2 ^ 63 }
-    requires few { length laid.now.abstract_cells.items ≤ 4096 }
+    requires few { length laid.now.abstract_cells.items ≤ 65536 }
     requires slots { AreSlots (laid_tree laid.now) (length laid.now.objects.items) (length marks.now) }
     requires covered { length covered.now ≡ length laid.now.abstract_cells.items }
     ensures { IfOk result (λ v. AreListed (laid_tree laid.now) marks.now covered.now
@@ -62,7 +62,7 @@ fn written_in(
     head: Head,
 ) -> Result<Vec<u32>, NoMemory>
     requires objects { length laid.now.objects.items < 2 ^ 63 }
-    requires few { length laid.now.abstract_cells.items ≤ 4096 }
+    requires few { length laid.now.abstract_cells.items ≤ 65536 }
     requires range { AreInRange graph.now.edges.items graph.now.nodes }
     requires slots { AreSlots (laid_tree laid.now) (length laid.now.objects.items) slots }
     requires leaving { AreLeaving graph.now.edges.items graph.now.nodes (numbers leaving.now) }
@@ -90,7 +90,7 @@ pub fn written_cells(
     graph: &Graph,
     heads: &[Head],
 ) -> Result<Vec<Vec<u32>>, NoMemory>
-    requires few { length laid.now.abstract_cells.items ≤ 4096 }
+    requires few { length laid.now.abstract_cells.items ≤ 65536 }
     requires range { AreInRange graph.now.edges.items graph.now.nodes }
     requires heads { AreHeads graph.now.edges.items heads.now }
     ensures { IfOk result (λ v. AreAllWritten (laid_tree laid.now) graph.now.edges.items heads.now

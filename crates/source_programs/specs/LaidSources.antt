@@ -13,6 +13,8 @@ use Rattle.tm_terms.specs.Spelling.{text_of, Lexes}
 use Rattle.tm_trees.specs.FileTrees.{ItemTree}
 use Rattle.tm_trees.specs.Parsing.{Parses}
 use Rattle.tm_laid.specs.tm_typed.Files.{TypedFileTree, IsTyped}
+use Rattle.tm_laid.specs.declared.scales.Scale.{Scale}
+use Rattle.tm_laid.specs.declared.scales.Scale.TheVariants as Scales
 use Rattle.tm_laid.specs.Layouts.{LaidTree, laid_out}
 
 -- ## From bytes to a file
@@ -42,11 +44,15 @@ pub record TypesAs (main : Option Name) (tokens : List Token) (answer : Result T
 
 -- ## Sources that are laid out
 
--- these bytes are a source of a typed file, which has this layout
-pub record IsLaidSource (bytes : List ℕ) (laid : LaidTree) : Type 0 where
+-- these bytes are a source of a typed file, which has this layout on a scale
+pub record IsLaidSourceOn (scale : Scale) (bytes : List ℕ) (laid : LaidTree) : Type 0 where
   pub short : length bytes ≤ longest_source
   pub tokens : List Token
   pub lexed : Lexes bytes (Ok tokens)
   pub file : TypedFileTree
   pub typed : TypesAs (main_in bytes tokens) tokens (Ok file)
-  pub answered : laid_out file ≡ Ok laid
+  pub answered : laid_out scale file ≡ Ok laid
+
+-- it has this layout within the limits of the commands
+abbrev pub IsLaidSource : List ℕ → LaidTree → Type 0
+IsLaidSource = IsLaidSourceOn Scales.Usual

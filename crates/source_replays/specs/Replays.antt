@@ -3,6 +3,7 @@ use Rattle.std.specs.Prelude.{◌≡◌, ◌⊎◌, ℕ, ◌<◌, ◌≤◌, Lis
 use Rattle.tm_terms.specs.declared.places.Place.{Place}
 use Rattle.tm_terms.specs.declared.refusals.Refusal.{Refusal}
 use Rattle.tm_terms.specs.Texts.{line_of, refusal_text}
+use Rattle.tm_laid.specs.declared.scales.Scale.TheVariants as Scales
 use Rattle.tm_laid.specs.Layouts.{LaidTree}
 use Rattle.concrete_steps.specs.declared.worlds.Choice.{Choice}
 use Rattle.source_programs.specs.program_graphs.Prepared.{Graphed, IsPrepared}
@@ -24,7 +25,7 @@ pub record IsReplayable (bytes : List ℕ) (laid : LaidTree) : Type 0 where
   pub short : length bytes ≤ longest_source
   pub source : IsLaidSource (source_of bytes) laid
   pub graphed : Graphed
-  pub prepared : IsPrepared laid (Ok graphed)
+  pub prepared : IsPrepared Scales.Usual laid (Ok graphed)
 
 -- why the bytes are refused: they are too many, or their source is refused
 pub data IsRefusedReplay (bytes : List ℕ) : Refusal → Type 0 where

@@ -7,7 +7,6 @@ use Rattle.tm_typed.specs.tm_terms.declared.refusals.Kind.TheVariants as Kinds
 use Rattle.tm_typed.specs.tm_terms.declared.refusals.Limit.{Limit}
 use Rattle.tm_typed.specs.tm_terms.declared.refusals.Limit.TheVariants as Limits
 use Rattle.tm_typed.specs.tm_terms.declared.refusals.Refusal.{Refusal}
-use Rattle.tm_typed.specs.tm_terms.Limits.{limit_number}
 use Rattle.tm_typed.specs.declared.types.Scalar.{Scalar}
 use Rattle.tm_typed.specs.declared.types.Scalar.TheVariants as Scalars
 use Rattle.tm_typed.specs.declared.scopes.ObjectNumber.{ObjectNumber}
@@ -22,12 +21,14 @@ use Rattle.tm_laid.specs.declared.objects.Initial.{Initial}
 use Rattle.tm_laid.specs.declared.cells.LaidCell.{LaidCell}
 use Rattle.tm_laid.specs.declared.cells.AbstractCell.{AbstractCell}
 use Rattle.tm_laid.specs.declared.layouts.Laid.{Laid}
+use Rattle.tm_laid.specs.declared.scales.Scale.{Scale}
 use Rattle.tm_laid.specs.CallTrees.{weights, one}
 use Rattle.tm_laid.specs.Paths.{bodies_of, body_trees, locals_of, paths_of, first_paths_of, callees_of}
 use Rattle.tm_laid.specs.Paths.{first_objects_of}
 use Rattle.tm_laid.specs.TypeCells.{type_cells, type_depth, cells_of_type, abstract_cells_of_type}
 use Rattle.tm_laid.specs.Objects.{local_objects, static_objects, path_objects, static_numbers, objects_from, cells_from}
 use Rattle.tm_laid.specs.Objects.{abstracts_from, initial_values}
+use Rattle.tm_laid.specs.Scales.{number_on}
 
 -- ## The layout
 
@@ -219,8 +220,8 @@ laid_count file _ = 0
 abbrev pub laid_limits : List Limit
 laid_limits = Limits.Tasks ∷ Limits.Mutexes ∷ Limits.Paths ∷ Limits.Cells ∷ Limits.Abstract ∷ []
 
-abbrev pub is_exceeded : TypedFileTree → Limit → Bool
-is_exceeded file l = nat_lt (limit_number l) (laid_count file l)
+abbrev pub is_exceeded : Scale → TypedFileTree → Limit → Bool
+is_exceeded scale file l = nat_lt (number_on scale l) (laid_count file l)
 
 abbrev pub beyond : Limit → Refusal
 beyond l = record { kind = Kinds.Limit; place = record { line = 0; col = 0 }; limit = Some l }
@@ -229,9 +230,9 @@ abbrev pub unless_beyond : TypedFileTree → Option Limit → Result LaidTree Re
 unless_beyond file None = Ok (layout_of file)
 unless_beyond file (Some l) = Err (beyond l)
 
--- The answer to a file: its layout, or the first limit that is exceeded.
-abbrev pub laid_out : TypedFileTree → Result LaidTree Refusal
-laid_out file = unless_beyond file (find (is_exceeded file) laid_limits)
+-- The answer to a file on a scale: its layout, or the first limit that is exceeded.
+abbrev pub laid_out : Scale → TypedFileTree → Result LaidTree Refusal
+laid_out scale file = unless_beyond file (find (is_exceeded scale file) laid_limits)
 
 -- what the code answers, as plain data: nothing where memory is wanting
 abbrev pub answer_of : Result Laid Fail → Option (Result LaidTree Refusal)

@@ -10,10 +10,12 @@ mod layouts;
 mod lives;
 mod objects;
 mod paths;
+mod scales;
 
 pub use cells::{AbstractCell, LaidCell};
 pub use layouts::Laid;
 pub use lives::is_alive;
 pub use objects::{DeclaredObject, Initial, LaidObject};
 pub use paths::{CallPath, Caller};
+pub use scales::Scale;
 pub use tm_typed::{Place, Scalar, Unary};

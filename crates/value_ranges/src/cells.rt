@@ -97,7 +97,7 @@ pub(crate) fn integer_cells(
     laid: &Laid,
     grouping: Grouping,
 ) -> Result<Vec<IntegerCell>, NoMemory>
-    requires { length laid.now.abstract_cells.items ≤ 4096 }
+    requires { length laid.now.abstract_cells.items ≤ 65536 }
     ensures { IfOk result (λ cells. AreIntegerCells grouping (laid_tree laid.now) cells.items) }
 {
     let mut cells = Vec::new(alloc);

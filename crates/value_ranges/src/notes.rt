@@ -117,7 +117,7 @@ pub(crate) fn noted_in(
     tables: &[Table],
     store: &Store,
 ) -> Result<Vec<Option<ObjectBounds>>, NoMemory>
-    requires { length laid.now.abstract_cells.items ≤ 4096 }
+    requires { length laid.now.abstract_cells.items ≤ 65536 }
     ensures { IfOk result (λ noted. AreNotedIn grouping (laid_tree laid.now) (lists_of tables.now) store.now.weak
         noted.items) }
 {

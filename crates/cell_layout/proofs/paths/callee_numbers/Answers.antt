@@ -10,14 +10,14 @@ use Rattle.cell_layout.specs.reading.Waits.{size_of}
 use Rattle.cell_layout.proofs.PathSteps.{AreNumbers, numbers_more, exact, size_opens}
 use Rattle.cell_layout.proofs.paths.callee_numbers.Goals as goal
 
-step : (file : TypedFileTree) (order totals items : List ℕ) (f first i number total : ℕ) (numbers new : List ℕ) → IsLayable file order → AreTotals file Limits.Paths totals → size_of file f ≤ 4096
+step : (file : TypedFileTree) (order totals items : List ℕ) (f first i number total : ℕ) (numbers new : List ℕ) → IsLayable file order → AreTotals file Limits.Paths totals → size_of file f ≤ 65536
     → items ≡ calls_in file.calls f → i < length items → total ≡ get_or totals (get_or items i 0) 0 → AreNumbers file (calls_in file.calls f) first i numbers number
     → (total ≡ size_of file (get_or (calls_in file.calls f) i 0)) × (i < length (calls_in file.calls f))
 step file order totals items f first i number total numbers new h t small e lt is before =
     let here : i < length (calls_in file.calls f) = (let a = ap length e in omega (arith, a, lt)) in
     (exact file order totals f i total h t small here (is ∙ ap (λ (xs : List ℕ). get_or totals (get_or xs i 0) 0) e), here)
 
-bounded : (file : TypedFileTree) (order : List ℕ) (f first i number total : ℕ) (numbers : List ℕ) → IsLayable file order → size_of file f ≤ 4096 → first ≤ 4096 → i < length (calls_in file.calls f)
+bounded : (file : TypedFileTree) (order : List ℕ) (f first i number total : ℕ) (numbers : List ℕ) → IsLayable file order → size_of file f ≤ 65536 → first ≤ 65536 → i < length (calls_in file.calls f)
     → total ≡ size_of file (get_or (calls_in file.calls f) i 0) → AreNumbers file (calls_in file.calls f) first i numbers number → number + total ≤ 8192
 bounded file order f first i number total numbers h small le lt e before =
     let a = ap (sum_of (size_of file)) (drop_more (calls_in file.calls f) i 0 lt) in

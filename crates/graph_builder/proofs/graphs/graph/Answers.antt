@@ -8,6 +8,6 @@ pub returns : goal.returns
 returns c =
     let fragment = c.in_ok-fragment.fragment in
     let graph : Graph = record { body = c.args.body; nodes = fragment.nodes; edges = c.in_ok-edges.edges } in
-    let few : fragment.nodes ≤ 20000 = omega (arith, c.if-nodes-number.false, c.number.ensures) in
+    let few : fragment.nodes ≤ 200000 = omega (arith, c.if-nodes-number.false, c.number.ensures) in
     whole (tree_in c.args.paths.now.laid.now) c.args.body fragment graph c.in_ok-fragment.ensures refl refl
     c.in_ok-edges.ensures few

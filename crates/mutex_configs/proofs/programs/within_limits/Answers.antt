@@ -7,7 +7,7 @@ use Rattle.mutex_configs.proofs.programs.within_limits.Goals as goal
 pub is_within_work-requires-clause-nodes : goal.is_within_work-requires-clause-nodes
 is_within_work-requires-clause-nodes c =
     let s = subst (λ o. AreAll c.args.graphs.now (option_map (λ v. v.items) o)) c.in-Some.is c.in_ok-configured.ensures in
-    subst (λ (cs : List ConfiguredGraph). All (λ (g : ConfiguredGraph). length g.nodes.keys ≤ 20000) cs) (sym c.deref.ensures.value)
+    subst (λ (cs : List ConfiguredGraph). All (λ (g : ConfiguredGraph). length g.nodes.keys ≤ 200000) cs) (sym c.deref.ensures.value)
     (all_small c.args.graphs.now c.in-Some.configured.items s)
 
 pub is_within_work-requires-clause-bodies : goal.is_within_work-requires-clause-bodies

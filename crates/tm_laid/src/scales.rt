@@ -1,0 +1,36 @@
+//! The limits of programs on two scales.
+ghost use Rattle.std.specs.Prelude.{◌≡◌};
+ghost use Rattle.tm_laid.specs.Scales.{number_on};
+
+use tm_terms::Limit;
+
+/// The scale of a program: how large it may be.
+#[derive(Clone, Copy, PartialEq, Eq)]
+pub enum Scale {
+    /// The limits that the commands have.
+    Usual,
+    /// More call paths, abstract cells, nodes and work; bytes, tokens, tasks, mutexes and cells as usual.
+    Large,
+}
+
+impl Scale {
+    /// The greatest count that a limit allows on this scale.
+    pub fn number(self, limit: Limit) -> u32
+        ensures { result ≡ number_on self limit }
+    {
+        match self {
+            Scale::Usual => limit.number(),
+            Scale::Large => match limit {
+                Limit::Paths => 65_536,
+                Limit::Abstract => 65_536,
+                Limit::Nodes => 200_000,
+                Limit::Work => 1_000_000_000,
+                Limit::Source
+                | Limit::Tokens
+                | Limit::Tasks
+                | Limit::Mutexes
+                | Limit::Cells => limit.number(),
+            },
+        }
+    }
+}
