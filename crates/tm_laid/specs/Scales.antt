@@ -11,7 +11,7 @@ abbrev pub large_number : Limit → ℕ
 large_number Limits.Paths = 65536
 large_number Limits.Abstract = 65536
 large_number Limits.Nodes = 200000
-large_number Limits.Work = 1000000000
+large_number Limits.Work = 4000000000
 large_number limit = limit_number limit
 
 -- the greatest count that a limit allows on a scale

@@ -24,7 +24,7 @@ impl Scale {
                 Limit::Paths => 65_536,
                 Limit::Abstract => 65_536,
                 Limit::Nodes => 200_000,
-                Limit::Work => 1_000_000_000,
+                Limit::Work => 4_000_000_000,
                 Limit::Source
                 | Limit::Tokens
                 | Limit::Tasks
