@@ -25,11 +25,8 @@ impl Scale {
                 Limit::Abstract => 65_536,
                 Limit::Nodes => 200_000,
                 Limit::Work => 4_000_000_000,
-                Limit::Source
-                | Limit::Tokens
-                | Limit::Tasks
-                | Limit::Mutexes
-                | Limit::Cells => limit.number(),
+                Limit::Source | Limit::Tokens | Limit::Tasks | Limit::Mutexes | Limit::Cells =>
+                    limit.number(),
             },
         }
     }
