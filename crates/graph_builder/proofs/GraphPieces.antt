@@ -5,7 +5,8 @@ use Rattle.std.specs.Prelude.{nat_lt, if◌then◌else◌, Some, ◌≤◌}
 use Rattle.std.proofs.lemmas.List.{get_or_append_left, length-append}
 use Rattle.std.proofs.Math.Seq.{get_or-append_seam}
 use Rattle.tm_terms.specs.declared.refusals.Limit.TheVariants as Limits
-use Rattle.tm_terms.specs.Limits.{limit_number}
+use Rattle.tm_laid.specs.declared.scales.Scale.{Scale}
+use Rattle.tm_laid.specs.Scales.{number_on}
 use Rattle.tm_laid.specs.Layouts.{LaidTree, first_path}
 use Rattle.flow_graph.specs.declared.graphs.Graph.{Graph}
 use Rattle.body_builder.specs.lowering.Built.{Building, path_piece, function_end, task_end, entry, built, graph_of}
@@ -50,22 +51,22 @@ pub counted : (laid : LaidTree) (body : ℕ) (f : Fragment) (along : List ℕ) �
 counted laid body f along e h = h ∙ ap length (edges_in laid f (built laid body) e)
 
 -- the graph of a body is that of its fragment
-pub whole : (laid : LaidTree) (body : ℕ) (f : Fragment) (g : Graph) → so_far laid f ≡ built laid body → g.body ≡ body
-    → g.nodes ≡ f.nodes → g.edges.items ≡ edges_of laid f.items.items → f.nodes ≤ limit_number Limits.Nodes
-    → IsOne laid body (Some g)
-whole laid body f g e b n es few =
+pub whole : (scale : Scale) (laid : LaidTree) (body : ℕ) (f : Fragment) (g : Graph) → so_far laid f ≡ built laid body
+    → g.body ≡ body → g.nodes ≡ f.nodes → g.edges.items ≡ edges_of laid f.items.items → f.nodes ≤ number_on scale Limits.Nodes
+    → IsOne scale laid body (Some g)
+whole scale laid body f g e b n es few =
     let is : IsGraphOf laid body g = record {
       number = b;
       nodes = n ∙ nodes_of laid f (built laid body) e;
       edges = es ∙ edges_in laid f (built laid body) e;
     } in
-    let within : (built laid body).nodes ≤ limit_number Limits.Nodes =
-    subst (λ k. k ≤ limit_number Limits.Nodes) (nodes_of laid f (built laid body) e) few in
+    let within : (built laid body).nodes ≤ number_on scale Limits.Nodes =
+    subst (λ k. k ≤ number_on scale Limits.Nodes) (nodes_of laid f (built laid body) e) few in
     (is, within)
 
-pub over : (laid : LaidTree) (body : ℕ) (f : Fragment) → so_far laid f ≡ built laid body
-    → limit_number Limits.Nodes < f.nodes → limit_number Limits.Nodes < (built laid body).nodes
-over laid body f e more = subst (λ k. limit_number Limits.Nodes < k) (nodes_of laid f (built laid body) e) more
+pub over : (scale : Scale) (laid : LaidTree) (body : ℕ) (f : Fragment) → so_far laid f ≡ built laid body
+    → number_on scale Limits.Nodes < f.nodes → number_on scale Limits.Nodes < (built laid body).nodes
+over scale laid body f e more = subst (λ k. number_on scale Limits.Nodes < k) (nodes_of laid f (built laid body) e) more
 
 -- one more graph
 each_more : (laid : LaidTree) (gs : List Graph) (g : Graph) → (body : ℕ) → IsGraphOf laid (length gs) g
@@ -78,32 +79,32 @@ each_more laid gs g body one each lt =
     (λ other. subst (IsGraphOf laid (length gs)) (sym (get_or-append_seam gs g [] other)) one)
     body lt
 
-few_more : (laid : LaidTree) (count body : ℕ) → (built laid count).nodes ≤ limit_number Limits.Nodes
-    → ((k : ℕ) → k < count → (built laid k).nodes ≤ limit_number Limits.Nodes)
-    → body < count + 1 → (built laid body).nodes ≤ limit_number Limits.Nodes
-few_more laid count body one each lt =
-    let P : ℕ → Type 0 = λ k. (built laid k).nodes ≤ limit_number Limits.Nodes in
+few_more : (scale : Scale) (laid : LaidTree) (count body : ℕ) → (built laid count).nodes ≤ number_on scale Limits.Nodes
+    → ((k : ℕ) → k < count → (built laid k).nodes ≤ number_on scale Limits.Nodes)
+    → body < count + 1 → (built laid body).nodes ≤ number_on scale Limits.Nodes
+few_more scale laid count body one each lt =
+    let P : ℕ → Type 0 = λ k. (built laid k).nodes ≤ number_on scale Limits.Nodes in
     below_more P count each one body lt
 
-pub one_more : (laid : LaidTree) (count : ℕ) (gs hs : List Graph) (g : Graph) → AreFirst laid count gs
-    → IsOne laid count (Some g) → hs ≡ gs ++ g ∷ [] → AreFirst laid (count + 1) hs
-one_more laid count gs hs g h one e =
+pub one_more : (scale : Scale) (laid : LaidTree) (count : ℕ) (gs hs : List Graph) (g : Graph)
+    → AreFirst scale laid count gs → IsOne scale laid count (Some g) → hs ≡ gs ++ g ∷ [] → AreFirst scale laid (count + 1) hs
+one_more scale laid count gs hs g h one e =
     let l : length hs ≡ length gs + 1 = ap length e ∙ length-append gs (g ∷ []) in
     let here : IsGraphOf laid (length gs) g = subst (λ k. IsGraphOf laid k g) (sym h.are) one.0 in
-    let few : (built laid (length gs)).nodes ≤ limit_number Limits.Nodes =
-    subst (λ k. (built laid k).nodes ≤ limit_number Limits.Nodes) (sym h.are) one.1 in
+    let few : (built laid (length gs)).nodes ≤ number_on scale Limits.Nodes =
+    subst (λ k. (built laid k).nodes ≤ number_on scale Limits.Nodes) (sym h.are) one.1 in
     record {
       are = l ∙ ap (λ k. k + 1) h.are;
       each = λ body other lt. subst (λ (ys : List Graph). IsGraphOf laid body (get_or ys body other)) (sym e)
           (each_more laid gs g body here (λ k below d. h.each k d below) (subst (λ n. body < n) l lt) other);
-      few = λ body lt. few_more laid (length gs) body few h.few (subst (λ n. body < n) l lt);
+      few = λ body lt. few_more scale laid (length gs) body few h.few (subst (λ n. body < n) l lt);
     }
 
 -- all of them
-pub all_graphs : (laid : LaidTree) (count : ℕ) (gs : List Graph) → AreFirst laid count gs
-    → count ≡ length laid.bodies → AreGraphs laid gs
-all_graphs laid count gs h e = record { count = h.are ∙ e; each = h.each; few = h.few }
+pub all_graphs : (scale : Scale) (laid : LaidTree) (count : ℕ) (gs : List Graph) → AreFirst scale laid count gs
+    → count ≡ length laid.bodies → AreGraphs scale laid gs
+all_graphs scale laid count gs h e = record { count = h.are ∙ e; each = h.each; few = h.few }
 
-pub too_many : (laid : LaidTree) (body : ℕ) → body < length laid.bodies
-    → limit_number Limits.Nodes < (built laid body).nodes → HasTooManyNodes laid
-too_many laid body within more = record { body = body; within = within; more = more }
+pub too_many : (scale : Scale) (laid : LaidTree) (body : ℕ) → body < length laid.bodies
+    → number_on scale Limits.Nodes < (built laid body).nodes → HasTooManyNodes scale laid
+too_many scale laid body within more = record { body = body; within = within; more = more }

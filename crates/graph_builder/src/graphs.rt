@@ -16,7 +16,7 @@ use crate::sizes::path_sizes;
 use body_builder::Fragment;
 use flow_graph::{Graph, Graphs};
 use std::alloc::Global;
-use tm_laid::Laid;
+use tm_laid::{Laid, Scale};
 use tm_lattice::NoMemory;
 use tm_terms::{Fail, Kind, Limit, Place, Refusal};
 
@@ -96,12 +96,12 @@ pub(crate) fn fragment(paths: &Paths<'_>, body: u32) -> Result<Fragment, NoMemor
 
 // The graph of a body; none where it has too many nodes.
 #[tactic(auto, using(crate::proofs::GraphPieces::whole, crate::proofs::GraphPieces::over))]
-fn graph(paths: &Paths<'_>, body: u32) -> Result<Option<Graph>, NoMemory>
-    ensures { IfOk result (λ found. IsOne (tree_in paths.now.laid.now) body found) }
+fn graph(paths: &Paths<'_>, scale: Scale, body: u32) -> Result<Option<Graph>, NoMemory>
+    ensures { IfOk result (λ found. IsOne scale (tree_in paths.now.laid.now) body found) }
 {
     let fragment = fragment(paths, body)?;
     let nodes = fragment.nodes;
-    if nodes > Limit::Nodes.number() {
+    if nodes > scale.number(Limit::Nodes) {
         return Ok(None);
     }
     let edges = paths.expand(fragment.items)?;
@@ -110,13 +110,13 @@ fn graph(paths: &Paths<'_>, body: u32) -> Result<Option<Graph>, NoMemory>
 
 // The graphs of the bodies; none where one has too many nodes.
 #[tactic(auto, using(crate::proofs::GraphPieces::one_more))]
-fn graphs(paths: &Paths<'_>) -> Result<Option<Vec<Graph>>, NoMemory>
-    ensures { IfOk result (λ found. AreAll (tree_in paths.now.laid.now) (option_map (λ v. v.items) found)) }
+fn graphs(paths: &Paths<'_>, scale: Scale) -> Result<Option<Vec<Graph>>, NoMemory>
+    ensures { IfOk result (λ found. AreAll scale (tree_in paths.now.laid.now) (option_map (λ v. v.items) found)) }
 {
     let count = body_count(paths.laid)?;
     let mut graphs = Vec::new(paths.alloc);
     for body in 0..count {
-        let Some(one) = graph(paths, body)? else {
+        let Some(one) = graph(paths, scale, body)? else {
             return Ok(None);
         };
         graphs.push(one)?;
@@ -125,8 +125,8 @@ fn graphs(paths: &Paths<'_>) -> Result<Option<Vec<Graph>>, NoMemory>
 }
 
 // The same, with the sizes of all paths.
-fn found(alloc: Global, laid: &Laid) -> Result<Option<Vec<Graph>>, NoMemory>
-    ensures { IfOk result (λ found. AreAll (tree_in laid.now) (option_map (λ v. v.items) found)) }
+fn found(alloc: Global, scale: Scale, laid: &Laid) -> Result<Option<Vec<Graph>>, NoMemory>
+    ensures { IfOk result (λ found. AreAll scale (tree_in laid.now) (option_map (λ v. v.items) found)) }
 {
     let sizes = path_sizes(alloc, laid, deepest(laid)?)?;
     let paths = Paths {
@@ -134,16 +134,17 @@ fn found(alloc: Global, laid: &Laid) -> Result<Option<Vec<Graph>>, NoMemory>
         laid,
         sizes: &sizes,
     };
-    graphs(&paths)
+    graphs(&paths, scale)
 }
 
 /// The graph of each body of a program, in the order of the bodies. Refused: Limit nodes where the graph of some body
-/// has more than 20,000 nodes. A path that no graph goes along, as that of the call in `0 && f()`, counts for nothing.
+/// has more nodes than the scale allows. A path that no graph goes along, as that of the call in `0 && f()`, counts for
+/// nothing.
 #[tactic(auto, unfolding(body_builder::specs::Fragments::tree_in))]
-pub fn lower(alloc: Global, laid: &Laid) -> Result<Graphs, Fail>
-    ensures { IsLowered (laid_tree laid.now) (result_map_both (λ g. g.graphs.items) (λ e. e) result) }
+pub fn lower(alloc: Global, scale: Scale, laid: &Laid) -> Result<Graphs, Fail>
+    ensures { IsLowered scale (laid_tree laid.now) (result_map_both (λ g. g.graphs.items) (λ e. e) result) }
 {
-    match found(alloc, laid) {
+    match found(alloc, scale, laid) {
         Ok(Some(graphs)) => Ok(Graphs { graphs }),
         Ok(None) => Err(refused(Limit::Nodes)),
         Err(_) => Err(Fail::NoMemory),

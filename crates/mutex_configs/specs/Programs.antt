@@ -39,8 +39,8 @@ abbrev pub AreConfigured : Scale → List Graph → List ConfiguredGraph → Typ
 AreConfigured scale [] [] = Unit {0}
 AreConfigured scale [] (c ∷ cs) = ⊥
 AreConfigured scale (g ∷ gs) [] = ⊥
-AreConfigured scale (g ∷ gs) (c ∷ cs) = IsConfigured g.edges.items c × (length c.nodes.keys ≤ number_on scale Limits.Nodes)
-    × AreConfigured scale gs cs
+AreConfigured scale (g ∷ gs) (c ∷ cs) =
+    IsConfigured g.edges.items c × (length c.nodes.keys ≤ number_on scale Limits.Nodes) × AreConfigured scale gs cs
 
 abbrev pub HasTooManyNodes : Scale → List Graph → Type 0
 HasTooManyNodes scale gs = Any (λ (g : Graph). HasMoreNodes g.edges.items (number_on scale Limits.Nodes)) gs

@@ -4,6 +4,7 @@ ghost use Rattle.std.specs.Result.{result_map_both};
 ghost use Rattle.tm_terms.specs.declared.refusals.Fail.TheVariants as Fails;
 ghost use Rattle.tm_terms.specs.declared.refusals.Limit.TheVariants as Limits;
 ghost use Rattle.tm_laid.specs.Layouts.{laid_tree, beyond};
+ghost use Rattle.tm_laid.specs.Scales.{number_on};
 ghost use Rattle.flow_graph.specs.declared.graphs.Graph.{Graph as AGraph};
 ghost use Rattle.mutex_configs.specs.Graphs.{IsGraph};
 ghost use Rattle.mutex_configs.specs.Programs.{is_owned_by, is_seen, seen_cells, work_from, AreConfigured, IsAnswer};
@@ -16,7 +17,7 @@ use crate::reached::reached;
 use flow_graph::{Graph, Graphs};
 use std::alloc::Global;
 use strided_dom::Marks;
-use tm_laid::{AbstractCell, Laid};
+use tm_laid::{AbstractCell, Laid, Scale};
 use tm_lattice::NoMemory;
 use tm_terms::{Fail, Kind, Limit, Place, Refusal};
 
@@ -53,11 +54,15 @@ fn refused(limit: Limit) -> Fail
 }
 
 // The configured graph of a graph; none where it has too many nodes.
-fn configured_graph(alloc: Global, graph: &Graph) -> Result<Option<ConfiguredGraph>, NoMemory>
+fn configured_graph(
+    alloc: Global,
+    scale: Scale,
+    graph: &Graph,
+) -> Result<Option<ConfiguredGraph>, NoMemory>
     requires { IsGraph graph.now }
-    ensures { IfOk result (λ found. IsOne graph.now found) }
+    ensures { IfOk result (λ found. IsOne scale graph.now found) }
 {
-    let Some(nodes) = reached(alloc, graph, Limit::Nodes.number() as usize)? else {
+    let Some(nodes) = reached(alloc, graph, scale.number(Limit::Nodes) as usize)? else {
         return Ok(None);
     };
     let copies = copies(alloc, graph, &nodes)?;
@@ -67,14 +72,15 @@ fn configured_graph(alloc: Global, graph: &Graph) -> Result<Option<ConfiguredGra
 // The configured graphs of graphs; none where one has too many nodes.
 fn configured_graphs(
     alloc: Global,
+    scale: Scale,
     graphs: &[Graph],
 ) -> Result<Option<Vec<ConfiguredGraph>>, NoMemory>
     requires { All IsGraph graphs.now }
-    ensures { IfOk result (λ found. AreAll graphs.now (option_map (λ v. v.items) found)) }
+    ensures { IfOk result (λ found. AreAll scale graphs.now (option_map (λ v. v.items) found)) }
 {
     let mut configured = Vec::new(alloc);
     for graph in graphs {
-        let Some(one) = configured_graph(alloc, graph)? else {
+        let Some(one) = configured_graph(alloc, scale, graph)? else {
             return Ok(None);
         };
         configured.push(one)?;
@@ -121,17 +127,18 @@ fn cells_seen(laid: &Laid, body: u32) -> u32
 }
 
 // Whether the work of the configured graphs is within the limit.
-fn is_within_work(laid: &Laid, configured: &[ConfiguredGraph]) -> bool
+fn is_within_work(scale: Scale, laid: &Laid, configured: &[ConfiguredGraph]) -> bool
     requires cells { length laid.now.abstract_cells.items ≤ 65536 }
     requires nodes { All (λ (c : AConfigured). length c.nodes.keys ≤ 200000) configured.now }
     requires bodies { length configured.now < 2 ^ 32 }
-    ensures { IsTrue result ↔ (work_from (laid_tree laid.now) 0 configured.now ≤ 8000000) }
+    ensures { IsTrue result ↔ (work_from (laid_tree laid.now) 0 configured.now ≤ number_on scale Limits.Work) }
 {
-    let mut work = 0u32;
+    let most = u64::from(scale.number(Limit::Work));
+    let mut work = 0u64;
     for body in 0..configured.len() {
-        let nodes = configured[body].nodes.len() as u32;
-        work += nodes * cells_seen(laid, body as u32);
-        if work > Limit::Work.number() {
+        let nodes = configured[body].nodes.len() as u64;
+        work += nodes * u64::from(cells_seen(laid, body as u32));
+        if work > most {
             return false;
         }
     }
@@ -139,37 +146,48 @@ fn is_within_work(laid: &Laid, configured: &[ConfiguredGraph]) -> bool
 }
 
 // The configured graphs of a layout's graphs, within the limits.
-fn within_limits(alloc: Global, laid: &Laid, graphs: &[Graph]) -> Result<Vec<ConfiguredGraph>, Fail>
+fn within_limits(
+    alloc: Global,
+    scale: Scale,
+    laid: &Laid,
+    graphs: &[Graph],
+) -> Result<Vec<ConfiguredGraph>, Fail>
     requires graphs { All IsGraph graphs.now }
     requires cells { length laid.now.abstract_cells.items ≤ 65536 }
     requires bodies { length graphs.now < 2 ^ 32 }
-    ensures { IsAnswer (laid_tree laid.now) graphs.now (result_map_both (λ v. v.items) (λ e. e) result) }
+    ensures { IsAnswer scale (laid_tree laid.now) graphs.now (result_map_both (λ v. v.items) (λ e. e) result) }
 {
-    let Some(configured) = configured_graphs(alloc, graphs)? else {
+    let Some(configured) = configured_graphs(alloc, scale, graphs)? else {
         return Err(refused(Limit::Nodes));
     };
-    if is_within_work(laid, &configured) {
+    if is_within_work(scale, laid, &configured) {
         Ok(configured)
     } else {
         Err(refused(Limit::Work))
     }
 }
 
-/// A program with its configured graphs. Refused: Limit nodes where more than 20,000 nodes are reached in the graph of
-/// some body; else Limit work where the nodes of each body, each times the abstract cells that are static or the body's
-/// own, are more than 8,000,000 in all.
-pub fn configured(alloc: Global, laid: Laid, graphs: Graphs, marks: Marks) -> Result<Program, Fail>
+/// A program with its configured graphs. Refused: Limit nodes where more nodes than the scale allows are reached in the
+/// graph of some body; else Limit work where the nodes of each body, each times the abstract cells that are static or
+/// the body's own, are more in all than the scale allows.
+pub fn configured(
+    alloc: Global,
+    scale: Scale,
+    laid: Laid,
+    graphs: Graphs,
+    marks: Marks,
+) -> Result<Program, Fail>
     requires graphs { All IsGraph graphs.graphs.items }
     requires cells { length laid.abstract_cells.items ≤ 65536 }
     requires bodies { length graphs.graphs.items < 2 ^ 32 }
-    ensures answer { IsAnswer (laid_tree laid) graphs.graphs.items
+    ensures answer { IsAnswer scale (laid_tree laid) graphs.graphs.items
         (result_map_both (λ p. p.configured.items) (λ e. e) result) }
     ensures laid { IfOk result (λ p. laid_tree p.laid ≡ laid_tree laid) }
     ensures order { IfOk result (λ p. p.laid.file.order.items ≡ laid.file.order.items) }
     ensures graphs { IfOk result (λ p. p.graphs ≡ graphs) }
     ensures marks { IfOk result (λ p. p.marks ≡ marks) }
 {
-    match within_limits(alloc, &laid, &graphs.graphs) {
+    match within_limits(alloc, scale, &laid, &graphs.graphs) {
         Ok(configured) => Ok(Program {
             laid,
             graphs,

@@ -6,4 +6,4 @@ use Rattle.mutex_configs.proofs.programs.is_within_work.Given as goal
 abbrev pub invariant-loop-body : goal.invariant-loop-body
 invariant-loop-body l =
     (l.work + work_from (laid_tree l.laid) l.body (drop l.body l.configured) ≡ work_from (laid_tree l.laid) 0 l.configured)
-    × (l.work ≤ 8000000)
+    × (l.work ≤ l.most)
