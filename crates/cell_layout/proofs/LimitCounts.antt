@@ -1,24 +1,26 @@
 -- Sums that stop above a limit compare with it as the whole counts do.
-use Rattle.std.proofs.Common.{◌≡◌, refl, ap, sym, ◌∙◌, ℕ, ◌+◌, ◌<◌, inl, inr, min, Bool, true, false, cond, List, [], ◌∷◌, length, map, drop, get_or, arith, None}
+use Rattle.std.proofs.Common.{◌≡◌, refl, ap, sym, ◌∙◌, ℕ, ◌+◌, ◌<◌, inl, inr, ◌≤◌, min, Bool, true, false, cond, List, [], ◌∷◌, length, map, drop, get_or, arith, None}
 use Rattle.std.specs.Prelude.{nat_lt}
 use Rattle.std.proofs.lemmas.Bool.{cases_lt, ltb-false, lt-ltb, le-ltb}
 use Rattle.std.proofs.lemmas.List.Elements.{All-contains}
 use Rattle.tm_terms.specs.declared.refusals.Limit.{Limit}
 use Rattle.tm_terms.specs.declared.refusals.Limit.TheVariants as Limits
-use Rattle.tm_terms.specs.Limits.{limit_number}
 use Rattle.tm_typed.specs.declared.files.LocalEntry.{LocalEntry}
 use Rattle.tm_typed.specs.declared.files.TypedStatic.{TypedStatic}
 use Rattle.tm_typed.specs.TypedFiles.{typed_static_tree}
 use Rattle.tm_typed.specs.States.{Static}
 use Rattle.tm_typed.specs.Files.{TypedFileTree}
+use Rattle.tm_laid.specs.declared.scales.Scale.{Scale}
+use Rattle.tm_laid.specs.declared.scales.Scale.TheVariants as Scales
 use Rattle.tm_laid.specs.CallTrees.{CallTree, a_call_of, CallTrees, no_calls, and_call, weight, weights, one}
 use Rattle.tm_laid.specs.Paths.{tree_of, bodies_of, body_trees, locals_of}
 use Rattle.tm_laid.specs.TypeCells.{cells_of_type, abstract_cells_of_type}
 use Rattle.tm_laid.specs.Objects.{local_objects, static_objects}
 use Rattle.tm_laid.specs.Layouts.{summed_types, own_cells, over_objects, laid_count, is_exceeded}
 use Rattle.tm_laid.specs.Layable.{IsLayable}
+use Rattle.tm_laid.specs.Scales.{large_number, number_on}
 use Rattle.cell_layout.specs.reading.Counts.{beyond_number, column_of, of_locals, static_column, of_statics, own_by, total_of, total_in, sum_of, counted_by, AreTotals}
-use Rattle.cell_layout.specs.reading.Limits.{IsPathLimit}
+use Rattle.cell_layout.specs.reading.Limits.{IsPathLimit, IsAllWithin}
 use Rattle.tm_laid.proofs.Columns.{cells_counted, abstracts_counted}
 use Rattle.cell_layout.proofs.StaticSteps.{statics_open}
 use Rattle.cell_layout.proofs.Totals.{weights_sum, capped_sums}
@@ -76,27 +78,56 @@ no_statics file (s ∷ ss) = no_static s.defined (of_statics file Limits.Paths s
 pub counted : (file : TypedFileTree) (order : List ℕ) (l : Limit) → IsLayable file order → IsPathLimit l → min (beyond_number l) (counted_by file l) ≡ min (beyond_number l) (laid_count file l)
 unfolding laid_count own_by column_of
 counted file order Limits.Paths h p =
-    ap (λ n. min 4097 (n + sum_of (total_of file Limits.Paths) (bodies_of file))) (no_statics file file.statics)
-    ∙ ap (λ n. min 4097 (0 + n)) (all_weights file Limits.Paths)
-    ∙ (let z : 0 + weights (own_by file Limits.Paths) (body_trees file) ≡ weights (own_by file Limits.Paths) (body_trees file) = omega arith in ap (min 4097) z)
-    ∙ same_weights 4097 (own_by file Limits.Paths) one (λ f. refl) (body_trees file)
+    ap (λ n. min 65537 (n + sum_of (total_of file Limits.Paths) (bodies_of file))) (no_statics file file.statics)
+    ∙ ap (λ n. min 65537 (0 + n)) (all_weights file Limits.Paths)
+    ∙ (let z : 0 + weights (own_by file Limits.Paths) (body_trees file) ≡ weights (own_by file Limits.Paths) (body_trees file) = omega arith in ap (min 65537) z)
+    ∙ same_weights 65537 (own_by file Limits.Paths) one (λ f. refl) (body_trees file)
 counted file order Limits.Cells h p =
     over file Limits.Cells 65537 (cells_of_type file) (λ n. let e = cells_counted file order h n in omega (arith, e)) (λ f. refl)
 counted file order Limits.Abstract h p =
-    over file Limits.Abstract 4097 (abstract_cells_of_type file) (λ n. let e = abstracts_counted file order h n in omega (arith, e)) (λ f. refl)
+    over file Limits.Abstract 65537 (abstract_cells_of_type file) (λ n. let e = abstracts_counted file order h n in omega (arith, e)) (λ f. refl)
 counted file order _ h p = absurd p
 
-lt_capped : (k x r : ℕ) → r ≡ min (k + 1) x → nat_lt k r ≡ nat_lt k x
-lt_capped k x r e = elim (cases_lt k x) [
-  | inl lt ↦ lt-ltb k r (omega (arith, e, lt)) ∙ sym (lt-ltb k x lt)
-  | inr ge ↦ le-ltb k r (omega (arith, e, ge)) ∙ sym (le-ltb k x ge)
+lt_capped : (k m x r : ℕ) → k ≤ m → r ≡ min (m + 1) x → nat_lt k r ≡ nat_lt k x
+lt_capped k m x r le e = elim (cases_lt k x) [
+  | inl lt ↦ lt-ltb k r (omega (arith, le, e, lt)) ∙ sym (lt-ltb k x lt)
+  | inr ge ↦ le-ltb k r (omega (arith, le, e, ge)) ∙ sym (le-ltb k x ge)
 ]
 
+-- no limit is greater than on the large scale
+pub not_above : (scale : Scale) (l : Limit) → number_on scale l ≤ large_number l
+not_above Scales.Usual Limits.Source = omega arith
+not_above Scales.Usual Limits.Tokens = omega arith
+not_above Scales.Usual Limits.Tasks = omega arith
+not_above Scales.Usual Limits.Mutexes = omega arith
+not_above Scales.Usual Limits.Paths = omega arith
+not_above Scales.Usual Limits.Cells = omega arith
+not_above Scales.Usual Limits.Abstract = omega arith
+not_above Scales.Usual Limits.Nodes = omega arith
+not_above Scales.Usual Limits.Work = omega arith
+not_above Scales.Large l = omega arith
+
+within_large : (scale : Scale) (file : TypedFileTree) (l : Limit) → is_exceeded scale file l ≡ false → is_exceeded Scales.Large file l ≡ false
+within_large scale file l e =
+    let a = ltb-false (number_on scale l) (laid_count file l) e in
+    let b = not_above scale l in
+    le-ltb (large_number l) (laid_count file l) (omega (arith, a, b))
+
+-- a file within the limits of a scale is within those of the large one
+pub all_within_large : (scale : Scale) (file : TypedFileTree) → IsAllWithin scale file → IsAllWithin Scales.Large file
+all_within_large scale file w = record {
+  tasks = within_large scale file Limits.Tasks w.tasks;
+  mutexes = within_large scale file Limits.Mutexes w.mutexes;
+  paths = within_large scale file Limits.Paths w.paths;
+  cells = within_large scale file Limits.Cells w.cells;
+  abstract_cells = within_large scale file Limits.Abstract w.abstract_cells;
+}
+
 -- the test of a limit
-pub tested : (file : TypedFileTree) (order : List ℕ) (l : Limit) (totals bodies : List ℕ) (r : ℕ) → IsLayable file order → IsPathLimit l → AreTotals file l totals → bodies ≡ bodies_of file
-    → r ≡ min (beyond_number l) (of_statics file l file.statics + sum_of (total_in totals) bodies) → nat_lt (limit_number l) r ≡ is_exceeded file l
-tested file order l totals bodies r h p found e is =
-    lt_capped (limit_number l) (laid_count file l) r
+pub tested : (scale : Scale) (file : TypedFileTree) (order : List ℕ) (l : Limit) (totals bodies : List ℕ) (r : ℕ) → IsLayable file order → IsPathLimit l → AreTotals file l totals → bodies ≡ bodies_of file
+    → r ≡ min (beyond_number l) (of_statics file l file.statics + sum_of (total_in totals) bodies) → nat_lt (number_on scale l) r ≡ is_exceeded scale file l
+tested scale file order l totals bodies r h p found e is =
+    lt_capped (number_on scale l) (large_number l) (laid_count file l) r (not_above scale l)
     (is ∙ ap (λ bs. min (beyond_number l) (of_statics file l file.statics + sum_of (total_in totals) bs)) e
     ∙ capped_sums (beyond_number l) (of_statics file l file.statics) 0 0 (total_in totals) (total_of file l) (bodies_of file)
     (λ f c. found f (All-contains (λ g. g < length file.functions) (bodies_of file) f h.bodies c))
@@ -117,12 +148,12 @@ static_more file l objects i object sum one r lt is e f =
 
 -- a count within its limit is exact
 pub exact_count : (file : TypedFileTree) (order : List ℕ) (l : Limit) (totals bodies : List ℕ) (r : ℕ) → IsLayable file order → IsPathLimit l → AreTotals file l totals → bodies ≡ bodies_of file
-    → is_exceeded file l ≡ false → r ≡ min (beyond_number l) (of_statics file l file.statics + sum_of (total_in totals) bodies) → r ≡ laid_count file l
+    → is_exceeded Scales.Large file l ≡ false → r ≡ min (beyond_number l) (of_statics file l file.statics + sum_of (total_in totals) bodies) → r ≡ laid_count file l
 exact_count file order l totals bodies r h p found e within is =
-    let a = ltb-false (limit_number l) (laid_count file l) within in
+    let a = ltb-false (large_number l) (laid_count file l) within in
     let b =
     is ∙ ap (λ bs. min (beyond_number l) (of_statics file l file.statics + sum_of (total_in totals) bs)) e
     ∙ capped_sums (beyond_number l) (of_statics file l file.statics) 0 0 (total_in totals) (total_of file l) (bodies_of file)
     (λ f c. found f (All-contains (λ g. g < length file.functions) (bodies_of file) f h.bodies c))
     ∙ counted file order l h p in
-    b ∙ (let z : min (limit_number l + 1) (laid_count file l) ≡ laid_count file l = omega (arith, a) in z)
+    b ∙ (let z : min (large_number l + 1) (laid_count file l) ≡ laid_count file l = omega (arith, a) in z)

@@ -9,6 +9,7 @@ use Rattle.tm_typed.specs.CallGraph.{calls_in}
 use Rattle.tm_typed.specs.Files.{TypedFileTree}
 use Rattle.tm_laid.specs.declared.paths.Caller.{Caller}
 use Rattle.tm_laid.specs.declared.paths.CallPath.{CallPath}
+use Rattle.tm_laid.specs.declared.scales.Scale.TheVariants as Scales
 use Rattle.tm_laid.specs.CallTrees.{CallTree, a_call_of, CallTrees, no_calls, and_call, trees_of, weight, weights, one}
 use Rattle.tm_laid.specs.Paths.{tree_of, bodies_of, body_trees, tree_paths, called_paths, body_paths, numbers_from, tree_callees, called_callees, paths_of, callees_of}
 use Rattle.tm_laid.specs.Layouts.{is_exceeded, laid_count}
@@ -52,8 +53,8 @@ pub paths_counted : (file : TypedFileTree) → length (paths_of file) ≡ laid_c
 unfolding laid_count
 paths_counted file = bodies_counted 0 0 (body_trees file)
 
--- .. which are at most 4,096
-pub paths_few : (file : TypedFileTree) → is_exceeded file Limits.Paths ≡ false → length (paths_of file) ≤ 65536
+-- .. which are at most 65,536
+pub paths_few : (file : TypedFileTree) → is_exceeded Scales.Large file Limits.Paths ≡ false → length (paths_of file) ≤ 65536
 paths_few file e = let a = ltb-false 65536 (laid_count file Limits.Paths) e in let b = paths_counted file in omega (arith, a, b)
 
 length_sum : (w : ℕ → ℕ) → ((f : ℕ) → 1 ≤ w f) → (fs : List ℕ) → length fs ≤ sum_of w fs
@@ -67,7 +68,7 @@ size_some file f = by_tree (tree_of file f)
     by_tree (a_call_of g ts) = omega arith
 
 -- there are few bodies
-pub bodies_few : (file : TypedFileTree) → is_exceeded file Limits.Paths ≡ false → length (bodies_of file) ≤ 65536
+pub bodies_few : (file : TypedFileTree) → is_exceeded Scales.Large file Limits.Paths ≡ false → length (bodies_of file) ≤ 65536
 bodies_few file e =
     let a = paths_few file e in
     let b = bodies_counted 0 0 (body_trees file) in
@@ -138,7 +139,7 @@ exact file order totals f i total h found small lt e =
     let within : g < length file.functions = call_within g lt in
     let d = found g within in
     let s = size_total file g in
-    e ∙ d ∙ (let z : min 4097 (total_of file Limits.Paths g) ≡ size_of file g = omega (arith, s, a, b, c, small) in z)
+    e ∙ d ∙ (let z : min 65537 (total_of file Limits.Paths g) ≡ size_of file g = omega (arith, s, a, b, c, small) in z)
   where
     call_within : (g : ℕ) → i < length (calls_in file.calls f) → get_or (calls_in file.calls f) i 0 < length file.functions
     call_within g l = elim (cases_lt f (length file.calls)) [
@@ -226,7 +227,7 @@ callees_open file order h number w ws =
     ∙ ap (λ xs. numbers_from (suc number) ts ∷ xs) (callees_wait file w.body number 0 (suc number) (calls file w.function) ws)
 
 -- the waiting path is small
-pub waiting_small : (file : TypedFileTree) (number : ℕ) (ps : List CallPath) (cs : List (List ℕ)) (rest : List Waiting) (w : Waiting) → is_exceeded file Limits.Paths ≡ false
+pub waiting_small : (file : TypedFileTree) (number : ℕ) (ps : List CallPath) (cs : List (List ℕ)) (rest : List Waiting) (w : Waiting) → is_exceeded Scales.Large file Limits.Paths ≡ false
     → IsNumbered file number ps cs (rest ++ w ∷ []) → size_of file w.function ≤ 65536
 waiting_small file number ps cs rest w few h =
     let P : List Waiting → Type 0 = λ ws. ps ++ paths_from file number ws ≡ paths_of file in
@@ -240,7 +241,7 @@ waiting_small file number ps cs rest w few h =
     omega (arith, a, b, c, d, f)
 
 -- .. and its total is exact
-pub waiting_exact : (file : TypedFileTree) (number : ℕ) (ps : List CallPath) (cs : List (List ℕ)) (rest ws : List Waiting) (w : Waiting) (totals : List ℕ) (total : ℕ) → is_exceeded file Limits.Paths ≡ false
+pub waiting_exact : (file : TypedFileTree) (number : ℕ) (ps : List CallPath) (cs : List (List ℕ)) (rest ws : List Waiting) (w : Waiting) (totals : List ℕ) (total : ℕ) → is_exceeded Scales.Large file Limits.Paths ≡ false
     → AreTotals file Limits.Paths totals → ws ≡ rest ++ w ∷ [] → IsNumbered file number ps cs ws → total ≡ get_or totals w.function 0 → total ≡ size_of file w.function
 waiting_exact file number ps cs rest ws w totals total few found same h e =
     let P : List Waiting → Type 0 = λ xs. IsNumbered file number ps cs xs in
@@ -250,7 +251,7 @@ waiting_exact file number ps cs rest ws w totals total few found same h e =
     let b : w.function < length file.functions = All-head (λ x. x.function < length file.functions) w (reverse rest) (subst Q (reverse-append rest (w ∷ [])) k.within) in
     let c = found w.function b in
     let d = size_total file w.function in
-    e ∙ c ∙ (let z : min 4097 (total_of file Limits.Paths w.function) ≡ size_of file w.function = omega (arith, d, a) in z)
+    e ∙ c ∙ (let z : min 65537 (total_of file Limits.Paths w.function) ≡ size_of file w.function = omega (arith, d, a) in z)
 
 -- no path waits although some have no number
 pub none_waits : (file : TypedFileTree) (number : ℕ) (ps : List CallPath) (cs : List (List ℕ)) (ws : List Waiting) → number < length (paths_of file) → ws ≡ [] → IsNumbered file number ps cs ws → ⊥
@@ -349,7 +350,7 @@ numbered_all file number ps cs ws e h =
 -- ## Paths of bodies
 
 -- a total of a body is exact
-pub body_exact : (file : TypedFileTree) (order : List ℕ) (totals bodies : List ℕ) (i total : ℕ) → IsLayable file order → AreTotals file Limits.Paths totals → is_exceeded file Limits.Paths ≡ false → bodies ≡ bodies_of file
+pub body_exact : (file : TypedFileTree) (order : List ℕ) (totals bodies : List ℕ) (i total : ℕ) → IsLayable file order → AreTotals file Limits.Paths totals → is_exceeded Scales.Large file Limits.Paths ≡ false → bodies ≡ bodies_of file
     → i < length bodies → total ≡ get_or totals (get_or bodies i 0) 0 → (total ≡ size_of file (get_or bodies i 0)) × (total + sum_of (size_of file) (drop (i + 1) bodies) ≤ 65536)
 body_exact file order totals bodies i total h found few same lt e =
     let g : ℕ = get_or bodies i 0 in
@@ -363,10 +364,10 @@ body_exact file order totals bodies i total h found few same lt e =
     let within : g < length file.functions = subst P (sym same) h.bodies i 0 lt in
     let n = found g within in
     let s = size_total file g in
-    let exact : total ≡ size_of file g = e ∙ n ∙ (let z : min 4097 (total_of file Limits.Paths g) ≡ size_of file g = omega (arith, s, a, b, c, d, k, m) in z) in
+    let exact : total ≡ size_of file g = e ∙ n ∙ (let z : min 65537 (total_of file Limits.Paths g) ≡ size_of file g = omega (arith, s, a, b, c, d, k, m) in z) in
     (exact, omega (arith, exact, a, b, c, d, k, m))
 
-pub all_sizes : (file : TypedFileTree) (bodies : List ℕ) → is_exceeded file Limits.Paths ≡ false → bodies ≡ bodies_of file → sum_of (size_of file) bodies ≤ 65536
+pub all_sizes : (file : TypedFileTree) (bodies : List ℕ) → is_exceeded Scales.Large file Limits.Paths ≡ false → bodies ≡ bodies_of file → sum_of (size_of file) bodies ≤ 65536
 all_sizes file bodies few same =
     let c = ap (sum_of (size_of file)) same in
     let d = weights_sum one (tree_of file) (bodies_of file) in

@@ -12,6 +12,8 @@ use Rattle.tm_laid.specs.declared.objects.LaidObject.{LaidObject}
 use Rattle.tm_laid.specs.declared.objects.Initial.{Initial}
 use Rattle.tm_laid.specs.declared.cells.LaidCell.{LaidCell}
 use Rattle.tm_laid.specs.declared.cells.AbstractCell.{AbstractCell}
+use Rattle.tm_laid.specs.declared.scales.Scale.{Scale}
+use Rattle.tm_laid.specs.declared.scales.Scale.TheVariants as Scales
 use Rattle.cell_layout.specs.declared.layouts.Tables.{Tables}
 use Rattle.cell_layout.specs.reading.Tables.{IsLayoutOf}
 use Rattle.tm_laid.specs.CallTrees.{CallTree, a_call_of, CallTrees, no_calls, and_call, weight, weights}
@@ -79,11 +81,11 @@ over_all file count =
     summed_append count (static_objects file.statics) (path_objects file 0 (paths_of file))
     ∙ ap (λ n. summed_types count (static_objects file.statics) + n) (over_locals file count 0 (paths_of file) ∙ over_bodies (own_cells file count) 0 0 (body_trees file))
 
-pub cells_few : (file : TypedFileTree) → IsAllWithin file → over_objects file (cells_of_type file) ≤ 65536
+pub cells_few : (file : TypedFileTree) → IsAllWithin Scales.Large file → over_objects file (cells_of_type file) ≤ 65536
 unfolding laid_count
 cells_few file w = ltb-false 65536 (over_objects file (cells_of_type file)) w.cells
 
-pub abstracts_few : (file : TypedFileTree) → IsAllWithin file → over_objects file (abstract_cells_of_type file) ≤ 65536
+pub abstracts_few : (file : TypedFileTree) → IsAllWithin Scales.Large file → over_objects file (abstract_cells_of_type file) ≤ 65536
 unfolding laid_count
 abstracts_few file w = ltb-false 65536 (over_objects file (abstract_cells_of_type file)) w.abstract_cells
 
@@ -94,9 +96,9 @@ chosen a b c d e u v x y z P p =
     subst (λ i. P i b c d e) (sym u) (subst (λ i. P false i c d e) (sym v) (subst (λ i. P false false i d e) (sym x) (subst (λ i. P false false false i e) (sym y) (subst (λ i. P false false false false i) (sym z) p))))
 
 -- no limit is exceeded
-pub answered : (file : TypedFileTree) (laid : LaidTree) → IsAllWithin file → layout_of file ≡ laid → laid_out file ≡ Ok laid
-answered file laid w e =
-    chosen (is_exceeded file Limits.Tasks) (is_exceeded file Limits.Mutexes) (is_exceeded file Limits.Paths) (is_exceeded file Limits.Cells) (is_exceeded file Limits.Abstract)
+pub answered : (scale : Scale) (file : TypedFileTree) (laid : LaidTree) → IsAllWithin scale file → layout_of file ≡ laid → laid_out scale file ≡ Ok laid
+answered scale file laid w e =
+    chosen (is_exceeded scale file Limits.Tasks) (is_exceeded scale file Limits.Mutexes) (is_exceeded scale file Limits.Paths) (is_exceeded scale file Limits.Cells) (is_exceeded scale file Limits.Abstract)
     w.tasks w.mutexes w.paths w.cells w.abstract_cells
     (λ a b c d f. unless_beyond file (cond a (Some Limits.Tasks) (cond b (Some Limits.Mutexes) (cond c (Some Limits.Paths) (cond d (Some Limits.Cells) (cond f (Some Limits.Abstract) None))))) ≡ Ok laid)
     (ap Ok e)

@@ -1,4 +1,4 @@
-//! Counts over call paths and objects, which stop one above their limit.
+//! Counts over call paths and objects, which stop one above their limit on the large scale.
 ghost use Rattle.std.specs.Prelude.{◌≡◌, ◌+◌, min, get_or, IfOk};
 ghost use Rattle.tm_typed.specs.CallGraph.{calls_in};
 ghost use Rattle.tm_typed.specs.TypedFiles.{typed_file_tree, typed_static_tree};
@@ -8,6 +8,7 @@ ghost use Rattle.cell_layout.specs.reading.Counts.{AreTotals, static_column, of_
 
 use crate::tables::{abstract_column, calls_of, cell_column, locals_in};
 use std::alloc::Global;
+use tm_laid::Scale;
 use tm_lattice::NoMemory;
 use tm_terms::Limit;
 use tm_typed::{LocalEntry, TypedFile, TypedStatic};
@@ -29,7 +30,8 @@ fn column(file: &TypedFile, limit: Limit, number: u32) -> u32
 fn capped(limit: Limit, left: u32, right: u32) -> u32
     ensures { result ≡ min (beyond_number limit) (left + right) }
 {
-    left.saturating_add(right).min(limit.number() + 1)
+    left.saturating_add(right)
+        .min(Scale::Large.number(limit) + 1)
 }
 
 // What a limit counts of some parameters and local objects.

@@ -3,6 +3,7 @@ ghost use Rattle.std.specs.Prelude.{◌≡◌, ◌≤◌, ◌^◌, IfOk, IfErr, 
 ghost use Rattle.tm_terms.specs.declared.refusals.Fail.TheVariants as Fails;
 ghost use Rattle.tm_terms.specs.declared.refusals.Limit.TheVariants as Limits;
 ghost use Rattle.tm_typed.specs.TypedFiles.{typed_file_tree};
+ghost use Rattle.tm_laid.specs.declared.scales.Scale.TheVariants as Scales;
 ghost use Rattle.tm_laid.specs.Paths.{bodies_of};
 ghost use Rattle.tm_laid.specs.Layouts.{laid_tree, layout_of, laid_out, answer_of};
 ghost use Rattle.tm_laid.specs.Layable.{IsLayable};
@@ -18,7 +19,7 @@ use crate::objects::{count_of_statics, declared, first_objects, numbers_of_stati
 use crate::paths::{Numbered, call_paths, first_paths};
 use crate::placing::{laid_cells, placed};
 use std::alloc::Global;
-use tm_laid::{Initial, Laid, LaidObject};
+use tm_laid::{Initial, Laid, LaidObject, Scale};
 use tm_lattice::NoMemory;
 use tm_terms::Fail;
 use tm_typed::TypedFile;
@@ -36,7 +37,7 @@ pub struct Tables {
     pub initial: Vec<Initial>,
 }
 
-// The tables of a file that exceeds no limit, with its bodies and the totals of its call paths.
+// The tables of a file that exceeds no limit of the large scale, with its bodies and the totals of its call paths.
 fn tables_of(
     alloc: Global,
     file: &TypedFile,
@@ -45,7 +46,7 @@ fn tables_of(
 ) -> Result<Tables, NoMemory>
     requires layable { IsLayable (typed_file_tree file.now) file.now.order.items }
     requires bodies { bodies.items ≡ bodies_of (typed_file_tree file.now) }
-    requires within { IsAllWithin (typed_file_tree file.now) }
+    requires within { IsAllWithin Scales.Large (typed_file_tree file.now) }
     requires totals { AreTotals (typed_file_tree file.now) Limits.Paths totals.now }
     ensures { IfOk result (λ t. IsLayoutOf (typed_file_tree file.now) t) }
 {
@@ -85,17 +86,18 @@ fn numbered(tables: Tables) -> Result<Tables, Fail>
     }
 }
 
-// The tables of a file, or the first limit that it exceeds.
-fn checked_tables(alloc: Global, file: &TypedFile) -> Result<Tables, Fail>
+// The tables of a file, or the first limit that it exceeds on a scale.
+#[tactic(auto, using(crate::proofs::LimitCounts::all_within_large))]
+fn checked_tables(alloc: Global, scale: Scale, file: &TypedFile) -> Result<Tables, Fail>
     requires layable { IsLayable (typed_file_tree file.now) file.now.order.items }
-    ensures told { AreTables (typed_file_tree file.now) result }
+    ensures told { AreTables scale (typed_file_tree file.now) result }
     ensures numbered { IfOk result (λ t. length t.objects.items ≤ 2 ^ 32) }
 {
     let bodies = match bodies(alloc, file) {
         Ok(bodies) => bodies,
         Err(NoMemory) => return Err(Fail::NoMemory),
     };
-    let totals = match all_within(alloc, file, &bodies) {
+    let totals = match all_within(alloc, scale, file, &bodies) {
         Ok(totals) => totals,
         Err(fail) => return Err(fail),
     };
@@ -146,14 +148,15 @@ fn with_file(file: TypedFile, tables: Tables) -> Laid
     }
 }
 
-/// The layout of a file, or the first of the limits tasks, mutexes, paths, cells and abstract that it exceeds.
-pub fn lay(alloc: Global, typed: TypedFile) -> Result<Laid, Fail>
+/// The layout of a file, or the first of the limits tasks, mutexes, paths, cells and abstract that it exceeds on a
+/// scale.
+pub fn lay(alloc: Global, scale: Scale, typed: TypedFile) -> Result<Laid, Fail>
     requires layable { IsLayable (typed_file_tree typed) typed.order.items }
-    ensures told { IfSome (answer_of result) (λ answer. laid_out (typed_file_tree typed) ≡ answer) }
+    ensures told { IfSome (answer_of result) (λ answer. laid_out scale (typed_file_tree typed) ≡ answer) }
     ensures order { IfOk result (λ laid. laid.file.order.items ≡ typed.order.items) }
     ensures numbered { IfOk result (λ laid. length laid.objects.items ≤ 2 ^ 32) }
 {
-    match checked_tables(alloc, &typed) {
+    match checked_tables(alloc, scale, &typed) {
         Ok(tables) => Ok(with_file(typed, tables)),
         Err(fail) => Err(fail),
     }

@@ -10,6 +10,7 @@ ghost use Rattle.cell_layout.specs.reading.Limits.{IsPathLimit, IsWithin, AreWit
 
 use crate::counts::{count_all, totals};
 use std::alloc::Global;
+use tm_laid::Scale;
 use tm_lattice::NoMemory;
 use tm_terms::{Fail, Kind, Limit, Place, Refusal};
 use tm_typed::TypedFile;
@@ -32,21 +33,22 @@ pub(crate) fn bodies(alloc: Global, file: &TypedFile) -> Result<Vec<u32>, NoMemo
     }
 }
 
-fn has_too_many_tasks(file: &TypedFile) -> bool
-    ensures { result ≡ is_exceeded (typed_file_tree file.now) Limits.Tasks }
+fn has_too_many_tasks(scale: Scale, file: &TypedFile) -> bool
+    ensures { result ≡ is_exceeded scale (typed_file_tree file.now) Limits.Tasks }
 {
-    file.tasks.len() > Limit::Tasks.number() as usize
+    file.tasks.len() > scale.number(Limit::Tasks) as usize
 }
 
-fn has_too_many_mutexes(file: &TypedFile) -> bool
-    ensures { result ≡ is_exceeded (typed_file_tree file.now) Limits.Mutexes }
+fn has_too_many_mutexes(scale: Scale, file: &TypedFile) -> bool
+    ensures { result ≡ is_exceeded scale (typed_file_tree file.now) Limits.Mutexes }
 {
-    file.mutexes.len() > Limit::Mutexes.number() as usize
+    file.mutexes.len() > scale.number(Limit::Mutexes) as usize
 }
 
-// The totals of functions where the limit is not exceeded.
+// The totals of functions where the limit is not exceeded on a scale.
 fn within(
     alloc: Global,
+    scale: Scale,
     file: &TypedFile,
     limit: Limit,
     bodies: &[u32],
@@ -54,10 +56,10 @@ fn within(
     requires layable { IsLayable (typed_file_tree file.now) file.now.order.items }
     requires path { IsPathLimit limit }
     requires bodies { bodies.now ≡ bodies_of (typed_file_tree file.now) }
-    ensures { IfOk result (λ found. IsWithin (typed_file_tree file.now) limit found) }
+    ensures { IfOk result (λ found. IsWithin scale (typed_file_tree file.now) limit found) }
 {
     let totals = totals(alloc, file, limit)?;
-    if count_all(file, limit, &totals, bodies) > limit.number() {
+    if count_all(file, limit, &totals, bodies) > scale.number(limit) {
         Ok(None)
     } else {
         Ok(Some(totals))
@@ -75,25 +77,30 @@ fn refused(limit: Limit) -> Fail
     })
 }
 
-/// The totals of call paths where no limit is exceeded, or the first that is.
-pub(crate) fn all_within(alloc: Global, file: &TypedFile, bodies: &[u32]) -> Result<Vec<u32>, Fail>
+/// The totals of call paths where no limit is exceeded on a scale, or the first that is.
+pub(crate) fn all_within(
+    alloc: Global,
+    scale: Scale,
+    file: &TypedFile,
+    bodies: &[u32],
+) -> Result<Vec<u32>, Fail>
     requires layable { IsLayable (typed_file_tree file.now) file.now.order.items }
     requires bodies { bodies.now ≡ bodies_of (typed_file_tree file.now) }
-    ensures { AreWithin (typed_file_tree file.now) result }
+    ensures { AreWithin scale (typed_file_tree file.now) result }
 {
-    if has_too_many_tasks(file) {
+    if has_too_many_tasks(scale, file) {
         return Err(refused(Limit::Tasks));
     }
-    if has_too_many_mutexes(file) {
+    if has_too_many_mutexes(scale, file) {
         return Err(refused(Limit::Mutexes));
     }
-    let Some(paths) = within(alloc, file, Limit::Paths, bodies)? else {
+    let Some(paths) = within(alloc, scale, file, Limit::Paths, bodies)? else {
         return Err(refused(Limit::Paths));
     };
-    if within(alloc, file, Limit::Cells, bodies)?.is_none() {
+    if within(alloc, scale, file, Limit::Cells, bodies)?.is_none() {
         return Err(refused(Limit::Cells));
     }
-    if within(alloc, file, Limit::Abstract, bodies)?.is_none() {
+    if within(alloc, scale, file, Limit::Abstract, bodies)?.is_none() {
         return Err(refused(Limit::Abstract));
     }
     Ok(paths)

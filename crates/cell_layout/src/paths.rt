@@ -5,6 +5,7 @@ ghost use Rattle.tm_typed.specs.CallGraph.{calls_in};
 ghost use Rattle.tm_typed.specs.TypedFiles.{typed_file_tree};
 ghost use Rattle.tm_laid.specs.CallTrees.{trees_of};
 ghost use Rattle.tm_laid.specs.Paths.{bodies_of, tree_of, numbers_from, paths_of, first_paths_of};
+ghost use Rattle.tm_laid.specs.declared.scales.Scale.TheVariants as Scales;
 ghost use Rattle.tm_laid.specs.Layouts.{is_exceeded};
 ghost use Rattle.tm_laid.specs.Layable.{IsLayable};
 ghost use Rattle.cell_layout.specs.reading.Counts.{AreTotals};
@@ -126,7 +127,7 @@ fn number_path(
 ) -> Result<(), NoMemory>
     requires layable { IsLayable (typed_file_tree file.now) file.now.order.items }
     requires totals { AreTotals (typed_file_tree file.now) Limits.Paths totals.now }
-    requires within { is_exceeded (typed_file_tree file.now) Limits.Paths ≡ false }
+    requires within { is_exceeded Scales.Large (typed_file_tree file.now) Limits.Paths ≡ false }
     requires numbered { AreNumbered (typed_file_tree file.now) number numbered.old }
     requires more { number < length (paths_of (typed_file_tree file.now)) }
     ensures { OnOk result (AreNumbered (typed_file_tree file.now) (number + 1) numbered.new) }
@@ -158,7 +159,7 @@ pub(crate) fn call_paths(
 ) -> Result<Numbered, NoMemory>
     requires layable { IsLayable (typed_file_tree file.now) file.now.order.items }
     requires totals { AreTotals (typed_file_tree file.now) Limits.Paths totals.now }
-    requires within { is_exceeded (typed_file_tree file.now) Limits.Paths ≡ false }
+    requires within { is_exceeded Scales.Large (typed_file_tree file.now) Limits.Paths ≡ false }
     requires bodies { bodies.now ≡ bodies_of (typed_file_tree file.now) }
     ensures { IfOk result (λ n. IsAllNumbered (typed_file_tree file.now) n) }
 {
@@ -184,7 +185,7 @@ pub(crate) fn first_paths(
 ) -> Result<Vec<u32>, NoMemory>
     requires layable { IsLayable (typed_file_tree file.now) file.now.order.items }
     requires totals { AreTotals (typed_file_tree file.now) Limits.Paths totals.now }
-    requires within { is_exceeded (typed_file_tree file.now) Limits.Paths ≡ false }
+    requires within { is_exceeded Scales.Large (typed_file_tree file.now) Limits.Paths ≡ false }
     requires bodies { bodies.now ≡ bodies_of (typed_file_tree file.now) }
     ensures { IfOk result (λ v. v.items ≡ first_paths_of (typed_file_tree file.now)) }
 {

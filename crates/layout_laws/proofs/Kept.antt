@@ -5,11 +5,14 @@ use Rattle.std.proofs.lemmas.Bool.{ltb-false}
 use Rattle.cell_layout.specs.tm_terms.declared.refusals.Limit.{Limit}
 use Rattle.cell_layout.specs.tm_terms.declared.refusals.Limit.TheVariants as Limits
 use Rattle.cell_layout.specs.tm_typed.Files.{TypedFileTree}
+use Rattle.cell_layout.specs.tm_laid.declared.scales.Scale.{Scale}
+use Rattle.cell_layout.specs.tm_laid.declared.scales.Scale.TheVariants as Scales
 use Rattle.cell_layout.specs.tm_laid.Paths.{paths_of}
 use Rattle.cell_layout.specs.tm_laid.TypeCells.{cells_of_type, abstract_cells_of_type}
 use Rattle.cell_layout.specs.tm_laid.Layouts.{LaidTree, layout_of, laid_count, declared_objects, is_exceeded}
 use Rattle.cell_layout.specs.tm_laid.Layouts.{unless_beyond, laid_out}
 use Rattle.cell_layout.specs.reading.Limits.{IsAllWithin}
+use Rattle.cell_layout.proofs.LimitCounts.{all_within_large}
 use Rattle.cell_layout.proofs.PathSteps.{paths_few}
 use Rattle.cell_layout.proofs.Whole.{over_all, cells_few, abstracts_few}
 use Rattle.layout_laws.specs.Limited.{IsLimited}
@@ -39,10 +42,10 @@ none_holds file laid false false false true e h = absurd (refused file Limits.Ce
 none_holds file laid false false false false true h = absurd (refused file Limits.Abstract laid h)
 none_holds file laid false false false false false h = record { tasks = refl; mutexes = refl; paths = refl; cells = refl; abstract_cells = refl }
 
-all_within : (file : TypedFileTree) (laid : LaidTree) → laid_out file ≡ Ok laid → IsAllWithin file
+all_within : (scale : Scale) (file : TypedFileTree) (laid : LaidTree) → laid_out scale file ≡ Ok laid → IsAllWithin scale file
 unfolding first
-all_within file laid h =
-    let n = none_holds file laid (is_exceeded file Limits.Tasks) (is_exceeded file Limits.Mutexes) (is_exceeded file Limits.Paths) (is_exceeded file Limits.Cells) (is_exceeded file Limits.Abstract) h in
+all_within scale file laid h =
+    let n = none_holds file laid (is_exceeded scale file Limits.Tasks) (is_exceeded scale file Limits.Mutexes) (is_exceeded scale file Limits.Paths) (is_exceeded scale file Limits.Cells) (is_exceeded scale file Limits.Abstract) h in
     record { tasks = n.tasks; mutexes = n.mutexes; paths = n.paths; cells = n.cells; abstract_cells = n.abstract_cells }
 
 is_whole : (file : TypedFileTree) (laid : LaidTree) (a b c d e : Bool) → unless_beyond file (first a b c d e) ≡ Ok laid → laid ≡ layout_of file
@@ -54,15 +57,15 @@ is_whole file laid false false false true e h = absurd (refused file Limits.Cell
 is_whole file laid false false false false true h = absurd (refused file Limits.Abstract laid h)
 is_whole file laid false false false false false h = cc
 
-few_tasks : (file : TypedFileTree) → IsAllWithin file → length file.tasks ≤ 32
+few_tasks : (file : TypedFileTree) → IsAllWithin Scales.Large file → length file.tasks ≤ 32
 unfolding laid_count
 few_tasks file w = ltb-false 32 (length file.tasks) w.tasks
 
-few_mutexes : (file : TypedFileTree) → IsAllWithin file → length file.mutexes ≤ 16
+few_mutexes : (file : TypedFileTree) → IsAllWithin Scales.Large file → length file.mutexes ≤ 16
 unfolding laid_count
 few_mutexes file w = ltb-false 16 (length file.mutexes) w.mutexes
 
-limited : (file : TypedFileTree) → IsAllWithin file → IsLimited file (layout_of file)
+limited : (file : TypedFileTree) → IsAllWithin Scales.Large file → IsLimited file (layout_of file)
 unfolding layout_of
 limited file w = record {
   whole = refl;
@@ -81,8 +84,8 @@ limited file w = record {
       omega (arith, a, b, c));
 }
 
-pub limits_kept : (file : TypedFileTree) (laid : LaidTree) → laid_out file ≡ Ok laid → IsLimited file laid
+pub limits_kept : (scale : Scale) (file : TypedFileTree) (laid : LaidTree) → laid_out scale file ≡ Ok laid → IsLimited file laid
 unfolding first
-limits_kept file laid h =
-    let whole = is_whole file laid (is_exceeded file Limits.Tasks) (is_exceeded file Limits.Mutexes) (is_exceeded file Limits.Paths) (is_exceeded file Limits.Cells) (is_exceeded file Limits.Abstract) h in
-    subst (λ (l : LaidTree). IsLimited file l) (sym whole) (limited file (all_within file laid h))
+limits_kept scale file laid h =
+    let whole = is_whole file laid (is_exceeded scale file Limits.Tasks) (is_exceeded scale file Limits.Mutexes) (is_exceeded scale file Limits.Paths) (is_exceeded scale file Limits.Cells) (is_exceeded scale file Limits.Abstract) h in
+    subst (λ (l : LaidTree). IsLimited file l) (sym whole) (limited file (all_within_large scale file (all_within scale file laid h)))

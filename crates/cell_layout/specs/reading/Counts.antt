@@ -1,8 +1,7 @@
--- Counts by the columns of types, which stop one above their limit.
+-- Counts by the columns of types, which stop one above their limit on the large scale.
 use Rattle.std.specs.Prelude.{◌≡◌, ℕ, ◌+◌, ◌<◌, min, cond, List, [], ◌∷◌, length, get_or}
 use Rattle.tm_terms.specs.declared.refusals.Limit.{Limit}
 use Rattle.tm_terms.specs.declared.refusals.Limit.TheVariants as Limits
-use Rattle.tm_terms.specs.Limits.{limit_number}
 use Rattle.tm_typed.specs.declared.files.LocalEntry.{LocalEntry}
 use Rattle.tm_typed.specs.Scopes.{cells_of, abstract_cells_of}
 use Rattle.tm_typed.specs.States.{Static}
@@ -10,10 +9,11 @@ use Rattle.tm_typed.specs.Files.{TypedFileTree}
 use Rattle.tm_laid.specs.CallTrees.{weight}
 use Rattle.tm_laid.specs.Paths.{tree_of, bodies_of, locals_of}
 use Rattle.tm_laid.specs.Layable.{tables_of}
+use Rattle.tm_laid.specs.Scales.{large_number}
 
--- one above what the limit allows
+-- one above what the limit allows on the large scale
 abbrev pub beyond_number : Limit → ℕ
-beyond_number l = limit_number l + 1
+beyond_number l = large_number l + 1
 
 -- what the columns of a type say of what a limit counts
 unfoldable pub column_of : TypedFileTree → Limit → ℕ → ℕ
@@ -48,7 +48,7 @@ sum_of w (f ∷ fs) = w f + sum_of w fs
 abbrev pub total_in : List ℕ → ℕ → ℕ
 total_in totals f = get_or totals f 0
 
--- the totals of all functions, which stop one above the limit
+-- the totals of all functions, which stop one above the limit on the large scale
 abbrev pub AreTotals : TypedFileTree → Limit → List ℕ → Type 0
 AreTotals file l totals = (f : ℕ) → f < length file.functions → get_or totals f 0 ≡ min (beyond_number l)
     (total_of file l f)

@@ -2,6 +2,7 @@
 use Rattle.std.specs.Prelude.{◌≡◌, map, Result, Ok, Err}
 use Rattle.tm_terms.specs.declared.refusals.Fail.{Fail}
 use Rattle.tm_typed.specs.Files.{TypedFileTree}
+use Rattle.tm_laid.specs.declared.scales.Scale.{Scale}
 use Rattle.tm_laid.specs.Paths.{bodies_of, first_paths_of, paths_of, callees_of, first_objects_of}
 use Rattle.tm_laid.specs.Objects.{static_numbers, objects_from, cells_from, abstracts_from, initial_values}
 use Rattle.tm_laid.specs.Layouts.{declared_objects, static_count}
@@ -21,7 +22,7 @@ pub record IsLayoutOf (file : TypedFileTree) (t : Tables) : Type 0 where
       (objects_from file 0 0 (declared_objects file (paths_of file)))
   pub initial : t.initial.items ≡ initial_values file (static_numbers 0 file.statics) file.statics
 
--- the tables of a file that exceeds no limit, or why there are none
-abbrev pub AreTables : TypedFileTree → Result Tables Fail → Type 0
-AreTables file (Ok t) = IsAllWithin file × IsLayoutOf file t
-AreTables file (Err fail) = IsFailOf file fail
+-- the tables of a file that exceeds no limit on a scale, or why there are none
+abbrev pub AreTables : Scale → TypedFileTree → Result Tables Fail → Type 0
+AreTables scale file (Ok t) = IsAllWithin scale file × IsLayoutOf file t
+AreTables scale file (Err fail) = IsFailOf scale file fail

@@ -18,7 +18,7 @@ step file order totals items f first i number total numbers new h t small e lt i
     (exact file order totals f i total h t small here (is ∙ ap (λ (xs : List ℕ). get_or totals (get_or xs i 0) 0) e), here)
 
 bounded : (file : TypedFileTree) (order : List ℕ) (f first i number total : ℕ) (numbers : List ℕ) → IsLayable file order → size_of file f ≤ 65536 → first ≤ 65536 → i < length (calls_in file.calls f)
-    → total ≡ size_of file (get_or (calls_in file.calls f) i 0) → AreNumbers file (calls_in file.calls f) first i numbers number → number + total ≤ 8192
+    → total ≡ size_of file (get_or (calls_in file.calls f) i 0) → AreNumbers file (calls_in file.calls f) first i numbers number → number + total ≤ 131072
 bounded file order f first i number total numbers h small le lt e before =
     let a = ap (sum_of (size_of file)) (drop_more (calls_in file.calls f) i 0 lt) in
     let b = before.next in
