@@ -6,7 +6,8 @@ use Rattle.std.proofs.lemmas.Bool.{cases_lt}
 use Rattle.std.proofs.lemmas.List.{get_or_default}
 use Rattle.indexmap.proofs.IndexTableLemmas.Probe.{pigeonhole}
 use Rattle.region_cells.specs.tm_terms.declared.refusals.Limit.TheVariants as Limits
-use Rattle.region_cells.specs.tm_terms.Limits.{limit_number}
+use Rattle.region_cells.specs.tm_laid.declared.scales.Scale.{Scale}
+use Rattle.region_cells.specs.tm_laid.Scales.{number_on}
 use Rattle.region_cells.specs.tm_laid.Layouts.{LaidTree}
 use Rattle.region_cells.specs.flow_graph.declared.graphs.Graph.{Graph}
 use Rattle.region_cells.specs.flow_graph.Graphs.{Edges}
@@ -104,22 +105,22 @@ tail_same x y xs ys e = cc
 nil_is_cons : (y : Edges) (ys : List Edges) → [] ≡ (y ∷ ys) → ⊥
 nil_is_cons y ys e = absurd (cc)
 
--- graphs with the same edges have the same configured graphs
-pub configured_alike : (gs hs : List Graph) (cs ds : List ConfiguredGraph) → edges_of gs ≡ edges_of hs
-    → AreConfigured gs cs → AreConfigured hs ds → AreAlike cs ds
-configured_alike [] [] [] [] e a b = tt
-configured_alike [] [] [] (d ∷ ds) e a b = absurd b
-configured_alike [] [] (c ∷ cs) ds e a b = absurd a
-configured_alike [] (h ∷ hs) cs ds e a b = absurd (nil_is_cons h.edges.items (edges_of hs) e)
-configured_alike (g ∷ gs) [] cs ds e a b = absurd (nil_is_cons g.edges.items (edges_of gs) (sym e))
-configured_alike (g ∷ gs) (h ∷ hs) [] ds e a b = absurd a
-configured_alike (g ∷ gs) (h ∷ hs) (c ∷ cs) [] e a b = absurd b
-configured_alike (g ∷ gs) (h ∷ hs) (c ∷ cs) (d ∷ ds) e a b =
+-- graphs with the same edges have the same configured graphs, on whatever scales
+pub configured_alike : (scale other : Scale) (gs hs : List Graph) (cs ds : List ConfiguredGraph)
+    → edges_of gs ≡ edges_of hs → AreConfigured scale gs cs → AreConfigured other hs ds → AreAlike cs ds
+configured_alike scale other [] [] [] [] e a b = tt
+configured_alike scale other [] [] [] (d ∷ ds) e a b = absurd b
+configured_alike scale other [] [] (c ∷ cs) ds e a b = absurd a
+configured_alike scale other [] (h ∷ hs) cs ds e a b = absurd (nil_is_cons h.edges.items (edges_of hs) e)
+configured_alike scale other (g ∷ gs) [] cs ds e a b = absurd (nil_is_cons g.edges.items (edges_of gs) (sym e))
+configured_alike scale other (g ∷ gs) (h ∷ hs) [] ds e a b = absurd a
+configured_alike scale other (g ∷ gs) (h ∷ hs) (c ∷ cs) [] e a b = absurd b
+configured_alike scale other (g ∷ gs) (h ∷ hs) (c ∷ cs) (d ∷ ds) e a b =
     let same : g.edges.items ≡ h.edges.items = head_same g.edges.items h.edges.items (edges_of gs) (edges_of hs) e in
     let one = configured_is_one h.edges.items c d (subst (λ (es : Edges). IsConfigured es c) same a.0) b.0 in (
       one.0,
       one.1,
-      configured_alike gs hs cs ds (tail_same g.edges.items h.edges.items (edges_of gs) (edges_of hs) e)
+      configured_alike scale other gs hs cs ds (tail_same g.edges.items h.edges.items (edges_of gs) (edges_of hs) e)
           a.2 b.2,
     )
 
@@ -133,19 +134,22 @@ work_alike laid body (c ∷ cs) (d ∷ ds) a =
     ap₂ (λ (ns : List ConfiguredNode) (w : ℕ). length ns * seen_cells laid body + w) a.0
     (work_alike laid (suc body) cs ds a.2)
 
-pub as_many : (gs : List Graph) (cs : List ConfiguredGraph) → AreConfigured gs cs → length cs ≡ length gs
-as_many [] [] a = refl
-as_many [] (c ∷ cs) a = absurd a
-as_many (g ∷ gs) [] a = absurd a
-as_many (g ∷ gs) (c ∷ cs) a = ap suc (as_many gs cs a.2)
+pub as_many : (scale : Scale) (gs : List Graph) (cs : List ConfiguredGraph) → AreConfigured scale gs cs
+    → length cs ≡ length gs
+as_many scale [] [] a = refl
+as_many scale [] (c ∷ cs) a = absurd a
+as_many scale (g ∷ gs) [] a = absurd a
+as_many scale (g ∷ gs) (c ∷ cs) a = ap suc (as_many scale gs cs a.2)
 
 -- no configured graph has more nodes than the limit allows
-pub none_has_more : (gs : List Graph) (cs : List ConfiguredGraph) → AreConfigured gs cs → (k : ℕ) (d : Graph)
-    → k < length gs → (let g = get_or gs k d in HasMoreNodes g.edges.items (limit_number Limits.Nodes)) → ⊥
-none_has_more [] cs a k d lt has = omega (arith, lt)
-none_has_more (g ∷ gs) [] a k d lt has = a
-none_has_more (g ∷ gs) (c ∷ cs) a zero d lt has = not_more g.edges.items c (limit_number Limits.Nodes) a.0 a.1 has
-none_has_more (g ∷ gs) (c ∷ cs) a (suc k) d lt has = none_has_more gs cs a.2 k d (omega (arith, lt)) has
+pub none_has_more : (scale : Scale) (gs : List Graph) (cs : List ConfiguredGraph) → AreConfigured scale gs cs → (k : ℕ)
+    (d : Graph) → k < length gs
+    → (let g = get_or gs k d in HasMoreNodes g.edges.items (number_on scale Limits.Nodes)) → ⊥
+none_has_more scale [] cs a k d lt has = omega (arith, lt)
+none_has_more scale (g ∷ gs) [] a k d lt has = a
+none_has_more scale (g ∷ gs) (c ∷ cs) a zero d lt has =
+    not_more g.edges.items c (number_on scale Limits.Nodes) a.0 a.1 has
+none_has_more scale (g ∷ gs) (c ∷ cs) a (suc k) d lt has = none_has_more scale gs cs a.2 k d (omega (arith, lt)) has
 
 -- the same at a place
 pub alike_at : (cs ds : List ConfiguredGraph) → AreAlike cs ds → (k : ℕ) (d : ConfiguredGraph) → k < length cs

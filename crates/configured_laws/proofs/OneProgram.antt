@@ -5,7 +5,8 @@ use Rattle.std.proofs.lemmas.List.{same_lists, get_or-map, length-map}
 use Rattle.region_cells.specs.tm_terms.declared.refusals.Fail.TheVariants as Fails
 use Rattle.region_cells.specs.tm_terms.declared.refusals.Limit.TheVariants as Limits
 use Rattle.region_cells.specs.tm_terms.declared.refusals.Refusal.{Refusal}
-use Rattle.region_cells.specs.tm_terms.Limits.{limit_number}
+use Rattle.region_cells.specs.tm_laid.declared.scales.Scale.{Scale}
+use Rattle.region_cells.specs.tm_laid.Scales.{number_on}
 use Rattle.region_cells.specs.tm_laid.Layouts.{LaidTree}
 use Rattle.region_cells.specs.flow_graph.declared.graphs.Graph.{Graph}
 use Rattle.region_cells.specs.flow_graph.Graphs.{Edges}
@@ -21,15 +22,17 @@ use Rattle.configured_laws.proofs.ConfiguredAlike.{none_has_more}
 -- ## Graphs
 
 -- the graph of no body has more nodes than the limit allows
-none_too_big : (laid : LaidTree) (gs : List Graph) → AreGraphs laid gs → HasTooManyNodes laid → ⊥
-none_too_big laid gs are has =
+none_too_big : (scale : Scale) (laid : LaidTree) (gs : List Graph) → AreGraphs scale laid gs
+    → HasTooManyNodes scale laid → ⊥
+none_too_big scale laid gs are has =
     let count = are.count in
     let inside = has.within in
     let few = are.few has.body (omega (arith, inside, count)) in
     let more = has.more in
     omega (arith, few, more)
 
-module _ (laid : LaidTree) (gs hs : List Graph) (are : AreGraphs laid gs) (others : AreGraphs laid hs) where
+module _ (scale other : Scale) (laid : LaidTree) (gs hs : List Graph) (are : AreGraphs scale laid gs)
+    (others : AreGraphs other laid hs) where
   pub counts : length gs ≡ length hs
   counts = are.count ∙ sym others.count
 
@@ -66,25 +69,28 @@ module _ (laid : LaidTree) (gs hs : List Graph) (are : AreGraphs laid gs) (other
           let g : Graph = some_graph gs (omega (arith, inside)) in
           get_or-map edges gs t g d inside ∙ edges_at t g g inside ∙ sym (get_or-map edges hs t g d (within t inside))
 
-  -- ## Configured graphs
+  pub alike : (cs ds : List ConfiguredGraph) → AreConfigured scale gs cs → AreConfigured other hs ds → AreAlike cs ds
+  alike cs ds a b = configured_alike scale other gs hs cs ds same_edges a b
 
-  pub alike : (cs ds : List ConfiguredGraph) → AreConfigured gs cs → AreConfigured hs ds → AreAlike cs ds
-  alike cs ds a b = configured_alike gs hs cs ds same_edges a b
+-- ## Configured graphs
 
-  same_work : (cs ds : List ConfiguredGraph) → AreConfigured gs cs → AreConfigured hs ds
+module _ (scale : Scale) (laid : LaidTree) (gs hs : List Graph) (are : AreGraphs scale laid gs)
+    (others : AreGraphs scale laid hs) where
+  same_work : (cs ds : List ConfiguredGraph) → AreConfigured scale gs cs → AreConfigured scale hs ds
       → work_from laid 0 cs ≡ work_from laid 0 ds
-  same_work cs ds a b = work_alike laid 0 cs ds (alike cs ds a b)
+  same_work cs ds a b = work_alike laid 0 cs ds (alike scale scale laid gs hs are others cs ds a b)
 
   -- graphs of which one has too many nodes are not configured
-  not_many : (ds : List ConfiguredGraph) → AreConfigured hs ds → HaveTooManyNodes gs → ⊥
+  not_many : (ds : List ConfiguredGraph) → AreConfigured scale hs ds → HaveTooManyNodes scale gs → ⊥
   not_many ds a (k, g, lt, here, has) =
-      let own : (let e = get_or gs k g in HasMoreNodes e.edges.items (limit_number Limits.Nodes)) =
-      subst (λ (e : Graph). HasMoreNodes e.edges.items (limit_number Limits.Nodes)) (sym here) has in
-      none_has_more hs ds a k g (within k lt)
-      (subst (λ (es : Edges). HasMoreNodes es (limit_number Limits.Nodes)) (edges_at k g g lt) own)
+      let own : (let e = get_or gs k g in HasMoreNodes e.edges.items (number_on scale Limits.Nodes)) =
+      subst (λ (e : Graph). HasMoreNodes e.edges.items (number_on scale Limits.Nodes)) (sym here) has in
+      none_has_more scale hs ds a k g (within scale scale laid gs hs are others k lt)
+      (subst (λ (es : Edges). HasMoreNodes es (number_on scale Limits.Nodes))
+      (edges_at scale scale laid gs hs are others k g g lt) own)
 
-  pub not_refused : (ds : List ConfiguredGraph) (r : Refusal) → IsAnswer laid hs (Ok ds)
-      → IsAnswer laid gs (Err (Fails.Refused r)) → ⊥
+  pub not_refused : (ds : List ConfiguredGraph) (r : Refusal) → IsAnswer scale laid hs (Ok ds)
+      → IsAnswer scale laid gs (Err (Fails.Refused r)) → ⊥
   not_refused ds r a (inl (e, many)) = not_many ds a.0 many
   not_refused ds r a (inr (e, much)) =
       let same = same_work much.configured ds much.are a.0 in
@@ -92,35 +98,36 @@ module _ (laid : LaidTree) (gs hs : List Graph) (are : AreGraphs laid gs) (other
       let few = a.1 in
       omega (arith, same, more, few)
 
-module _ (laid : LaidTree) (gs hs : List Graph) (are : AreGraphs laid gs) (others : AreGraphs laid hs) where
-  pub one_limit : (r s : Refusal) → IsAnswer laid gs (Err (Fails.Refused r)) → IsAnswer laid hs (Err (Fails.Refused s))
-      → r ≡ s
+module _ (scale : Scale) (laid : LaidTree) (gs hs : List Graph) (are : AreGraphs scale laid gs)
+    (others : AreGraphs scale laid hs) where
+  pub one_limit : (r s : Refusal) → IsAnswer scale laid gs (Err (Fails.Refused r))
+      → IsAnswer scale laid hs (Err (Fails.Refused s)) → r ≡ s
   one_limit r s (inl (e, many)) (inl (f, other)) = e ∙ sym f
   one_limit r s (inl (e, many)) (inr (f, much)) =
-      absurd (not_many laid gs hs are others much.configured much.are many)
+      absurd (not_many scale laid gs hs are others much.configured much.are many)
   one_limit r s (inr (e, much)) (inl (f, many)) =
-      absurd (not_many laid hs gs others are much.configured much.are many)
+      absurd (not_many scale laid hs gs others are much.configured much.are many)
   one_limit r s (inr (e, much)) (inr (f, other)) = e ∙ sym f
 
 -- ## Layouts
 
 -- a layout is not prepared and refused
 pub not_both : NeverBoth
-not_both laid p r (are, answer) (inl (e, big)) = none_too_big laid p.graphs are big
-not_both laid p r (are, answer) (inr more) =
-    not_refused laid more.graphs p.graphs more.are are p.configured r answer more.beyond
+not_both scale laid p r (are, answer) (inl (e, big)) = none_too_big scale laid p.graphs are big
+not_both scale laid p r (are, answer) (inr more) =
+    not_refused scale laid more.graphs p.graphs more.are are p.configured r answer more.beyond
 
 -- it has one refusal
 pub one_refused : OneLimit
-one_refused laid r s (inl (e, big)) (inl (f, other)) = e ∙ sym f
-one_refused laid r s (inl (e, big)) (inr more) = absurd (none_too_big laid more.graphs more.are big)
-one_refused laid r s (inr more) (inl (f, big)) = absurd (none_too_big laid more.graphs more.are big)
-one_refused laid r s (inr more) (inr other) =
-    one_limit laid more.graphs other.graphs more.are other.are r s more.beyond other.beyond
+one_refused scale laid r s (inl (e, big)) (inl (f, other)) = e ∙ sym f
+one_refused scale laid r s (inl (e, big)) (inr more) = absurd (none_too_big scale laid more.graphs more.are big)
+one_refused scale laid r s (inr more) (inl (f, big)) = absurd (none_too_big scale laid more.graphs more.are big)
+one_refused scale laid r s (inr more) (inr other) =
+    one_limit scale laid more.graphs other.graphs more.are other.are r s more.beyond other.beyond
 
--- and its program is one
+-- and its program is one, on whatever scales
 pub programs_alike : ProgramsAreAlike
-programs_alike laid p q a b = (
-  same_edges laid p.graphs q.graphs a.0 b.0,
-  alike laid p.graphs q.graphs a.0 b.0 p.configured q.configured a.1.0 b.1.0,
+programs_alike scale other laid p q a b = (
+  same_edges scale other laid p.graphs q.graphs a.0 b.0,
+  alike scale other laid p.graphs q.graphs a.0 b.0 p.configured q.configured a.1.0 b.1.0,
 )

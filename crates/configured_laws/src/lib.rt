@@ -1,10 +1,10 @@
-//! That each layout of a typed file has a program, or exceeds a limit, and not both. It is a law over definitions: that
-//! there is an answer needs no code. How graphs are built and configured, this crate does not know; it holds no code
-//! but laws.
+//! That each layout of a typed file has a program on a scale, or exceeds a limit, and not both. It is a law over
+//! definitions: that there is an answer needs no code. How graphs are built and configured, this crate does not know;
+//! it holds no code but laws.
 //!
 //! Of `__mutex m; __task(1) void t(void) { __lock(m); __unlock(m); }` the graph has few nodes, and of those few are
-//! reached with `m` held or not: so its layout has a program, and is refused by no limit. Where a body has more than
-//! 20,000 nodes, its layout has none, and the limit that it exceeds is that of nodes.
+//! reached with `m` held or not: so its layout has a program, and is refused by no limit. Where a body has more nodes
+//! than the scale allows, its layout has none, and the limit that it exceeds is that of nodes.
 #![tactic(auto)]
 
 mod laws;

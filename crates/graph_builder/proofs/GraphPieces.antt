@@ -52,8 +52,8 @@ counted laid body f along e h = h ∙ ap length (edges_in laid f (built laid bod
 
 -- the graph of a body is that of its fragment
 pub whole : (scale : Scale) (laid : LaidTree) (body : ℕ) (f : Fragment) (g : Graph) → so_far laid f ≡ built laid body
-    → g.body ≡ body → g.nodes ≡ f.nodes → g.edges.items ≡ edges_of laid f.items.items → f.nodes ≤ number_on scale Limits.Nodes
-    → IsOne scale laid body (Some g)
+    → g.body ≡ body → g.nodes ≡ f.nodes → g.edges.items ≡ edges_of laid f.items.items
+    → f.nodes ≤ number_on scale Limits.Nodes → IsOne scale laid body (Some g)
 whole scale laid body f g e b n es few =
     let is : IsGraphOf laid body g = record {
       number = b;
@@ -87,7 +87,8 @@ few_more scale laid count body one each lt =
     below_more P count each one body lt
 
 pub one_more : (scale : Scale) (laid : LaidTree) (count : ℕ) (gs hs : List Graph) (g : Graph)
-    → AreFirst scale laid count gs → IsOne scale laid count (Some g) → hs ≡ gs ++ g ∷ [] → AreFirst scale laid (count + 1) hs
+    → AreFirst scale laid count gs → IsOne scale laid count (Some g) → hs ≡ gs ++ g ∷ []
+    → AreFirst scale laid (count + 1) hs
 one_more scale laid count gs hs g h one e =
     let l : length hs ≡ length gs + 1 = ap length e ∙ length-append gs (g ∷ []) in
     let here : IsGraphOf laid (length gs) g = subst (λ k. IsGraphOf laid k g) (sym h.are) one.0 in

@@ -48,7 +48,7 @@ same_length scale (g ∷ gs) [] a = absurd a
 same_length scale (g ∷ gs) (c ∷ cs) a = ap suc (same_length scale gs cs a.2)
 
 -- no scale allows more nodes
-most_nodes : (scale : Scale) → number_on scale Limits.Nodes ≤ 200000
+pub most_nodes : (scale : Scale) → number_on scale Limits.Nodes ≤ 200000
 most_nodes Scales.Usual = let z : 20000 ≤ 200000 = omega (arith) in z
 most_nodes Scales.Large = let z : 200000 ≤ 200000 = omega (arith) in z
 
@@ -58,5 +58,7 @@ all_small scale [] [] a = All-nil (λ (c : ConfiguredGraph). length c.nodes.keys
 all_small scale [] (c ∷ cs) a = absurd a
 all_small scale (g ∷ gs) [] a = absurd a
 all_small scale (g ∷ gs) (c ∷ cs) a =
-    let few : length c.nodes.keys ≤ 200000 = omega (arith, a.1, most_nodes scale) in
-    All-cons (λ (d : ConfiguredGraph). length d.nodes.keys ≤ 200000) c cs few (all_small scale gs cs a.2)
+    let few = a.1 in
+    let most = most_nodes scale in
+    let small : length c.nodes.keys ≤ 200000 = omega (arith, few, most) in
+    All-cons (λ (d : ConfiguredGraph). length d.nodes.keys ≤ 200000) c cs small (all_small scale gs cs a.2)

@@ -27,8 +27,8 @@ pub record AreBeyond (scale : Scale) (laid : LaidTree) (r : Refusal) : Type 0 wh
   pub are : AreGraphs scale laid graphs
   pub beyond : IsAnswer scale laid graphs (Err (Fails.Refused r))
 
--- The answer to a layout on a scale: the graph of each body with its configured graph, or the limit of nodes that a graph exceeds,
--- or else that of nodes or work that configured graphs exceed.
+-- The answer to a layout on a scale: the graph of each body with its configured graph, or the limit of nodes that a
+-- graph exceeds, or else that of nodes or work that configured graphs exceed.
 abbrev pub IsPrepared : Scale → LaidTree → Result Graphed Fail → Type 0
 IsPrepared scale laid (Ok p) = AreGraphs scale laid p.graphs × IsAnswer scale laid p.graphs (Ok p.configured)
 IsPrepared scale laid (Err (Fails.Refused r)) =

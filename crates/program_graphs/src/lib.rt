@@ -2,7 +2,8 @@
 //! crate below: this one sees to it that the graphs of a typed file that is laid out are graphs that can be configured.
 //!
 //! Of a file with one task and an initial section there are two graphs, and two configured graphs. Where one of the
-//! graphs has more than 20,000 nodes, or more are reached with mutexes, the file is refused by the limit of nodes.
+//! graphs has more nodes than the scale allows, or more are reached with mutexes, the file is refused by the limit of
+//! nodes.
 #![tactic(auto)]
 
 mod programs;

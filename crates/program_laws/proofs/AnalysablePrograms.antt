@@ -2,6 +2,7 @@
 use Rattle.std.specs.Prelude.{ℕ, ◌<◌, ◌≤◌, ◌^◌, List, length, get_or, All, Ok}
 use Rattle.std.proofs.Common.{arith}
 use Rattle.layout_laws.specs.tm_typed.TypedFiles.{typed_file_tree}
+use Rattle.layout_laws.specs.tm_laid.declared.scales.Scale.{Scale}
 use Rattle.layout_laws.specs.tm_laid.Layouts.{LaidTree, laid_tree}
 use Rattle.operation_laws.specs.call_graph.Orders.{IsWholeOrder}
 use Rattle.graph_builder.specs.flow_graph.declared.graphs.Graph.{Graph}
@@ -25,8 +26,8 @@ use Rattle.program_laws.proofs.LaidPrograms.{HasBodies, bodies_counted, held_rea
 
 module _ (program : Program) (is : IsLaidFile (laid_tree program.laid))
     (whole : let file = typed_file_tree program.laid.file in IsWholeOrder file.calls program.laid.file.order.items)
-    (are : AreGraphs (laid_tree program.laid) program.graphs.graphs.items)
-    (answer : IsAnswer (laid_tree program.laid) program.graphs.graphs.items (Ok program.configured.items))
+    (scale : Scale) (are : AreGraphs scale (laid_tree program.laid) program.graphs.graphs.items)
+    (answer : IsAnswer scale (laid_tree program.laid) program.graphs.graphs.items (Ok program.configured.items))
     (numbers : Numbers) (thresholds : AreThresholds numbers program.marks) where
   abbrev laid : LaidTree
   laid = laid_tree program.laid
@@ -73,7 +74,8 @@ module _ (program : Program) (is : IsLaidFile (laid_tree program.laid))
       let graph : Graph = get_or graphs t g in
       let nodes : ConfiguredGraph = get_or configured t c in
       let own = graph_is t g lt in
-      let is_configured : IsConfigured graph.edges.items nodes = configured_at graphs configured answer.0 t lt g c in
+      let is_configured : IsConfigured graph.edges.items nodes =
+      configured_at scale graphs configured answer.0 t lt g c in
       places_are graph.edges.items graph.nodes nodes.nodes.keys is_configured.nodes own.entry own.to
 
   -- ## Programs
@@ -87,7 +89,7 @@ module _ (program : Program) (is : IsLaidFile (laid_tree program.laid))
         tasks = enough;
         ranges = in_range;
         small = few_graphs;
-        count = same_length graphs configured answer.0;
+        count = same_length scale graphs configured answer.0;
         places = at_places;
-        lawful = λ p of. program_kept laid is graphs configured are answer numbers program.marks thresholds p of;
+        lawful = λ p of. program_kept laid is graphs configured scale are answer numbers program.marks thresholds p of;
       }

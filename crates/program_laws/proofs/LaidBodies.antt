@@ -8,6 +8,7 @@ use Rattle.std.proofs.lemmas.Int.{ints}
 use Rattle.thresholds.specs.strided_dom.Progression.{IsInReach}
 use Rattle.thresholds.proofs.low.tm_cint.Wide.{wide}
 use Rattle.layout_laws.specs.tm_typed.declared.types.Scalar.{Scalar}
+use Rattle.layout_laws.specs.tm_laid.declared.scales.Scale.{Scale}
 use Rattle.layout_laws.specs.tm_laid.Layouts.{LaidTree}
 use Rattle.graph_builder.specs.flow_graph.declared.graphs.Edge.{Edge}
 use Rattle.graph_builder.specs.flow_graph.declared.graphs.Graph.{Graph}
@@ -140,19 +141,20 @@ none_there : (xs : List ℕ) → ((t : ℕ) → Contains xs t → ⊥) → xs �
 none_there [] h = refl
 none_there (x ∷ xs) h = absurd (h x (0, (let z : 0 < suc (length xs) = omega (arith) in z), refl))
 
-pub configured_at : (gs : List Graph) (cs : List ConfiguredGraph) → AreConfigured gs cs → (t : ℕ) → t < length gs
-    → (g : Graph) (c : ConfiguredGraph)
+pub configured_at : (scale : Scale) (gs : List Graph) (cs : List ConfiguredGraph) → AreConfigured scale gs cs
+    → (t : ℕ) → t < length gs → (g : Graph) (c : ConfiguredGraph)
     → IsConfigured (let x : Graph = get_or gs t g in x.edges.items) (get_or cs t c)
-configured_at [] cs h t lt g c = absurd (omega (arith, lt))
-configured_at (x ∷ gs) [] h t lt g c = absurd h
-configured_at (x ∷ gs) (y ∷ cs) h zero lt g c = h.0
-configured_at (x ∷ gs) (y ∷ cs) h (suc t) lt g c = configured_at gs cs h.2 t (omega (arith, lt)) g c
+configured_at scale [] cs h t lt g c = absurd (omega (arith, lt))
+configured_at scale (x ∷ gs) [] h t lt g c = absurd h
+configured_at scale (x ∷ gs) (y ∷ cs) h zero lt g c = h.0
+configured_at scale (x ∷ gs) (y ∷ cs) h (suc t) lt g c = configured_at scale gs cs h.2 t (omega (arith, lt)) g c
 
-as_many : (gs : List Graph) (cs : List ConfiguredGraph) → AreConfigured gs cs → length gs ≡ length cs
-as_many [] [] h = refl
-as_many [] (y ∷ cs) h = absurd h
-as_many (x ∷ gs) [] h = absurd h
-as_many (x ∷ gs) (y ∷ cs) h = ap suc (as_many gs cs h.2)
+as_many : (scale : Scale) (gs : List Graph) (cs : List ConfiguredGraph) → AreConfigured scale gs cs
+    → length gs ≡ length cs
+as_many scale [] [] h = refl
+as_many scale [] (y ∷ cs) h = absurd h
+as_many scale (x ∷ gs) [] h = absurd h
+as_many scale (x ∷ gs) (y ∷ cs) h = ap suc (as_many scale gs cs h.2)
 
 -- an element of a list that has one with this number
 element : {A : Type 0} (xs : List A) (t : ℕ) → t < length xs → A
@@ -182,9 +184,9 @@ module _ (laid : LaidTree) (is : IsLaidFile laid) where
 
   -- ## Bodies
 
-  module _ (graphs : List Graph) (configured : List ConfiguredGraph) (marks : List ℤ) (are : AreGraphs laid graphs)
-      (answer : IsAnswer laid graphs (Ok configured)) (ends : HaveEnds marks) (p : ProgramBodies)
-      (of : IsProgramOf laid graphs configured marks p) (t : ℕ) (lt : t < length p.bodies) where
+  module _ (graphs : List Graph) (configured : List ConfiguredGraph) (marks : List ℤ) (scale : Scale)
+      (are : AreGraphs scale laid graphs) (answer : IsAnswer scale laid graphs (Ok configured)) (ends : HaveEnds marks)
+      (p : ProgramBodies) (of : IsProgramOf laid graphs configured marks p) (t : ℕ) (lt : t < length p.bodies) where
     abbrev b : Body
     b = body_at p t
 
@@ -195,7 +197,10 @@ module _ (laid : LaidTree) (is : IsLaidFile laid) where
     in_bodies = let count = are.count in let own = in_graphs in omega (arith, count, own)
 
     in_configured : t < length configured
-    in_configured = let many = as_many graphs configured answer.0 in let own = in_graphs in omega (arith, many, own)
+    in_configured =
+        let many = as_many scale graphs configured answer.0 in
+        let own = in_graphs in
+        omega (arith, many, own)
 
     abbrev graph : Graph
     graph = get_or graphs t (element graphs t in_graphs)
@@ -207,7 +212,7 @@ module _ (laid : LaidTree) (is : IsLaidFile laid) where
     graph_is = are.each t (element graphs t in_graphs) in_graphs
 
     nodes_are : IsConfigured graph.edges.items nodes
-    nodes_are = configured_at graphs configured answer.0 t in_graphs (element graphs t in_graphs)
+    nodes_are = configured_at scale graphs configured answer.0 t in_graphs (element graphs t in_graphs)
         (element configured t in_configured)
 
     body_in : IsBodyIn laid graph nodes b

@@ -52,7 +52,7 @@ abstracts_among file o lt =
 
 module _ (laid : LaidTree) (is : IsLaidFile laid) where
   pub limited : IsLimited is.file laid
-  limited = limits_kept is.file laid is.answered
+  limited = limits_kept is.scale is.file laid is.answered
 
   -- what holds of the layout of the file holds of this one
   pub of_layout : (P : LaidTree → Type 0) → P (layout_of is.file) → P laid

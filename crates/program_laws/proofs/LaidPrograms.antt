@@ -5,6 +5,7 @@ use Rattle.std.proofs.lemmas.List.{length-append, length-map}
 use Rattle.layout_laws.specs.tm_typed.declared.files.TypedTask.{TypedTask}
 use Rattle.layout_laws.specs.tm_typed.Files.{TypedFileTree}
 use Rattle.layout_laws.specs.tm_laid.Paths.{listed}
+use Rattle.layout_laws.specs.tm_laid.declared.scales.Scale.{Scale}
 use Rattle.layout_laws.specs.tm_laid.Layouts.{LaidTree, layout_of, cell_at, abstract_at}
 use Rattle.graph_builder.specs.flow_graph.declared.graphs.Graph.{Graph}
 use Rattle.graph_builder.specs.Lowered.{AreGraphs}
@@ -66,8 +67,8 @@ held_read laid is cell lt =
 -- ## Programs
 
 module _ (laid : LaidTree) (is : IsLaidFile laid) (graphs : List Graph) (configured : List ConfiguredGraph)
-    (are : AreGraphs laid graphs) (answer : IsAnswer laid graphs (Ok configured)) (numbers : Numbers) (marks : List ℤ)
-    (thresholds : AreThresholds numbers marks) (p : ProgramBodies)
+    (scale : Scale) (are : AreGraphs scale laid graphs) (answer : IsAnswer scale laid graphs (Ok configured))
+    (numbers : Numbers) (marks : List ℤ) (thresholds : AreThresholds numbers marks) (p : ProgramBodies)
     (of : IsProgramOf laid graphs configured marks p) where
   pub program_kept : IsProgram p
   program_kept =
@@ -82,8 +83,8 @@ module _ (laid : LaidTree) (is : IsLaidFile laid) (graphs : List Graph) (configu
       let limits = limited laid is in
       record {
         sorts = sorts_at laid is;
-        each = λ t lt. body_kept laid is graphs configured marks are answer (have_ends numbers marks thresholds) p of
-            t lt;
+        each = λ t lt. body_kept laid is graphs configured marks scale are answer (have_ends numbers marks thresholds)
+            p of t lt;
         tasks = omega (arith, tasks_are, count, graph_count, least);
         section = omega (arith, tasks_are, count, graph_count, most);
         priorities = ap length priorities ∙ more ∙ ap suc (sym tasks_are);

@@ -29,9 +29,9 @@ pub fn thresholds_have_ends()
 /// edge leads; cells of static storage hold values of their types at first; and no limit is exceeded.
 pub fn prepared_programs_are_programs()
     ensures { (laid : LaidTree) → IsLaidFile laid → (graphs : List Graph) (configured : List ConfiguredGraph)
-        → (scale : Scale) → AreGraphs scale laid graphs → IsAnswer scale laid graphs (Ok configured) → (numbers : Numbers) (marks : List ℤ)
-        → AreThresholds numbers marks → (p : ProgramBodies) → IsProgramOf laid graphs configured marks p
-        → IsProgram p }
+        → (scale : Scale) → AreGraphs scale laid graphs → IsAnswer scale laid graphs (Ok configured)
+        → (numbers : Numbers) (marks : List ℤ) → AreThresholds numbers marks
+        → (p : ProgramBodies) → IsProgramOf laid graphs configured marks p → IsProgram p }
 {}
 
 /// A typed file that is laid out can be laid out in the order of functions that typing found, where that is all of its

@@ -26,9 +26,9 @@ bodies_kept laid file e =
     ∙ ap (λ n. length file.tasks + n) (section_listed file.main))
 
 pub returns : goal.returns
-returns c = λ laid graphs source are.
+returns c = λ scale laid graphs source are.
     let tree : LaidTree = laid_tree laid in
-    let bodies : length tree.bodies ≡ task_count laid = bodies_kept tree source.file (limits_kept source.file tree source.answered).whole in
+    let bodies : length tree.bodies ≡ task_count laid = bodies_kept tree source.file (limits_kept source.scale source.file tree source.answered).whole in
     record {
       count = let n = are.count in omega (arith, n, bodies);
       each = λ task other lt.
