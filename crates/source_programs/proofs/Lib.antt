@@ -1,6 +1,7 @@
 pub mod Accepted
 pub mod Analysing
 pub mod Bodies
+pub mod LargeScale
 pub mod OneSource
 pub mod SomeBodies
 pub mod SomeSource

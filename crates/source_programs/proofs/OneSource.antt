@@ -1,4 +1,4 @@
--- A source has one answer.
+-- A source has one answer on each scale, and is one program on both.
 use Rattle.std.specs.Prelude.{◌≡◌, ◌⊎◌, ℕ, ◌<◌, ◌≤◌, ℤ, List, length, get_or, Option, Some, None, Result, Ok, Err}
 use Rattle.std.proofs.Common.{refl, sym, ap, subst, ◌∙◌, inl, inr, arith}
 use Rattle.tm_terms.specs.declared.refusals.Fail.TheVariants as Fails
@@ -9,7 +9,8 @@ use Rattle.tm_terms.specs.Spelling.{Lexes}
 use Rattle.tm_trees.specs.FileTrees.{ItemTree}
 use Rattle.tm_trees.specs.Parsing.{deep, Parses, too_deep, spells, spells_none}
 use Rattle.tm_laid.specs.tm_typed.Files.{TypedFileTree, IsTyped}
-use Rattle.tm_laid.specs.Layouts.{LaidTree, laid_out}
+use Rattle.tm_laid.specs.declared.scales.Scale.{Scale}
+use Rattle.tm_laid.specs.Layouts.{LaidTree, layout_of, laid_out}
 use Rattle.mutex_configs.specs.flow_graph.declared.graphs.Graph.{Graph}
 use Rattle.mutex_configs.specs.flow_graph.Graphs.{Edges}
 use Rattle.mutex_configs.specs.graph_facts.Live.{AreLive}
@@ -25,15 +26,16 @@ use Rattle.program_laws.specs.program_equations.Programs.{ProgramBodies, body_at
 use Rattle.c_lexer.proofs.AnswerLemmas.{one_answer as one_lexing}
 use Rattle.c_parser.proofs.FileComplete.{file_complete}
 use Rattle.c_typing.proofs.low.typing_laws.OneAnswer.{one_answer as one_typing}
-use Rattle.source_programs.specs.LaidSources.{longest_source, main_in, TypesAs, IsLaidSource}
-use Rattle.source_programs.specs.Sources.{IsAccepted, source_limit}
-use Rattle.source_programs.specs.Sources.{IsRefused, too_long, not_lexed, not_parsed, not_typed, not_laid, not_prepared}
+use Rattle.source_programs.specs.LaidSources.{longest_source, main_in, TypesAs, IsLaidSourceOn}
+use Rattle.source_programs.specs.Sources.{IsAcceptedOn, source_limit, IsRefusedOn}
+use Rattle.source_programs.specs.Sources.{too_long, not_lexed, not_parsed, not_typed, not_laid, not_prepared}
 use Rattle.source_programs.specs.Laws.{NoneIsBoth, OneProgram, AreSyntaxErrors, OneRefusal}
 use Rattle.configured_laws.proofs.Lists.{ascending_are_one}
 use Rattle.configured_laws.specs.Laws.{AreAlike}
 use Rattle.configured_laws.proofs.ConfiguredAlike.{as_many, alike_at}
 use Rattle.configured_laws.proofs.OneProgram.{counts, edges_at, nodes_at, alike, not_both, one_refused}
 use Rattle.source_programs.proofs.Programs.{programs_are_one}
+use Rattle.source_programs.proofs.Stations.{layout_kept}
 
 from_err : {A : Type 0} {r s : Refusal}
     → (let a : Result A Refusal = Err r in let b : Result A Refusal = Err s in a ≡ b) → r ≡ s
@@ -129,30 +131,34 @@ module _ (bytes : List ℕ) where
 
   -- ## Layouts
 
-  one_layout : (laid other : LaidTree) → IsLaidSource bytes laid → IsLaidSource bytes other → laid ≡ other
-  one_layout laid other h k =
+  -- a source has one layout, on whatever scales
+  one_layout : (scale other : Scale) (l m : LaidTree) → IsLaidSourceOn scale bytes l → IsLaidSourceOn other bytes m
+      → l ≡ m
+  one_layout scale other l m h k =
       let same : h.file ≡ k.file =
       from_ok (one_answer h.tokens k.tokens (Ok h.file) (Ok k.file) h.lexed k.lexed h.typed k.typed) in
-      from_ok (sym h.answered ∙ ap laid_out same ∙ k.answered)
+      layout_kept scale h.file l h.answered ∙ ap layout_of same ∙ sym (layout_kept other k.file m k.answered)
 
   -- ## Accepted and refused
 
-  pub none : (laid : LaidTree) (r : Refusal) → IsLaidSource bytes laid
-      → ((s : Refusal) → IsPrepared laid (Err (Fails.Refused s)) → ⊥) → IsRefused bytes r → ⊥
-  none laid _ h never (too_long l) = let short = h.short in omega (arith, short, l)
-  none laid _ h never (not_lexed s l) = ok_is_err (one_lexing bytes h.lexed l)
-  none laid _ h never (not_parsed {tokens = ts} {refusal = r} s l p) =
+  pub none : (scale : Scale) (laid : LaidTree) (r : Refusal) → IsLaidSourceOn scale bytes laid
+      → ((s : Refusal) → IsPrepared scale laid (Err (Fails.Refused s)) → ⊥) → IsRefusedOn scale bytes r → ⊥
+  none scale laid _ h never (too_long l) = let short = h.short in omega (arith, short, l)
+  none scale laid _ h never (not_lexed s l) = ok_is_err (one_lexing bytes h.lexed l)
+  none scale laid _ h never (not_parsed {tokens = ts} {refusal = r} s l p) =
       typed_not_parsed h.tokens ts (Ok h.file) r h.lexed l h.typed p
-  none laid _ h never (not_typed {tokens = ts} {refusal = r} s l t) =
+  none scale laid _ h never (not_typed {tokens = ts} {refusal = r} s l t) =
       ok_is_err (one_answer h.tokens ts (Ok h.file) (Err r) h.lexed l h.typed t)
-  none laid _ h never (not_laid {tokens = ts} {file = file} {refusal = r} s l t e) =
+  none scale laid _ h never (not_laid {tokens = ts} {file = file} {refusal = r} s l t e) =
       let same : h.file ≡ file = from_ok (one_answer h.tokens ts (Ok h.file) (Ok file) h.lexed l h.typed t) in
-      ok_is_err (sym h.answered ∙ ap laid_out same ∙ e)
-  none laid _ h never (not_prepared {laid = other} {refusal = r} k p) =
-      never r (subst (λ l. IsPrepared l (Err (Fails.Refused r))) (sym (one_layout laid other h k)) p)
+      ok_is_err (sym h.answered ∙ ap (laid_out scale) same ∙ e)
+  none scale laid _ h never (not_prepared {laid = other} {refusal = r} k p) =
+      never r
+      (subst (λ l. IsPrepared scale l (Err (Fails.Refused r))) (sym (one_layout scale scale laid other h k)) p)
 
 pub none_is_both : NoneIsBoth
-none_is_both given bytes p r a is = none bytes a.laid r a.source (λ s k. not_both a.laid a.graphed s a.prepared k) is
+none_is_both scale given bytes p r a is =
+    none bytes scale a.laid r a.source (λ s k. not_both scale a.laid a.graphed s a.prepared k) is
 
 -- ## Programs
 
@@ -179,8 +185,9 @@ other_body laid g h c d b e n m o is = record {
   written = subst (λ (es : Edges). AreAllWritten laid es b.heads b.written) e is.written;
 }
 
-module _ (laid : LaidTree) (gs hs : List Graph) (cs ds : List ConfiguredGraph) (are : AreGraphs laid gs)
-    (others : AreGraphs laid hs) (configured : AreConfigured gs cs) (own : AreConfigured hs ds) where
+module _ (scale other : Scale) (laid : LaidTree) (gs hs : List Graph) (cs ds : List ConfiguredGraph)
+    (are : AreGraphs scale laid gs) (others : AreGraphs other laid hs) (configured : AreConfigured scale gs cs)
+    (own : AreConfigured other hs ds) where
   -- so a program is that of graphs with the same edges
   other_program : (thresholds : List ℤ) (p : ProgramBodies) → IsProgramOf laid gs cs thresholds p
       → IsProgramOf laid hs ds thresholds p
@@ -189,7 +196,7 @@ module _ (laid : LaidTree) (gs hs : List Graph) (cs ds : List ConfiguredGraph) (
     marks = of.marks;
     tasks = of.tasks;
     priorities = of.priorities;
-    count = of.count ∙ counts laid gs hs are others;
+    count = of.count ∙ counts scale other laid gs hs are others;
     numbered = of.numbered;
     bodies = at;
   }
@@ -199,24 +206,25 @@ module _ (laid : LaidTree) (gs hs : List Graph) (cs ds : List ConfiguredGraph) (
       at t g c lt =
           let count = of.count in
           let within : t < length gs = omega (arith, lt, count) in
-          let many = as_many gs cs configured in
+          let many = as_many scale gs cs configured in
           let inside : t < length cs = omega (arith, within, many) in
-          let same : AreAlike cs ds = alike laid gs hs are others cs ds configured own in
+          let same : AreAlike cs ds = alike scale other laid gs hs are others cs ds configured own in
           let nodes = alike_at cs ds same t c inside in
           other_body laid (get_or gs t g) (get_or hs t g) (get_or cs t c) (get_or ds t c) (body_at p t)
-          (edges_at laid gs hs are others t g g within) (nodes_at laid gs hs are others t g g within) nodes.0 nodes.1
-          (of.bodies t g c lt)
+          (edges_at scale other laid gs hs are others t g g within)
+          (nodes_at scale other laid gs hs are others t g g within) nodes.0 nodes.1 (of.bodies t g c lt)
 
 -- what is known of a program of a layout
-record IsMade (given : List ℕ) (laid : LaidTree) (p : ProgramBodies) : Type 0 where
+record IsMade (scale : Scale) (given : List ℕ) (laid : LaidTree) (p : ProgramBodies) : Type 0 where
   graphed : Graphed
-  prepared : IsPrepared laid (Ok graphed)
+  prepared : IsPrepared scale laid (Ok graphed)
   thresholds : List ℤ
   are : AreThresholds (numbers_of laid.file.lengths laid.file.constants laid.file.labels given) thresholds
   is : IsProgramOf laid graphed.graphs graphed.configured thresholds p
 
-made : (given bytes : List ℕ) (p : ProgramBodies) (a : IsAccepted given bytes p) → IsMade given a.laid p
-made given bytes p a = record {
+made : (scale : Scale) (given bytes : List ℕ) (p : ProgramBodies) (a : IsAcceptedOn scale given bytes p)
+    → IsMade scale given a.laid p
+made scale given bytes p a = record {
   graphed = a.graphed;
   prepared = a.prepared;
   thresholds = a.thresholds;
@@ -224,108 +232,110 @@ made given bytes p a = record {
   is = a.is;
 }
 
-one_made : (given : List ℕ) (laid : LaidTree) (p q : ProgramBodies) → IsMade given laid p → IsMade given laid q
-    → p ≡ q
-one_made given laid p q a b =
+one_made : (scale other : Scale) (given : List ℕ) (laid : LaidTree) (p q : ProgramBodies) → IsMade scale given laid p
+    → IsMade other given laid q → p ≡ q
+one_made scale other given laid p q a b =
     let same : a.thresholds ≡ b.thresholds = one_thresholds _ a.thresholds b.thresholds a.are b.are in
     let moved : IsProgramOf laid b.graphed.graphs b.graphed.configured a.thresholds p =
-    other_program laid a.graphed.graphs b.graphed.graphs a.graphed.configured b.graphed.configured a.prepared.0
-    b.prepared.0 a.prepared.1.0 b.prepared.1.0 a.thresholds p a.is in
+    other_program scale other laid a.graphed.graphs b.graphed.graphs a.graphed.configured b.graphed.configured
+    a.prepared.0 b.prepared.0 a.prepared.1.0 b.prepared.1.0 a.thresholds p a.is in
     programs_are_one laid b.graphed.graphs b.graphed.configured b.thresholds p q
     (subst (λ ms. IsProgramOf laid b.graphed.graphs b.graphed.configured ms p) same moved) b.is
 
 pub one_program : OneProgram
-one_program given bytes p q a b =
-    let same : a.laid ≡ b.laid = one_layout bytes a.laid b.laid a.source b.source in
-    one_made given b.laid p q (subst (λ l. IsMade given l p) same (made given bytes p a)) (made given bytes q b)
+one_program scale other given bytes p q a b =
+    let same : a.laid ≡ b.laid = one_layout bytes scale other a.laid b.laid a.source b.source in
+    one_made scale other given b.laid p q (subst (λ l. IsMade scale given l p) same (made scale given bytes p a))
+    (made other given bytes q b)
 
 -- ## One refusal
 
 -- a source that has a layout is refused where that is not prepared
-prepared_once : (bytes : List ℕ) (laid : LaidTree) (r s : Refusal) → IsLaidSource bytes laid
-    → IsPrepared laid (Err (Fails.Refused r)) → IsRefused bytes s → SameRefusal r s
-prepared_once bytes laid r _ h p (too_long l) = absurd (let short = h.short in omega (arith, short, l))
-prepared_once bytes laid r _ h p (not_lexed a l) = absurd (ok_is_err (one_lexing bytes h.lexed l))
-prepared_once bytes laid r _ h p (not_parsed {tokens = ts} {refusal = s} a l q) =
+prepared_once : (scale : Scale) (bytes : List ℕ) (laid : LaidTree) (r s : Refusal) → IsLaidSourceOn scale bytes laid
+    → IsPrepared scale laid (Err (Fails.Refused r)) → IsRefusedOn scale bytes s → SameRefusal r s
+prepared_once scale bytes laid r _ h p (too_long l) = absurd (let short = h.short in omega (arith, short, l))
+prepared_once scale bytes laid r _ h p (not_lexed a l) = absurd (ok_is_err (one_lexing bytes h.lexed l))
+prepared_once scale bytes laid r _ h p (not_parsed {tokens = ts} {refusal = s} a l q) =
     absurd (typed_not_parsed bytes h.tokens ts (Ok h.file) s h.lexed l h.typed q)
-prepared_once bytes laid r _ h p (not_typed {tokens = ts} {refusal = s} a l t) =
+prepared_once scale bytes laid r _ h p (not_typed {tokens = ts} {refusal = s} a l t) =
     absurd (ok_is_err (one_answer bytes h.tokens ts (Ok h.file) (Err s) h.lexed l h.typed t))
-prepared_once bytes laid r _ h p (not_laid {tokens = ts} {file = file} {refusal = s} a l t e) =
+prepared_once scale bytes laid r _ h p (not_laid {tokens = ts} {file = file} {refusal = s} a l t e) =
     let same : h.file ≡ file = from_ok (one_answer bytes h.tokens ts (Ok h.file) (Ok file) h.lexed l h.typed t) in
-    absurd (ok_is_err (sym h.answered ∙ ap laid_out same ∙ e))
-prepared_once bytes laid r _ h p (not_prepared {laid = other} {refusal = s} k q) =
-    inl (one_refused laid r s p
-    (subst (λ l. IsPrepared l (Err (Fails.Refused s))) (sym (one_layout bytes laid other h k)) q))
+    absurd (ok_is_err (sym h.answered ∙ ap (laid_out scale) same ∙ e))
+prepared_once scale bytes laid r _ h p (not_prepared {laid = other} {refusal = s} k q) =
+    inl (one_refused scale laid r s p
+    (subst (λ l. IsPrepared scale l (Err (Fails.Refused s))) (sym (one_layout bytes scale scale laid other h k)) q))
 
 swapped : (r s : Refusal) → SameRefusal r s → SameRefusal s r
 swapped r s (inl e) = inl (sym e)
 swapped r s (inr (p, q, e, f)) = inr (q, p, f, e)
 
 -- what typing says of a source, or else its layout
-laid_once : (bytes : List ℕ) (tokens : List Token) (file : TypedFileTree) (r s : Refusal)
-    → length bytes ≤ longest_source → Lexes bytes (Ok tokens) → TypesAs (main_in bytes tokens) tokens (Ok file) → laid_out file ≡ Err r
-    → IsRefused bytes s → SameRefusal r s
-laid_once bytes tokens file r _ short h t e (too_long l) = absurd (omega (arith, short, l))
-laid_once bytes tokens file r _ short h t e (not_lexed a l) = absurd (ok_is_err (one_lexing bytes h l))
-laid_once bytes tokens file r _ short h t e (not_parsed {tokens = ts} {refusal = s} a l q) =
+laid_once : (scale : Scale) (bytes : List ℕ) (tokens : List Token) (file : TypedFileTree) (r s : Refusal)
+    → length bytes ≤ longest_source → Lexes bytes (Ok tokens) → TypesAs (main_in bytes tokens) tokens (Ok file)
+    → laid_out scale file ≡ Err r → IsRefusedOn scale bytes s → SameRefusal r s
+laid_once scale bytes tokens file r _ short h t e (too_long l) = absurd (omega (arith, short, l))
+laid_once scale bytes tokens file r _ short h t e (not_lexed a l) = absurd (ok_is_err (one_lexing bytes h l))
+laid_once scale bytes tokens file r _ short h t e (not_parsed {tokens = ts} {refusal = s} a l q) =
     absurd (typed_not_parsed bytes tokens ts (Ok file) s h l t q)
-laid_once bytes tokens file r _ short h t e (not_typed {tokens = ts} {refusal = s} a l u) =
+laid_once scale bytes tokens file r _ short h t e (not_typed {tokens = ts} {refusal = s} a l u) =
     absurd (ok_is_err (one_answer bytes tokens ts (Ok file) (Err s) h l t u))
-laid_once bytes tokens file r _ short h t e (not_laid {tokens = ts} {file = other} {refusal = s} a l u f) =
+laid_once scale bytes tokens file r _ short h t e (not_laid {tokens = ts} {file = other} {refusal = s} a l u f) =
     let same : file ≡ other = from_ok (one_answer bytes tokens ts (Ok file) (Ok other) h l t u) in
-    inl (from_err (sym e ∙ ap laid_out same ∙ f))
-laid_once bytes tokens file r _ short h t e (not_prepared {laid = other} {refusal = s} k q) =
-    swapped s r (prepared_once bytes other s r k q (not_laid {tokens = tokens} {file = file} short h t e))
+    inl (from_err (sym e ∙ ap (laid_out scale) same ∙ f))
+laid_once scale bytes tokens file r _ short h t e (not_prepared {laid = other} {refusal = s} k q) =
+    swapped s r (prepared_once scale bytes other s r k q (not_laid {tokens = tokens} {file = file} short h t e))
 
-typed_once : (bytes : List ℕ) (tokens : List Token) (r s : Refusal) → length bytes ≤ longest_source
-    → Lexes bytes (Ok tokens) → TypesAs (main_in bytes tokens) tokens (Err r) → IsRefused bytes s → SameRefusal r s
-typed_once bytes tokens r _ short h t (too_long l) = absurd (omega (arith, short, l))
-typed_once bytes tokens r _ short h t (not_lexed a l) = absurd (ok_is_err (one_lexing bytes h l))
-typed_once bytes tokens r _ short h t (not_parsed {tokens = ts} {refusal = s} a l q) =
+typed_once : (scale : Scale) (bytes : List ℕ) (tokens : List Token) (r s : Refusal) → length bytes ≤ longest_source
+    → Lexes bytes (Ok tokens) → TypesAs (main_in bytes tokens) tokens (Err r) → IsRefusedOn scale bytes s
+    → SameRefusal r s
+typed_once scale bytes tokens r _ short h t (too_long l) = absurd (omega (arith, short, l))
+typed_once scale bytes tokens r _ short h t (not_lexed a l) = absurd (ok_is_err (one_lexing bytes h l))
+typed_once scale bytes tokens r _ short h t (not_parsed {tokens = ts} {refusal = s} a l q) =
     absurd (typed_not_parsed bytes tokens ts (Err r) s h l t q)
-typed_once bytes tokens r _ short h t (not_typed {tokens = ts} {refusal = s} a l u) =
+typed_once scale bytes tokens r _ short h t (not_typed {tokens = ts} {refusal = s} a l u) =
     inl (from_err (one_answer bytes tokens ts (Err r) (Err s) h l t u))
-typed_once bytes tokens r _ short h t (not_laid {tokens = ts} {file = file} {refusal = s} a l u e) =
+typed_once scale bytes tokens r _ short h t (not_laid {tokens = ts} {file = file} {refusal = s} a l u e) =
     absurd (ok_is_err (one_answer bytes ts tokens (Ok file) (Err r) l h u t))
-typed_once bytes tokens r _ short h t (not_prepared {laid = other} {refusal = s} k q) =
-    swapped s r (prepared_once bytes other s r k q (not_typed {tokens = tokens} short h t))
+typed_once scale bytes tokens r _ short h t (not_prepared {laid = other} {refusal = s} k q) =
+    swapped s r (prepared_once scale bytes other s r k q (not_typed {tokens = tokens} short h t))
 
-parsed_at_all : (bytes : List ℕ) (tokens : List Token) (r s : Refusal) → length bytes ≤ longest_source
-    → Lexes bytes (Ok tokens) → Parses tokens (Err r) → IsRefused bytes s → SameRefusal r s
-parsed_at_all bytes tokens r _ short h p (too_long l) = absurd (omega (arith, short, l))
-parsed_at_all bytes tokens r _ short h p (not_lexed a l) = absurd (ok_is_err (one_lexing bytes h l))
-parsed_at_all bytes tokens r _ short h p (not_parsed {tokens = ts} {refusal = s} a l q) =
+parsed_at_all : (scale : Scale) (bytes : List ℕ) (tokens : List Token) (r s : Refusal) → length bytes ≤ longest_source
+    → Lexes bytes (Ok tokens) → Parses tokens (Err r) → IsRefusedOn scale bytes s → SameRefusal r s
+parsed_at_all scale bytes tokens r _ short h p (too_long l) = absurd (omega (arith, short, l))
+parsed_at_all scale bytes tokens r _ short h p (not_lexed a l) = absurd (ok_is_err (one_lexing bytes h l))
+parsed_at_all scale bytes tokens r _ short h p (not_parsed {tokens = ts} {refusal = s} a l q) =
     parsed_once ts (Err r) (Err s) r s (subst (λ us. Parses us (Err r)) (one_list bytes tokens ts h l) p) q refl refl
-parsed_at_all bytes tokens r _ short h p (not_typed {tokens = ts} {refusal = s} a l u) =
-    swapped s r (typed_once bytes ts s r a l u (not_parsed {tokens = tokens} short h p))
-parsed_at_all bytes tokens r _ short h p (not_laid {tokens = ts} {file = file} {refusal = s} a l u e) =
-    swapped s r (laid_once bytes ts file s r a l u e (not_parsed {tokens = tokens} short h p))
-parsed_at_all bytes tokens r _ short h p (not_prepared {laid = other} {refusal = s} k q) =
-    swapped s r (prepared_once bytes other s r k q (not_parsed {tokens = tokens} short h p))
+parsed_at_all scale bytes tokens r _ short h p (not_typed {tokens = ts} {refusal = s} a l u) =
+    swapped s r (typed_once scale bytes ts s r a l u (not_parsed {tokens = tokens} short h p))
+parsed_at_all scale bytes tokens r _ short h p (not_laid {tokens = ts} {file = file} {refusal = s} a l u e) =
+    swapped s r (laid_once scale bytes ts file s r a l u e (not_parsed {tokens = tokens} short h p))
+parsed_at_all scale bytes tokens r _ short h p (not_prepared {laid = other} {refusal = s} k q) =
+    swapped s r (prepared_once scale bytes other s r k q (not_parsed {tokens = tokens} short h p))
 
-lexed_once : (bytes : List ℕ) (r s : Refusal) → length bytes ≤ longest_source → Lexes bytes (Err r)
-    → IsRefused bytes s → SameRefusal r s
-lexed_once bytes r _ short h (too_long l) = absurd (omega (arith, short, l))
-lexed_once bytes r _ short h (not_lexed a l) = inl (from_err (one_lexing bytes h l))
-lexed_once bytes r _ short h (not_parsed a l q) = absurd (ok_is_err (one_lexing bytes l h))
-lexed_once bytes r _ short h (not_typed a l u) = absurd (ok_is_err (one_lexing bytes l h))
-lexed_once bytes r _ short h (not_laid a l u e) = absurd (ok_is_err (one_lexing bytes l h))
-lexed_once bytes r _ short h (not_prepared k q) = absurd (ok_is_err (one_lexing bytes k.lexed h))
+lexed_once : (scale : Scale) (bytes : List ℕ) (r s : Refusal) → length bytes ≤ longest_source → Lexes bytes (Err r)
+    → IsRefusedOn scale bytes s → SameRefusal r s
+lexed_once scale bytes r _ short h (too_long l) = absurd (omega (arith, short, l))
+lexed_once scale bytes r _ short h (not_lexed a l) = inl (from_err (one_lexing bytes h l))
+lexed_once scale bytes r _ short h (not_parsed a l q) = absurd (ok_is_err (one_lexing bytes l h))
+lexed_once scale bytes r _ short h (not_typed a l u) = absurd (ok_is_err (one_lexing bytes l h))
+lexed_once scale bytes r _ short h (not_laid a l u e) = absurd (ok_is_err (one_lexing bytes l h))
+lexed_once scale bytes r _ short h (not_prepared k q) = absurd (ok_is_err (one_lexing bytes k.lexed h))
 
-long_once : (bytes : List ℕ) (s : Refusal) → longest_source < length bytes → IsRefused bytes s
+long_once : (scale : Scale) (bytes : List ℕ) (s : Refusal) → longest_source < length bytes → IsRefusedOn scale bytes s
     → SameRefusal source_limit s
-long_once bytes _ h (too_long l) = inl refl
-long_once bytes _ h (not_lexed a l) = absurd (omega (arith, h, a))
-long_once bytes _ h (not_parsed a l q) = absurd (omega (arith, h, a))
-long_once bytes _ h (not_typed a l u) = absurd (omega (arith, h, a))
-long_once bytes _ h (not_laid a l u e) = absurd (omega (arith, h, a))
-long_once bytes _ h (not_prepared k q) = absurd (let short = k.short in omega (arith, h, short))
+long_once scale bytes _ h (too_long l) = inl refl
+long_once scale bytes _ h (not_lexed a l) = absurd (omega (arith, h, a))
+long_once scale bytes _ h (not_parsed a l q) = absurd (omega (arith, h, a))
+long_once scale bytes _ h (not_typed a l u) = absurd (omega (arith, h, a))
+long_once scale bytes _ h (not_laid a l u e) = absurd (omega (arith, h, a))
+long_once scale bytes _ h (not_prepared k q) = absurd (let short = k.short in omega (arith, h, short))
 
 pub one_refusal : OneRefusal
-one_refusal bytes _ s (too_long l) b = long_once bytes s l b
-one_refusal bytes _ s (not_lexed {refusal = r} a l) b = lexed_once bytes r s a l b
-one_refusal bytes _ s (not_parsed {tokens = ts} {refusal = r} a l p) b = parsed_at_all bytes ts r s a l p b
-one_refusal bytes _ s (not_typed {tokens = ts} {refusal = r} a l t) b = typed_once bytes ts r s a l t b
-one_refusal bytes _ s (not_laid {tokens = ts} {file = file} {refusal = r} a l t e) b =
-    laid_once bytes ts file r s a l t e b
-one_refusal bytes _ s (not_prepared {laid = laid} {refusal = r} k p) b = prepared_once bytes laid r s k p b
+one_refusal scale bytes _ s (too_long l) b = long_once scale bytes s l b
+one_refusal scale bytes _ s (not_lexed {refusal = r} a l) b = lexed_once scale bytes r s a l b
+one_refusal scale bytes _ s (not_parsed {tokens = ts} {refusal = r} a l p) b = parsed_at_all scale bytes ts r s a l p b
+one_refusal scale bytes _ s (not_typed {tokens = ts} {refusal = r} a l t) b = typed_once scale bytes ts r s a l t b
+one_refusal scale bytes _ s (not_laid {tokens = ts} {file = file} {refusal = r} a l t e) b =
+    laid_once scale bytes ts file r s a l t e b
+one_refusal scale bytes _ s (not_prepared {laid = laid} {refusal = r} k p) b = prepared_once scale bytes laid r s k p b

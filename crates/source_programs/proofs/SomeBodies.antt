@@ -2,6 +2,7 @@
 use Rattle.std.specs.Prelude.{◌≡◌, ℕ, ◌<◌, ℤ, List, [], ◌∷◌, length, get_or}
 use Rattle.std.proofs.Common.{refl, subst, arith}
 use Rattle.std.proofs.lemmas.List.{get_or_default}
+use Rattle.tm_laid.specs.declared.scales.Scale.{Scale}
 use Rattle.tm_laid.specs.Layouts.{LaidTree}
 use Rattle.mutex_configs.specs.flow_graph.declared.graphs.Graph.{Graph}
 use Rattle.mutex_configs.specs.declared.nodes.ConfiguredGraph.{ConfiguredGraph}
@@ -18,8 +19,8 @@ some_of : {A : Type 0} (as' : List A) → 0 < length as' → A
 some_of [] lt = absurd (omega (arith, lt))
 some_of (a ∷ as') lt = a
 
-module _ (layout : LaidTree) (graphs : List Graph) (configured : List ConfiguredGraph)
-    (are : AreConfigured graphs configured) (thresholds : List ℤ) where
+module _ (scale : Scale) (layout : LaidTree) (graphs : List Graph) (configured : List ConfiguredGraph)
+    (are : AreConfigured scale graphs configured) (thresholds : List ℤ) where
   -- the body with this number
   record IsAt (t : ℕ) (b : Body) : Type 0 where
     laid : b.laid ≡ read_layout layout
@@ -30,7 +31,7 @@ module _ (layout : LaidTree) (graphs : List Graph) (configured : List Configured
 
   body_for : (t : ℕ) → t < length graphs → (b : Body) × IsAt t b
   body_for t lt =
-      let many = as_many graphs configured are in
+      let many = as_many scale graphs configured are in
       let within : t < length configured = omega (arith, lt, many) in
       let some : Graph = some_of graphs (omega (arith, lt)) in
       let other : ConfiguredGraph = some_of configured (omega (arith, within)) in

@@ -9,6 +9,7 @@ use Rattle.tm_terms.specs.Spelling.{Lexes}
 use Rattle.tm_trees.specs.FileTrees.{ItemTree}
 use Rattle.tm_trees.specs.Parsing.{Parses}
 use Rattle.tm_laid.specs.tm_typed.Files.{TypedFileTree, IsTyped}
+use Rattle.tm_laid.specs.declared.scales.Scale.{Scale}
 use Rattle.tm_laid.specs.Layouts.{LaidTree, beyond, laid_out}
 use Rattle.program_graphs.specs.Prepared.{Graphed}
 use Rattle.configured_laws.specs.Laws.{IsProgram, IsBeyond}
@@ -17,24 +18,25 @@ use Rattle.program_laws.specs.program_equations.Programs.{ProgramBodies}
 use Rattle.c_lexer.proofs.TotalLemmas.{some_answer as some_lexing}
 use Rattle.c_parser.proofs.FileAnswers.{answered as some_file}
 use Rattle.c_typing.proofs.low.typing_laws.SomeAnswer.{some_answer as some_typing}
-use Rattle.source_programs.specs.LaidSources.{longest_source, main_in, TypesAs, IsLaidSource}
-use Rattle.source_programs.specs.Sources.{IsAccepted, source_limit}
-use Rattle.source_programs.specs.Sources.{IsRefused, too_long, not_lexed, not_parsed, not_typed, not_laid, not_prepared}
+use Rattle.source_programs.specs.LaidSources.{longest_source, main_in, TypesAs, IsLaidSourceOn}
+use Rattle.source_programs.specs.Sources.{IsAcceptedOn, source_limit, IsRefusedOn}
+use Rattle.source_programs.specs.Sources.{too_long, not_lexed, not_parsed, not_typed, not_laid, not_prepared}
 use Rattle.source_programs.specs.Laws.{AreInReach, HasProgram, SomeSource}
 use Rattle.source_programs.proofs.SomeThresholds.{some_thresholds}
 use Rattle.source_programs.proofs.SomeBodies.{some_bodies}
 
-abbrev Answered : List ℕ → Type 0
-Answered bytes = HasProgram bytes ⊎ ((r : Refusal) × IsRefused bytes r)
+abbrev Answered : Scale → List ℕ → Type 0
+Answered scale bytes = HasProgram scale bytes ⊎ ((r : Refusal) × IsRefusedOn scale bytes r)
 
 -- ## Layouts
 
-module _ (bytes : List ℕ) (laid : LaidTree) (source : IsLaidSource bytes laid) where
+module _ (scale : Scale) (bytes : List ℕ) (laid : LaidTree) (source : IsLaidSourceOn scale bytes laid) where
   -- a prepared source is accepted
-  accepted : (p : Graphed) → IsProgram laid p → AreInReach laid.file.lengths → (q : ProgramBodies) × IsAccepted [] bytes q
+  accepted : (p : Graphed) → IsProgram scale laid p → AreInReach laid.file.lengths
+      → (q : ProgramBodies) × IsAcceptedOn scale [] bytes q
   accepted p prepared short =
       let marks = some_thresholds laid.file.lengths laid.file.constants laid.file.labels short in
-      let bodies = some_bodies laid p.graphs p.configured prepared.1.0 marks.0 in (
+      let bodies = some_bodies scale laid p.graphs p.configured prepared.1.0 marks.0 in (
         bodies.0,
         record {
           laid = laid;
@@ -47,8 +49,8 @@ module _ (bytes : List ℕ) (laid : LaidTree) (source : IsLaidSource bytes laid)
         },
       )
 
-  of_layout : ((p : Graphed) × IsProgram laid p)
-      ⊎ (IsBeyond laid (beyond Limits.Nodes) ⊎ IsBeyond laid (beyond Limits.Work)) → Answered bytes
+  of_layout : ((p : Graphed) × IsProgram scale laid p)
+      ⊎ (IsBeyond scale laid (beyond Limits.Nodes) ⊎ IsBeyond scale laid (beyond Limits.Work)) → Answered scale bytes
   of_layout (inl (p, prepared)) = inl (record {
     laid = laid;
     source = source;
@@ -61,12 +63,12 @@ module _ (bytes : List ℕ) (laid : LaidTree) (source : IsLaidSource bytes laid)
 
 -- ## Sources
 
-module _ (bytes : List ℕ) (short : length bytes ≤ longest_source) where
+module _ (scale : Scale) (bytes : List ℕ) (short : length bytes ≤ longest_source) where
   module _ (tokens : List Token) (lexed : Lexes bytes (Ok tokens)) where
     of_file : (file : TypedFileTree) → TypesAs (main_in bytes tokens) tokens (Ok file)
-        → (answer : Result LaidTree Refusal) → laid_out file ≡ answer → Answered bytes
+        → (answer : Result LaidTree Refusal) → laid_out scale file ≡ answer → Answered scale bytes
     of_file file t (Ok laid) e =
-        let source : IsLaidSource bytes laid = record {
+        let source : IsLaidSourceOn scale bytes laid = record {
           short = short;
           tokens = tokens;
           lexed = lexed;
@@ -74,37 +76,38 @@ module _ (bytes : List ℕ) (short : length bytes ≤ longest_source) where
           typed = t;
           answered = e;
         } in
-        of_layout bytes laid source (some_program laid (record {
+        of_layout scale bytes laid source (some_program scale laid (record {
           main = main_in bytes tokens;
           items = t.items;
           file = file;
           typed = t.typed;
+          scale = scale;
           answered = e;
         }))
     of_file file t (Err refusal) e = inr (refusal, not_laid short lexed t e)
 
     of_typed : (items : List ItemTree) → Parses tokens (Ok items) → (answer : Result TypedFileTree Refusal)
-        → IsTyped (main_in bytes tokens) items answer → Answered bytes
+        → IsTyped (main_in bytes tokens) items answer → Answered scale bytes
     of_typed items p (Ok file) t =
-        of_file file (record { items = items; parsed = p; typed = t }) (laid_out file) refl
+        of_file file (record { items = items; parsed = p; typed = t }) (laid_out scale file) refl
     of_typed items p (Err refusal) t =
         inr (refusal, not_typed short lexed (record { items = items; parsed = p; typed = t }))
 
-    of_parsed : (answer : Result (List ItemTree) Refusal) → Parses tokens answer → Answered bytes
+    of_parsed : (answer : Result (List ItemTree) Refusal) → Parses tokens answer → Answered scale bytes
     of_parsed (Ok items) p =
         let t = some_typing (main_in bytes tokens) items in
         of_typed items p t.0 t.1
     of_parsed (Err refusal) p = inr (refusal, not_parsed short lexed p)
 
-  of_lexed : (answer : Result (List Token) Refusal) → Lexes bytes answer → Answered bytes
+  of_lexed : (answer : Result (List Token) Refusal) → Lexes bytes answer → Answered scale bytes
   of_lexed (Ok tokens) lexed =
       let p = some_file tokens in
       of_parsed tokens lexed p.0 p.1
   of_lexed (Err refusal) lexed = inr (refusal, not_lexed short lexed)
 
 pub some_source : SomeSource
-some_source bytes = by_length (cases_lt longest_source (length bytes))
+some_source scale bytes = by_length (cases_lt longest_source (length bytes))
   where
-    by_length : (longest_source < length bytes) ⊎ (length bytes ≤ longest_source) → Answered bytes
+    by_length : (longest_source < length bytes) ⊎ (length bytes ≤ longest_source) → Answered scale bytes
     by_length (inl long) = inr (source_limit, too_long long)
-    by_length (inr short) = of_lexed bytes short (some_lexing bytes).0 (some_lexing bytes).1
+    by_length (inr short) = of_lexed scale bytes short (some_lexing bytes).0 (some_lexing bytes).1

@@ -18,6 +18,7 @@ use Rattle.tm_laid.specs.tm_typed.declared.files.TypedFile.{TypedFile}
 use Rattle.tm_laid.specs.tm_typed.Files.{TypedFileTree, IsTyped}
 use Rattle.tm_laid.specs.tm_typed.TypedFiles.{typed_file_tree}
 use Rattle.tm_laid.specs.declared.layouts.Laid.{Laid}
+use Rattle.tm_laid.specs.declared.scales.Scale.{Scale}
 use Rattle.tm_laid.specs.Layable.{IsLayable}
 use Rattle.tm_laid.specs.Layouts.{LaidTree, laid_tree, layout_of, unless_beyond, laid_out}
 use Rattle.tm_laid.specs.Layouts.{answer_of as laid_answer}
@@ -30,28 +31,28 @@ use Rattle.mutex_configs.specs.declared.programs.Program.{Program}
 use Rattle.program_graphs.specs.Prepared.{answer_of, IsPrepared}
 use Rattle.thresholds.specs.Thresholds.{numbers_of, AreThresholds}
 use Rattle.program_laws.specs.program_equations.Programs.{ProgramBodies, IsProgramOf}
-use Rattle.source_programs.specs.LaidSources.{longest_source, main_in, TypesAs, IsLaidSource}
-use Rattle.source_programs.specs.Sources.{IsAccepted, IsRefused}
+use Rattle.source_programs.specs.LaidSources.{longest_source, main_in, TypesAs, IsLaidSourceOn}
+use Rattle.source_programs.specs.Sources.{IsAcceptedOn, IsRefusedOn}
 use Rattle.source_programs.specs.Sources.{IfRefused, source_limit}
 use Rattle.source_programs.specs.Sources.{too_long, not_lexed, not_parsed, not_typed, not_laid, not_prepared}
 
 -- ## Refusals of stations
 
 -- a source that is too long
-pub long_refused : (bytes : List ℕ) → longest_source < length bytes → (fail : Fail) → fail ≡ Fails.Refused source_limit
-    → IfRefused {A = Program} (Err fail) (IsRefused bytes)
-long_refused bytes long fail e =
-    subst (λ (f : Fail). IfRefused {A = Program} (Err f) (IsRefused bytes)) (sym e) (too_long long)
+pub long_refused : (scale : Scale) (bytes : List ℕ) → longest_source < length bytes → (fail : Fail)
+    → fail ≡ Fails.Refused source_limit → IfRefused {A = Program} (Err fail) (IsRefusedOn scale bytes)
+long_refused scale bytes long fail e =
+    subst (λ (f : Fail). IfRefused {A = Program} (Err f) (IsRefusedOn scale bytes)) (sym e) (too_long long)
 
-module _ (bytes : List ℕ) (short : length bytes ≤ longest_source) where
+module _ (scale : Scale) (bytes : List ℕ) (short : length bytes ≤ longest_source) where
   pub lexing_refused : (fail : Fail) → IfSome (lexed_answer {A = Global} (Err fail)) (λ answer. Lexes bytes answer)
-      → IfRefused {A = Program} (Err fail) (IsRefused bytes)
+      → IfRefused {A = Program} (Err fail) (IsRefusedOn scale bytes)
   lexing_refused (Fails.Refused r) told = not_lexed short told
   lexing_refused Fails.NoMemory told = tt
 
   module _ (tokens : List Token) (lexed : Lexes bytes (Ok tokens)) where
     pub parsing_refused : (fail : Fail) → IfSome (parsed_answer (Err fail)) (λ answer. Parses tokens answer)
-        → IfRefused {A = Program} (Err fail) (IsRefused bytes)
+        → IfRefused {A = Program} (Err fail) (IsRefusedOn scale bytes)
     parsing_refused (Fails.Refused r) told = not_parsed short lexed told
     parsing_refused Fails.NoMemory told = tt
 
@@ -66,17 +67,17 @@ module _ (bytes : List ℕ) (short : length bytes ≤ longest_source) where
       }
 
       pub typing_refused : (fail : Fail) → IfSome (typed_answer (Err fail)) (λ answer. IsTyped main items answer)
-          → IfRefused {A = Program} (Err fail) (IsRefused bytes)
+          → IfRefused {A = Program} (Err fail) (IsRefusedOn scale bytes)
       typing_refused (Fails.Refused r) told = not_typed short lexed (types_as (Err r) told)
       typing_refused Fails.NoMemory told = tt
 
       module _ (file : TypedFileTree) (typed : IsTyped main items (Ok file)) where
-        pub layout_refused : (fail : Fail) → IfSome (laid_answer (Err fail)) (λ answer. laid_out file ≡ answer)
-            → IfRefused {A = Program} (Err fail) (IsRefused bytes)
+        pub layout_refused : (fail : Fail) → IfSome (laid_answer (Err fail)) (λ answer. laid_out scale file ≡ answer)
+            → IfRefused {A = Program} (Err fail) (IsRefusedOn scale bytes)
         layout_refused (Fails.Refused r) told = not_laid short lexed (types_as (Ok file) typed) told
         layout_refused Fails.NoMemory told = tt
 
-        pub laid_source : (laid : LaidTree) → laid_out file ≡ Ok laid → IsLaidSource bytes laid
+        pub laid_source : (laid : LaidTree) → laid_out scale file ≡ Ok laid → IsLaidSourceOn scale bytes laid
         laid_source laid e = record {
           short = short;
           tokens = tokens;
@@ -100,10 +101,10 @@ layable main items t e o =
     (subst (λ (n : ℕ). All (λ f. f < n) t.order.items) (sym same) o.within)
     (λ f h. o.whole f (subst (λ (n : ℕ). f < n) same h))
 
-pub laid_file : (main : Option Name) (items : List ItemTree) (file : TypedFileTree) (laid : LaidTree)
-    → IsTyped main items (Ok file) → laid_out file ≡ Ok laid → IsLaidFile laid
-laid_file main items file laid typed e =
-    record { main = main; items = items; file = file; typed = typed; answered = e }
+pub laid_file : (scale : Scale) (main : Option Name) (items : List ItemTree) (file : TypedFileTree) (laid : LaidTree)
+    → IsTyped main items (Ok file) → laid_out scale file ≡ Ok laid → IsLaidFile laid
+laid_file scale main items file laid typed e =
+    record { main = main; items = items; file = file; typed = typed; scale = scale; answered = e }
 
 -- the file of the layout of a file is that file
 file_of_layout : (file : TypedFileTree) → (let l = layout_of file in l.file) ≡ file
@@ -113,38 +114,47 @@ file_of_layout file = refl
 ok_same : {A : Type 0} {x y : A} → (let a : Result A Refusal = Ok x in let b : Result A Refusal = Ok y in a ≡ b) → x ≡ y
 ok_same e = cc
 
-err_is_ok : {A : Type 0} {x : A} {r : Refusal}
+pub err_is_ok : {A : Type 0} {x : A} {r : Refusal}
     → (let a : Result A Refusal = Err r in let b : Result A Refusal = Ok x in a ≡ b) → ⊥
 err_is_ok e = cc
 
-file_kept_by : (file : TypedFileTree) (limit : Option Limit) (laid : LaidTree) → unless_beyond file limit ≡ Ok laid
-    → laid.file ≡ file
-file_kept_by file None laid e = ap (λ (l : LaidTree). l.file) (sym (ok_same e)) ∙ file_of_layout file
-file_kept_by file (Some limit) laid e = absurd (err_is_ok e)
+layout_kept_by : (file : TypedFileTree) (limit : Option Limit) (laid : LaidTree) → unless_beyond file limit ≡ Ok laid
+    → laid ≡ layout_of file
+layout_kept_by file None laid e = sym (ok_same e)
+layout_kept_by file (Some limit) laid e = absurd (err_is_ok e)
 
-pub file_kept : (file : TypedFileTree) (laid : LaidTree) → laid_out file ≡ Ok laid → laid.file ≡ file
-file_kept file laid e = file_kept_by file _ laid e
+-- what is laid out on a scale is the layout of its file
+pub layout_kept : (scale : Scale) (file : TypedFileTree) (laid : LaidTree) → laid_out scale file ≡ Ok laid
+    → laid ≡ layout_of file
+layout_kept scale file laid e = layout_kept_by file _ laid e
+
+pub file_kept : (scale : Scale) (file : TypedFileTree) (laid : LaidTree) → laid_out scale file ≡ Ok laid
+    → laid.file ≡ file
+file_kept scale file laid e =
+    ap (λ (l : LaidTree). l.file) (layout_kept scale file laid e) ∙ file_of_layout file
 
 -- a layout keeps the order of its file
-pub order_kept : (t : TypedFile) (laid : Laid) → laid_out (typed_file_tree t) ≡ Ok (laid_tree laid)
-    → laid.file.order.items ≡ t.order.items → IsWholeOrder (lists t.calls.items) t.order.items
+pub order_kept : (scale : Scale) (t : TypedFile) (laid : Laid)
+    → laid_out scale (typed_file_tree t) ≡ Ok (laid_tree laid) → laid.file.order.items ≡ t.order.items
+    → IsWholeOrder (lists t.calls.items) t.order.items
     → IsWholeOrder (lists laid.file.calls.items) laid.file.order.items
-order_kept t laid e f o =
-    let same : typed_file_tree laid.file ≡ typed_file_tree t = file_kept (typed_file_tree t) (laid_tree laid) e in
+order_kept scale t laid e f o =
+    let same : typed_file_tree laid.file ≡ typed_file_tree t = file_kept scale (typed_file_tree t) (laid_tree laid) e in
     let calls : lists laid.file.calls.items ≡ lists t.calls.items = ap (λ (file : TypedFileTree). file.calls) same in
     subst (λ (order : List ℕ). IsWholeOrder (lists laid.file.calls.items) order) (sym f)
     (subst (λ (graph : List (List ℕ)). IsWholeOrder graph t.order.items) (sym calls) o)
 
 -- ## Programs
 
-module _ (bytes : List ℕ) (laid : Laid) (source : IsLaidSource bytes (laid_tree laid)) where
-  pub program_accepted : (given : List ℕ) (result : Result Program Fail) → IsPrepared (laid_tree laid) (answer_of result)
+module _ (scale : Scale) (bytes : List ℕ) (laid : Laid) (source : IsLaidSourceOn scale bytes (laid_tree laid)) where
+  pub program_accepted : (given : List ℕ) (result : Result Program Fail)
+      → IsPrepared scale (laid_tree laid) (answer_of result)
       → IfOk result (λ p. laid_tree p.laid ≡ laid_tree laid)
       → IfOk result (λ p. AreThresholds
       (numbers_of laid.file.lengths.items laid.file.constants.items laid.file.labels.items given) p.marks)
       → IfOk result (λ program. (p : ProgramBodies)
       → IsProgramOf (laid_tree program.laid) program.graphs.graphs.items program.configured.items program.marks p
-      → IsAccepted given bytes p)
+      → IsAcceptedOn scale given bytes p)
   program_accepted given (Ok program) prepared same marks = λ p of. record {
     laid = laid_tree laid;
     source = source;
@@ -157,8 +167,8 @@ module _ (bytes : List ℕ) (laid : Laid) (source : IsLaidSource bytes (laid_tre
   }
   program_accepted given (Err fail) prepared same marks = tt
 
-  pub program_refused : (result : Result Program Fail) → IsPrepared (laid_tree laid) (answer_of result)
-      → IfRefused result (IsRefused bytes)
+  pub program_refused : (result : Result Program Fail) → IsPrepared scale (laid_tree laid) (answer_of result)
+      → IfRefused result (IsRefusedOn scale bytes)
   program_refused (Ok program) prepared = tt
   program_refused (Err (Fails.Refused r)) prepared = not_prepared source prepared
   program_refused (Err Fails.NoMemory) prepared = tt
@@ -171,13 +181,15 @@ objects_kept laid (Ok p) same few = subst (λ (l : LaidTree). length l.objects �
 objects_kept laid (Err f) same few = tt
 
 -- and it is that of the source, with its graphs
-pub source_kept : (bytes : List ℕ) (laid : Laid) → IsLaidSource bytes (laid_tree laid) → (result : Result Program Fail)
-    → IfOk result (λ p. laid_tree p.laid ≡ laid_tree laid) → IfOk result (λ p. IsLaidSource bytes (laid_tree p.laid))
-source_kept bytes laid source (Ok p) same = subst (λ (l : LaidTree). IsLaidSource bytes l) (sym same) source
-source_kept bytes laid source (Err f) same = tt
+pub source_kept : (scale : Scale) (bytes : List ℕ) (laid : Laid) → IsLaidSourceOn scale bytes (laid_tree laid)
+    → (result : Result Program Fail) → IfOk result (λ p. laid_tree p.laid ≡ laid_tree laid)
+    → IfOk result (λ p. IsLaidSourceOn scale bytes (laid_tree p.laid))
+source_kept scale bytes laid source (Ok p) same = subst (λ (l : LaidTree). IsLaidSourceOn scale bytes l) (sym same) source
+source_kept scale bytes laid source (Err f) same = tt
 
-pub prepared_kept : (laid : Laid) (result : Result Program Fail) → IsPrepared (laid_tree laid) (answer_of result)
-    → IfOk result (λ p. laid_tree p.laid ≡ laid_tree laid)
-    → IfOk result (λ p. IsPrepared (laid_tree p.laid) (answer_of (Ok p)))
-prepared_kept laid (Ok p) prepared same = subst (λ (l : LaidTree). IsPrepared l (answer_of (Ok p))) (sym same) prepared
-prepared_kept laid (Err f) prepared same = tt
+pub prepared_kept : (scale : Scale) (laid : Laid) (result : Result Program Fail)
+    → IsPrepared scale (laid_tree laid) (answer_of result) → IfOk result (λ p. laid_tree p.laid ≡ laid_tree laid)
+    → IfOk result (λ p. IsPrepared scale (laid_tree p.laid) (answer_of (Ok p)))
+prepared_kept scale laid (Ok p) prepared same =
+    subst (λ (l : LaidTree). IsPrepared scale l (answer_of (Ok p))) (sym same) prepared
+prepared_kept scale laid (Err f) prepared same = tt

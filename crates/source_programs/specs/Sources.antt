@@ -20,8 +20,8 @@ use Rattle.program_laws.specs.program_equations.Programs.{ProgramBodies, IsProgr
 -- ## Sources that are accepted
 
 -- With these numbers, given by a user, these bytes are a source of this program: that of a layout, of the graphs of its
--- bodies with their configured graphs, within the limits of a scale, and of the thresholds that its text and the numbers
--- give.
+-- bodies with their configured graphs, within the limits of a scale, and of the thresholds that its text and the
+-- numbers give.
 pub record IsAcceptedOn (scale : Scale) (given bytes : List ℕ) (p : ProgramBodies) : Type 0 where
   pub laid : LaidTree
   pub source : IsLaidSourceOn scale bytes laid

@@ -9,8 +9,8 @@ pub fn programs_are_one()
 {}
 
 /// A source has one answer on each scale: it is never accepted and refused, it is one program for each list of given
-/// numbers, the same on both scales, or it has one refusal, but for the place of a syntax error. The large scale accepts
-/// what the limits of the commands accept.
+/// numbers, the same on both scales, or it has one refusal, but for the place of a syntax error. The large scale
+/// accepts what the limits of the commands accept.
 pub fn one_source()
     ensures apart { NoneIsBoth }
     ensures program { OneProgram }

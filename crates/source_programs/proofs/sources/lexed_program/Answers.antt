@@ -3,4 +3,4 @@ use Rattle.source_programs.proofs.sources.lexed_program.Goals as goal
 
 pub returns-in-Err-clause-refused : goal.returns-in-Err-clause-refused
 returns-in-Err-clause-refused c =
-    lexing_refused c.args.bytes.now c.requires c.in-Err.fail c.in-Err.ensures.told
+    lexing_refused c.args.scale c.args.bytes.now c.requires c.in-Err.fail c.in-Err.ensures.told
