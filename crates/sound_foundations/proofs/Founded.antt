@@ -5,6 +5,7 @@ use Rattle.operation_laws.specs.tm_terms.declared.refusals.Limit.TheVariants as 
 use Rattle.operation_laws.specs.tm_terms.declared.tokens.Name.{Name}
 use Rattle.operation_laws.specs.tm_trees.FileTrees.{ItemTree}
 use Rattle.operation_laws.specs.tm_typed.Files.{TypedFileTree, IsTyped}
+use Rattle.operation_laws.specs.tm_laid.declared.scales.Scale.TheVariants as Scales
 use Rattle.operation_laws.specs.tm_laid.Layouts.{LaidTree, layout_of, is_exceeded}
 use Rattle.operation_laws.specs.cell_layout.Laws.{GoesOnBy}
 use Rattle.operation_laws.proofs.low.cell_layout.PathCalls.{calls_lead}
@@ -23,7 +24,7 @@ use Rattle.sound_foundations.proofs.FittingSteps.{OpFits}
 use Rattle.sound_foundations.proofs.FittingGraphs.{IsKnown, all_fit}
 
 layout_known : (main : Option Name) (items : List ItemTree) (file : TypedFileTree) → IsTyped main items (Ok file)
-    → is_exceeded file Limits.Cells ≡ false → (body : ℕ) → body < length (layout_of file).bodies
+    → is_exceeded Scales.Large file Limits.Cells ≡ false → (body : ℕ) → body < length (layout_of file).bodies
     → IsKnown (layout_of file) body
 unfolding layout_of
 layout_known main items file typed within body lt =
@@ -42,7 +43,7 @@ layout_known main items file typed within body lt =
 
 known : (laid : LaidTree) → IsLaidFile laid → (body : ℕ) → body < length laid.bodies → IsKnown laid body
 known laid h body =
-    subst (λ (x : LaidTree). body < length x.bodies → IsKnown x body) (is_layout h.file laid h.answered)
+    subst (λ (x : LaidTree). body < length x.bodies → IsKnown x body) (is_layout h.scale h.file laid h.answered)
     (layout_known h.main h.items h.file h.typed (few_cells laid h) body)
 
 pub owns_cleared : (laid : LaidTree) → IsLaidFile laid → OwnsCleared laid

@@ -94,7 +94,7 @@ objects_among file o lt =
 
 module _ (laid : LaidTree) (is : IsLaidFile laid) where
   pub limited : IsLimited is.file laid
-  limited = limits_kept is.file laid is.answered
+  limited = limits_kept is.scale is.file laid is.answered
 
   -- what holds of the layout of the file holds of this one
   pub of_layout : (P : LaidTree → Type 0) → P (layout_of is.file) → P laid
@@ -132,7 +132,7 @@ module _ (laid : LaidTree) (is : IsLaidFile laid) where
   pub has_layout : length laid.objects ≤ 2 ^ 32 → (order : List ℕ) × HasLayout is.file order laid
   has_layout few =
       let order = file_layable is.main is.items is.file is.typed in
-      (order.0, record { layable = order.1; is = is.answered; few = few })
+      (order.0, record { layable = order.1; scale = is.scale; is = is.answered; few = few })
 
   pub is_proper : length laid.objects ≤ 2 ^ 32 → (body : ℕ) → body < length laid.bodies → (answers : List Answer)
       → Fit laid (next laid body) answers → IsProper laid body (next laid body answers)
