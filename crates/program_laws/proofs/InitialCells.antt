@@ -19,6 +19,7 @@ use Rattle.layout_laws.specs.tm_laid.declared.objects.DeclaredObject.{DeclaredOb
 use Rattle.layout_laws.specs.tm_laid.declared.objects.LaidObject.{LaidObject}
 use Rattle.layout_laws.specs.tm_laid.declared.objects.Initial.{Initial}
 use Rattle.layout_laws.specs.tm_laid.declared.cells.LaidCell.{LaidCell}
+use Rattle.layout_laws.specs.tm_laid.declared.scales.Scale.TheVariants as Scales
 use Rattle.layout_laws.specs.tm_laid.TypeCells.{TypeCell, type_cells, type_depth, cells_of_type, abstract_cells_of_type}
 use Rattle.layout_laws.specs.tm_laid.Objects.{static_objects, path_objects, static_numbers, objects_from, laid_cell}
 use Rattle.layout_laws.specs.tm_laid.Objects.{cells_from}
@@ -107,7 +108,7 @@ module _ (laid : LaidTree) where
 -- ## Objects of static storage
 
 module _ (file : TypedFileTree) (order : List ℕ) (h : IsLayable file order)
-    (within : is_exceeded file Limits.Cells ≡ false) where
+    (within : is_exceeded Scales.Large file Limits.Cells ≡ false) where
   abbrev L : LaidTree
   L = layout_along file (paths_of file)
 
@@ -259,8 +260,8 @@ module _ (file : TypedFileTree) (order : List ℕ) (h : IsLayable file order)
       fit_at L L.initial L.cells (all_begin file.statics (path_objects file 0 (paths_of file)) 0 0 0 f total) cell lt
 
 -- an abstract cell has the type of each cell for which it stands
-abstract_scalar : (file : TypedFileTree) (order : List ℕ) → IsLayable file order → is_exceeded file Limits.Cells ≡ false
-    → (cell : ℕ) → cell < length (layout_of file).cells
+abstract_scalar : (file : TypedFileTree) (order : List ℕ) → IsLayable file order
+    → is_exceeded Scales.Large file Limits.Cells ≡ false → (cell : ℕ) → cell < length (layout_of file).cells
     → (let L = layout_of file in (abstract_at L (cell_at L cell).abstract_cell).scalar ≡ (cell_at L cell).scalar)
 unfolding layout_of
 abstract_scalar file order h within cell lt =
@@ -271,7 +272,7 @@ abstract_scalar file order h within cell lt =
     (f.is ∙ (let same : 0 + cell ≡ cell = omega arith in same)) c.scalar
 
 pub initial_fits : (file : TypedFileTree) (order : List ℕ) → IsLayable file order
-    → is_exceeded file Limits.Cells ≡ false → AreFilled file → (cell : ℕ) → cell < length (layout_of file).initial
+    → is_exceeded Scales.Large file Limits.Cells ≡ false → AreFilled file → (cell : ℕ) → cell < length (layout_of file).initial
     → (let L = layout_of file in
     IsOfType L (abstract_at L (cell_at L cell).abstract_cell).scalar (initial_at L cell))
 unfolding layout_of
