@@ -9,6 +9,7 @@ use Rattle.cmd_words.specs.declared.commands.DemoWords.{DemoWords}
 use Rattle.big_source.specs.GeneratedSources.{source_text}
 use Rattle.tm_terms.specs.declared.alarms.Alarm.{Alarm}
 use Rattle.tm_terms.specs.declared.refusals.Refusal.{Refusal}
+use Rattle.worker_solutions.specs.tm_laid.declared.scales.Scale.TheVariants as Scales
 use Rattle.worker_solutions.specs.program_equations.Programs.{ProgramBodies}
 use Rattle.source_replays.specs.source_programs.Sources.{IsAccepted, IsRefused}
 use Rattle.source_replays.specs.source_programs.LaidSources.{longest_source}
@@ -266,7 +267,7 @@ told_bytes (Some b) known bytes e t = let f : b ≡ known = cc in sym f ∙ t
 accepted_comes : (w : AnalyseWords) (bytes : List ℕ) (p : ProgramBodies) → IsAccepted w.thresholds bytes p → (status : Status) (text : List ℕ) → HasAnswer w bytes status text → IsReported status
 accepted_comes w bytes p a NoAlarm text h = inl refl
 accepted_comes w bytes p a Alarms text h = inr refl
-accepted_comes w bytes p a Refused text h = absurd (none_is_both w.thresholds bytes p h.0 a h.1)
+accepted_comes w bytes p a Refused text h = absurd (none_is_both Scales.Usual w.thresholds bytes p h.0 a h.1)
 accepted_comes w bytes p a Usage text h = absurd h
 accepted_comes w bytes p a ReadFault text h = absurd h
 accepted_comes w bytes p a WriteFault text h = absurd h
@@ -275,7 +276,7 @@ accepted_comes w bytes p a NoMemory text h = absurd h
 none_reported : (w : AnalyseWords) (bytes : List ℕ) (refusal : Refusal) → IsRefused bytes refusal → (report : List Alarm)
     (text : List ℕ) → WritesReport w bytes report text → ⊥
 none_reported w bytes refusal r report text h =
-    let reports = h.reports in none_is_both w.thresholds bytes reports.program refusal reports.accepted r
+    let reports = h.reports in none_is_both Scales.Usual w.thresholds bytes reports.program refusal reports.accepted r
 
 refused_comes : (w : AnalyseWords) (bytes : List ℕ) (refusal : Refusal) → IsRefused bytes refusal → (status : Status) (text : List ℕ) → HasAnswer w bytes status text → status ≡ Refused
 refused_comes w bytes refusal r NoAlarm text h = absurd (none_reported w bytes refusal r [] text h)
@@ -291,7 +292,7 @@ summary_comes : (source : List ℕ) (p : ProgramBodies) → IsAccepted [] source
     → HasSummary source status text → IsReported status
 summary_comes source p a NoAlarm text h = inl refl
 summary_comes source p a Alarms text h = inr refl
-summary_comes source p a Refused text h = absurd (none_is_both [] source p h.0 a h.1)
+summary_comes source p a Refused text h = absurd (none_is_both Scales.Usual [] source p h.0 a h.1)
 summary_comes source p a Usage text h = absurd h
 summary_comes source p a ReadFault text h = absurd h
 summary_comes source p a WriteFault text h = absurd h
@@ -299,7 +300,7 @@ summary_comes source p a NoMemory text h = absurd h
 
 none_of : (source : List ℕ) (refusal : Refusal) → IsRefused source refusal → (report : List Alarm)
     → Reports [] source report → ⊥
-none_of source refusal r report h = none_is_both [] source h.program refusal h.accepted r
+none_of source refusal r report h = none_is_both Scales.Usual [] source h.program refusal h.accepted r
 
 refusal_comes : (source : List ℕ) (refusal : Refusal) → IsRefused source refusal → (status : Status) (text : List ℕ)
     → HasSummary source status text → status ≡ Refused
@@ -316,14 +317,14 @@ finding_comes : (f : Finding) (bytes : List ℕ) (p : ProgramBodies) → IsAccep
     (text : List ℕ) → HasFinding f bytes status text → IsReported status
 finding_comes f bytes p a NoAlarm text h = inl refl
 finding_comes f bytes p a Alarms text h = inr refl
-finding_comes f bytes p a Refused text h = absurd (none_is_both [] bytes p h.0 a h.1)
+finding_comes f bytes p a Refused text h = absurd (none_is_both Scales.Usual [] bytes p h.0 a h.1)
 finding_comes f bytes p a Usage text h = absurd h
 finding_comes f bytes p a ReadFault text h = absurd h
 finding_comes f bytes p a WriteFault text h = absurd h
 finding_comes f bytes p a NoMemory text h = absurd h
 
 none_solved : (bytes : List ℕ) (refusal : Refusal) → IsRefused bytes refusal → Solves bytes → ⊥
-none_solved bytes refusal r s = none_is_both [] bytes s.program refusal s.accepted r
+none_solved bytes refusal r s = none_is_both Scales.Usual [] bytes s.program refusal s.accepted r
 
 refused_finding : (f : Finding) (bytes : List ℕ) (refusal : Refusal) → IsRefused bytes refusal → (status : Status)
     (text : List ℕ) → HasFinding f bytes status text → status ≡ Refused
@@ -360,10 +361,10 @@ certificate_comes bytes a Alarms text h = absurd h
 certificate_comes bytes a Refused text h = absurd (by_case h)
   where
     by_case : IsRefusedBy bytes text ⊎ ExceedsCertificate bytes text → ⊥
-    by_case (inl r) = none_is_both [] bytes a.program r.refusal a.accepted r.refused
+    by_case (inl r) = none_is_both Scales.Usual [] bytes a.program r.refusal a.accepted r.refused
     by_case (inr e) =
         let s = e.solves in
-        let same = one_program [] bytes s.program a.program s.accepted a.accepted in
+        let same = one_program Scales.Usual Scales.Usual [] bytes s.program a.program s.accepted a.accepted in
         let short = a.short s.pair (subst (λ p. IsLeastPair p s.pair) same s.least) in
         omega (arith, short, e.long)
 certificate_comes bytes a Usage text h = absurd h
@@ -373,10 +374,10 @@ certificate_comes bytes a NoMemory text h = absurd h
 
 not_written : (bytes text : List ℕ) → IsNotCertified bytes → WritesCertificate bytes text → ⊥
 not_written bytes text (is_refused refusal r) h =
-    let s = h.solves in none_is_both [] bytes s.program refusal s.accepted r
+    let s = h.solves in none_is_both Scales.Usual [] bytes s.program refusal s.accepted r
 not_written bytes text (has_long_text a) h =
     let s = h.solves in
-    let same = one_program [] bytes s.program a.program s.accepted a.accepted in
+    let same = one_program Scales.Usual Scales.Usual [] bytes s.program a.program s.accepted a.accepted in
     let long = a.long s.pair (subst (λ p. IsLeastPair p s.pair) same s.least) in
     omega (arith, long, h.short, ap length h.is)
 

@@ -1,6 +1,7 @@
 -- Bytes have one verdict.
 use Rattle.std.proofs.Common.{◌≡◌, refl, subst, ℕ, ◌<◌, ◌≤◌, List, [], length, arith}
 use Rattle.tm_terms.specs.declared.alarms.Alarm.{Alarm}
+use Rattle.mutex_configs.specs.tm_laid.declared.scales.Scale.TheVariants as Scales
 use Rattle.program_reports.specs.program_equations.Programs.{ProgramBodies, IsProgram}
 use Rattle.program_reports.specs.program_equations.Solutions.{tables_of, IsPair}
 use Rattle.program_reports.specs.post_recheck.Pairs.{Pair, FitsPair}
@@ -96,7 +97,7 @@ module _ (p : ProgramBodies) (is : IsProgram p) (pair : Pair) (fits : FitsPair p
 module _ (bytes : List ℕ) where
   module _ (source : List ℕ) (p : ProgramBodies) (pair : Pair) (c : IsCertificate bytes source p pair) where
     is_program : IsProgram p
-    is_program = accepted_is_program [] source p c.accepted
+    is_program = accepted_is_program Scales.Usual [] source p c.accepted
 
     -- another pair of it is the same
     pairs_same : (other : List ℕ) (twin : Pair) → IsCertificate bytes other p twin → twin ≡ pair
@@ -126,10 +127,10 @@ module _ (bytes : List ℕ) where
   alike : (v w : Verdict) → Reaches bytes v → Reaches bytes w → AreAlike v w
   alike v _ h (read w source p pair c k) =
       of_certificate source p pair c (λ x. AreAlike x w)
-      (λ x g. pair_alike p (accepted_is_program [] source p c.accepted) pair c.fits x w g k) v h
+      (λ x g. pair_alike p (accepted_is_program Scales.Usual [] source p c.accepted) pair c.fits x w g k) v h
   alike _ w (read v source p pair c k) h =
       of_certificate source p pair c (λ x. AreAlike v x)
-      (λ x g. pair_alike p (accepted_is_program [] source p c.accepted) pair c.fits v x k g) w h
+      (λ x g. pair_alike p (accepted_is_program Scales.Usual [] source p c.accepted) pair c.fits v x k g) w h
   alike _ _ (long h) (long k) = tt
   alike _ _ (long h) (unsplit short none) = absurd (omega (arith, h, short))
   alike _ _ (long h) (refused source told short has k) = absurd (omega (arith, h, short))
@@ -156,4 +157,5 @@ one_verdict bytes v w h k = alike bytes v w (reaches bytes v h) (reaches bytes w
 pub solutions_are_certified : SolutionsAreCertified
 solutions_are_certified bytes source p pair c solution v h =
     of_certificate bytes source p pair c (CertifiesPair p pair)
-    (pair_certified p (accepted_is_program [] source p c.accepted) pair c.fits solution) v (reaches bytes v h)
+    (pair_certified p (accepted_is_program Scales.Usual [] source p c.accepted) pair c.fits solution) v
+    (reaches bytes v h)

@@ -2,6 +2,7 @@
 use Rattle.std.proofs.Common.{◌≡◌, ◌∙◌, refl, sym, subst, ℕ, ◌<◌, ◌≤◌, List, [], length, arith}
 use Rattle.std.specs.Prelude.{◌⊎◌}
 use Rattle.tm_terms.specs.declared.refusals.Refusal.{Refusal}
+use Rattle.mutex_configs.specs.tm_laid.declared.scales.Scale.TheVariants as Scales
 use Rattle.program_reports.specs.program_equations.Programs.{ProgramBodies, IsProgram}
 use Rattle.program_reports.specs.post_recheck.Pairs.{Pair, FitsPair}
 use Rattle.source_programs.specs.Sources.{IsAccepted, IsRefused}
@@ -56,7 +57,7 @@ module _ (bytes : List ℕ) where
       → HasSource bytes source told → HasSource bytes other more → IsAccepted [] source p → IsRefused other r → ⊥
   both source told other more p r short has with_other a refusal =
       let same = (one_source bytes source told other more short has with_other).0 in
-      none_is_both [] other p r (subst (λ s. IsAccepted [] s p) same a) refusal
+      none_is_both Scales.Usual [] other p r (subst (λ s. IsAccepted [] s p) same a) refusal
 
   -- and its program is one
   pub programs_same : (source told other more : List ℕ) (p q : ProgramBodies) → length bytes ≤ certificate_limit
@@ -64,20 +65,20 @@ module _ (bytes : List ℕ) where
       → p ≡ q
   programs_same source told other more p q short has with_other a b =
       let same = (one_source bytes source told other more short has with_other).0 in
-      one_program [] other p q (subst (λ s. IsAccepted [] s p) same a) b
+      one_program Scales.Usual Scales.Usual [] other p q (subst (λ s. IsAccepted [] s p) same a) b
 
   pub refusals_alike : (source told other more : List ℕ) (r s : Refusal) → length bytes ≤ certificate_limit
       → HasSource bytes source told → HasSource bytes other more → IsRefused source r → IsRefused other s
       → AreAlike (Refused r) (Refused s)
   refusals_alike source told other more r s short has with_other h k =
       let same = (one_source bytes source told other more short has with_other).0 in
-      one_refusal other r s (subst (λ x. IsRefused x r) same h) k
+      one_refusal Scales.Usual other r s (subst (λ x. IsRefused x r) same h) k
 
   -- ## The verdict on a certificate
 
   module _ (source : List ℕ) (p : ProgramBodies) (pair : Pair) (c : IsCertificate bytes source p pair) where
     pub is_program : IsProgram p
-    is_program = accepted_is_program [] source p c.accepted
+    is_program = accepted_is_program Scales.Usual [] source p c.accepted
 
     pub has_source : HasSource bytes source (lines_text (pair_lines pair))
     has_source = source_of_text bytes source pair c.is

@@ -1,6 +1,7 @@
 -- What the code finds of the text behind a source is a verdict on the bytes.
 use Rattle.std.proofs.Common.{◌≡◌, ℕ, ◌≤◌, ◌^◌, List, [], length}
 use Rattle.std.specs.Prelude.{Result, Ok, Err, IfOk}
+use Rattle.mutex_configs.specs.tm_laid.declared.scales.Scale.TheVariants as Scales
 use Rattle.program_reports.specs.program_equations.Programs.{ProgramBodies}
 use Rattle.program_reports.specs.post_recheck.Pairs.{Pair, FitsPair}
 use Rattle.source_programs.specs.Sources.{IsAccepted}
@@ -61,7 +62,7 @@ module _ (bytes source told : List ℕ) (short : length bytes ≤ certificate_li
     certificate = certificate pair fits e;
     solution = h.0;
     exact = h.1;
-    lists = lists_all [] source p a few pair.tables pair.store h.0 report.alarms.items h.1;
+    lists = lists_all Scales.Usual [] source p a few pair.tables pair.store h.0 report.alarms.items h.1;
   }
 
   -- what is told is the one text behind the source

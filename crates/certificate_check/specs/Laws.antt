@@ -1,13 +1,14 @@
 -- What is proved of certificates.
 use Rattle.std.specs.Prelude.{◌≡◌, ◌⊎◌, ℕ, ◌≤◌, ◌^◌, List, [], length, Option}
 use Rattle.tm_terms.specs.declared.alarms.Alarm.{Alarm}
+use Rattle.mutex_configs.specs.tm_laid.declared.scales.Scale.{Scale}
 use Rattle.program_reports.specs.interfere_set.Stores.{Interferences}
 use Rattle.program_reports.specs.transfer_rows.StateForms.{State}
 use Rattle.program_reports.specs.program_equations.Programs.{ProgramBodies}
 use Rattle.program_reports.specs.program_equations.Solutions.{tables_of, IsPair}
 use Rattle.program_reports.specs.post_recheck.Pairs.{Pair}
 use Rattle.program_reports.specs.Reports.{IsReport}
-use Rattle.source_programs.specs.Sources.{IsAccepted}
+use Rattle.source_programs.specs.Sources.{IsAcceptedOn}
 use Rattle.source_programs.specs.Laws.{AreSyntaxErrors}
 use Rattle.sound_core.specs.Soundness.{ListsAll}
 use Rattle.certificate_check.specs.Certificates.{IsCertificate}
@@ -54,9 +55,9 @@ CertificatesAreTested =
     (bytes source : List ℕ) (p : ProgramBodies) (pair : Pair) → IsCertificate bytes source p pair → (v : Verdict)
     → IsVerdict bytes v → TestsPair v
 
--- the report of a solution of the program of a source lists each error that occurs in a run of the source
+-- on each scale the report of a solution of the program of a source lists each error that occurs in a run of the source
 abbrev pub ReportsListAll : Type 0
 ReportsListAll =
-    (given bytes : List ℕ) (p : ProgramBodies) (a : IsAccepted given bytes p) → length a.laid.objects ≤ 2 ^ 32
-    → (tables : List (List (Option State))) (store : Interferences) → IsPair p tables store → (report : List Alarm)
-    → IsReport p (tables_of tables) report → ListsAll a.laid report
+    (scale : Scale) (given bytes : List ℕ) (p : ProgramBodies) (a : IsAcceptedOn scale given bytes p)
+    → length a.laid.objects ≤ 2 ^ 32 → (tables : List (List (Option State))) (store : Interferences)
+    → IsPair p tables store → (report : List Alarm) → IsReport p (tables_of tables) report → ListsAll a.laid report

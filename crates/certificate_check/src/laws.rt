@@ -15,7 +15,8 @@ pub fn solutions_are_certified()
     ensures certified { SolutionsAreCertified }
 {}
 
-/// The report of any solution of the program of a source lists each error that occurs in an allowed run of the source.
+/// The report of any solution of the program of a source, on whatever scale that is accepted, lists each error that
+/// occurs in an allowed run of the source.
 pub fn reports_list_all()
     ensures { ReportsListAll }
 {}

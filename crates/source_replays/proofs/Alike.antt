@@ -2,6 +2,7 @@
 use Rattle.std.proofs.Common.{◌≡◌, ℕ, ◌+◌, ◌<◌, ◌++◌, List, length, arith, ◌⊎◌, inl, inr}
 use Rattle.std.proofs.lemmas.List.{length-append}
 use Rattle.tm_terms.specs.declared.refusals.Refusal.{Refusal}
+use Rattle.tm_laid.specs.declared.scales.Scale.TheVariants as Scales
 use Rattle.tm_laid.specs.Layouts.{LaidTree}
 use Rattle.source_programs.specs.LaidSources.{longest_source}
 use Rattle.source_programs.proofs.low.configured_laws.OneProgram.{not_both}
@@ -14,7 +15,7 @@ use Rattle.source_replays.specs.Laws.{LongOnesAreAlike, NoneIsBoth}
 pub none_is_both : NoneIsBoth
 none_is_both bytes laid _ h (all_too_long l) = absurd (let short = h.short in omega (arith, short, l))
 none_is_both bytes laid r h (source_refused short q) =
-    none _ laid r h.source (λ s k. not_both laid h.graphed s h.prepared k) q
+    none _ Scales.Usual laid r h.source (λ s k. not_both Scales.Usual laid h.graphed s h.prepared k) q
 
 module _ (bytes more : List ℕ) (long : longest_source < length bytes) where
   longer : longest_source < length (bytes ++ more)

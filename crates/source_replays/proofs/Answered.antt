@@ -6,6 +6,7 @@ use Rattle.tm_terms.specs.declared.refusals.Refusal.{Refusal}
 use Rattle.tm_typed.specs.Files.{TypedFileTree}
 use Rattle.tm_typed.specs.TypedFiles.{typed_file_tree}
 use Rattle.tm_laid.specs.declared.layouts.Laid.{Laid}
+use Rattle.tm_laid.specs.declared.scales.Scale.TheVariants as Scales
 use Rattle.tm_laid.specs.Layable.{IsLayable}
 use Rattle.tm_laid.specs.Layouts.{LaidTree, laid_tree, layout_of}
 use Rattle.layout_laws.proofs.Kept.{limits_kept}
@@ -35,17 +36,24 @@ pub has_worlds : (bytes : List ℕ) (laid : Laid) → IsLaidSource bytes (laid_t
 has_worlds bytes laid source layable law =
     let file = source.file in
     let answered = source.answered in
-    let kept = limits_kept file (laid_tree laid) answered in
+    let kept = limits_kept Scales.Usual file (laid_tree laid) answered in
     let same : typed_file_tree laid.file ≡ file = same_file file (laid_tree laid) kept.whole in
-    law file laid answered (subst (λ (f : TypedFileTree). IsLayable f laid.file.order.items) same layable)
+    law Scales.Usual file laid answered (subst (λ (f : TypedFileTree). IsLayable f laid.file.order.items) same layable)
 
 -- ## Its graphs are those along which its tasks go
 
-pub has_graphs : (bytes : List ℕ) (laid : Laid) (graphed : Graphed) → IsLaidSource bytes (laid_tree laid) → IsPrepared (laid_tree laid) (Ok graphed)
-    → ProgramsHaveGraphs → HasGraphs laid graphed.graphs
+pub has_graphs : (bytes : List ℕ) (laid : Laid) (graphed : Graphed) → IsLaidSource bytes (laid_tree laid)
+    → IsPrepared Scales.Usual (laid_tree laid) (Ok graphed) → ProgramsHaveGraphs → HasGraphs laid graphed.graphs
 has_graphs bytes laid graphed source prepared law =
-    law laid graphed.graphs
-    (record { main = main_in bytes source.tokens; items = source.typed.items; file = source.file; typed = source.typed.typed; answered = source.answered })
+    law Scales.Usual laid graphed.graphs
+    (record {
+      main = main_in bytes source.tokens;
+      items = source.typed.items;
+      file = source.file;
+      typed = source.typed.typed;
+      scale = Scales.Usual;
+      answered = source.answered;
+    })
     prepared.0
 
 -- ## Answers

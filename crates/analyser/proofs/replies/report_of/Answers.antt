@@ -1,3 +1,4 @@
+use Rattle.worker_solutions.specs.tm_laid.declared.scales.Scale.TheVariants as Scales
 use Rattle.worker_solutions.specs.tm_laid.Layouts.{laid_tree}
 use Rattle.source_findings.proofs.low.certificate_check.Sourced.{few_objects}
 use Rattle.analyser.proofs.Sound.{lists_all}
@@ -12,7 +13,8 @@ returns-in_ok-found-in-Ok g c =
     let solved = c.in_ok-found-in-Ok.found in
     let report = solved.report.alarms.items in
     let is = c.in_ok-found-in-Ok.ensures in
-    let few = few_objects given bytes _ a (laid_tree c.in-Ok.program.laid) of.laid c.in-Ok.ensures.numbered in
+    let few =
+    few_objects Scales.Usual given bytes _ a (laid_tree c.in-Ok.program.laid) of.laid c.in-Ok.ensures.numbered in
     (record { program = _; accepted = a; least = is.0; lists = lists_all given bytes _ a few report is.0 }, is.1)
 
 pub returns-in-Err-Refused : goal.returns-in-Err-Refused

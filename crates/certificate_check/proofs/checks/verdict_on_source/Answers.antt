@@ -1,4 +1,5 @@
 use Rattle.std.proofs.Common.{[]}
+use Rattle.mutex_configs.specs.tm_laid.declared.scales.Scale.TheVariants as Scales
 use Rattle.mutex_configs.specs.tm_laid.Layouts.{laid_tree}
 use Rattle.certificate_check.proofs.InBytes.{source_at}
 use Rattle.certificate_check.proofs.Sourced.{few_objects}
@@ -14,7 +15,7 @@ returns-in-Ok c =
     (λ v h.
     let of = h.of in
     let a = c.in-Ok.ensures.accepted h.bodies of in
-    let few = few_objects [] _ h.bodies a (laid_tree program.laid) of.laid c.in-Ok.ensures.numbered in
+    let few = few_objects Scales.Usual [] _ h.bodies a (laid_tree program.laid) of.laid c.in-Ok.ensures.numbered in
     told_verdict bytes _ _ c.requires.short has h.bodies a h.small few v h.is)
 
 pub returns-in-Err-Refused : goal.returns-in-Err-Refused
