@@ -65,7 +65,7 @@ impl Model for BodyFacts {
 }
 
 impl BodyFacts {
-    /// The facts of a graph and its configured graph, in a layout of at most 4,096 abstract cells.
+    /// The facts of a graph and its configured graph, in a layout of at most 65,536 abstract cells.
     pub fn new(
         alloc: Global,
         laid: &Laid,

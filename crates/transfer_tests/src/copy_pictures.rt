@@ -8,26 +8,53 @@ use std::alloc::Global;
 use std::process::Abort;
 use std::test::Fail;
 use strided_dom::Marks;
-use tm_terms::{Fail as Refused, refusal_line};
+use tm_laid::Scale;
+use tm_terms::{Fail as Refused, Limit};
 
-/// What configuring a single graph over so many abstract cells answers.
+/// What configuring a single graph over so many abstract cells answers on a scale.
 pub fn program(
     rt: &impl Abort,
     alloc: Global,
+    scale: Scale,
     graph: Graph,
     cells: u32,
 ) -> Result<Result<Program, Refused>, Fail> {
-    assert!(rt; cells <= 4096);
+    assert!(rt; cells <= 65536);
     assert!(rt; is_graph(&graph));
     // (No way out stands behind the layout, which is dear to let go.)
     let mut graphs = Vec::new(alloc);
     graphs.push(graph)?;
     let laid = laid(alloc, cells)?;
-    Ok(configured(alloc, laid, Graphs { graphs }, Marks::new(Vec::new(alloc))))
+    Ok(configured(
+        alloc,
+        scale,
+        laid,
+        Graphs { graphs },
+        Marks::new(Vec::new(alloc)),
+    ))
 }
 
-/// How many nodes and copies there are, or the refusal.
-pub fn counted(alloc: Global, answer: &Result<Program, Refused>) -> Result<String, Fail> {
+// The limit that refuses, and what it allows on a scale.
+fn told_limit(alloc: Global, scale: Scale, limit: Option<Limit>) -> Result<String, Fail> {
+    match limit {
+        Some(Limit::Nodes) => {
+            let number = scale.number(Limit::Nodes);
+            Ok(format!(in alloc; "refused nodes {number}")?)
+        }
+        Some(Limit::Work) => {
+            let number = scale.number(Limit::Work);
+            Ok(format!(in alloc; "refused work {number}")?)
+        }
+        _ => Ok(String::from_str(alloc, "refused")?),
+    }
+}
+
+/// How many nodes and copies there are, or the limit that refuses.
+pub fn counted(
+    alloc: Global,
+    scale: Scale,
+    answer: &Result<Program, Refused>,
+) -> Result<String, Fail> {
     match answer {
         Ok(program) => match program.configured.first() {
             Some(graph) => {
@@ -37,7 +64,7 @@ pub fn counted(alloc: Global, answer: &Result<Program, Refused>) -> Result<Strin
             }
             None => Ok(String::from_str(alloc, "no graph")?),
         },
-        Err(Refused::Refused(refusal)) => Ok(refusal_line(alloc, refusal)?),
+        Err(Refused::Refused(refusal)) => told_limit(alloc, scale, refusal.limit),
         Err(Refused::NoMemory) => Ok(String::from_str(alloc, "no memory")?),
     }
 }
@@ -85,6 +112,6 @@ fn answer_pictured(alloc: Global, answer: &Result<Program, Refused>) -> Result<S
 
 /// The nodes and copies of a single graph.
 pub fn pictured_graph(rt: &impl Abort, alloc: Global, graph: Graph) -> Result<String, Fail> {
-    let answer = program(rt, alloc, graph, 1)?;
+    let answer = program(rt, alloc, Scale::Usual, graph, 1)?;
     answer_pictured(alloc, &answer)
 }

@@ -41,8 +41,8 @@ fn static_cells(alloc: Global, count: u32) -> Result<Vec<AbstractCell>, Fail>
 
 /// A layout of one static object with so many abstract cells.
 pub fn laid(alloc: Global, count: u32) -> Result<Laid, Fail>
-    requires { count ≤ 4096 }
-    ensures { IfOk result (λ laid. length laid.abstract_cells.items ≤ 4096) }
+    requires { count ≤ 65536 }
+    ensures { IfOk result (λ laid. length laid.abstract_cells.items ≤ 65536) }
 {
     let cells = static_cells(alloc, count)?;
     Ok(Laid {
