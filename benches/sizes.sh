@@ -3,13 +3,28 @@
 # another build of the analyser on the same texts.
 #
 #     benches/sizes.sh PROGRAM [OTHER]
+#     benches/sizes.sh --large NOTES [OTHER]
 #
-# PROGRAM is the built analyser (./analyse --program), OTHER one to compare it with, as that of an earlier state. Each
+# PROGRAM is the built analyser (./analyse --program), OTHER one to compare it with, as that of an earlier state. With
+# --large the programs are larger than the limits of the commands allow, and NOTES is the built alarm_notes, which is
+# asked for its report on the large scale; a row then also says how many times the time of `gcc -O0 -c` of the same text
+# that is, which takes the words of the language by include/cedratcleat.h. Each
 # time is the least of three runs, in processor seconds; where there are two programs, they run in turn. A row says lines
 # and tasks, alarms, seconds and MB, and how many times the time of the first the second takes; at the end stands the
 # power of the number of lines with which the time grows from the first row to the last. Only a report counts: where a
 # run has none, or the two differ, the row says so, and the status is 1. GNU time has to be installed.
 set -eu
+words=(analyse)
+sizes=('250 3' '500 4' '750 5' '1000 6' '1400 8')
+runs='1 2 3'
+large=no
+if [ "${1-}" = --large ]; then
+    words=(large report)
+    sizes=('1000 6' '2500 10' '5000 15' '10000 20' '20000 30')
+    runs=1
+    large=yes
+    shift
+fi
 [ $# -ge 1 ] && [ $# -le 2 ] || { sed -n 's/^#     /usage: /p' "$0"; exit 2; }
 
 here=$(cd "$(dirname "$0")" && pwd)
@@ -20,7 +35,7 @@ trap 'rm -rf "$work"' EXIT
 
 # Runs a program once, and notes what it took.
 run_once() { # NUMBER
-    env time -o "$work/told" -f '%U %S %M' "${programs[$1]}" analyse <"$work/input" >"$work/report.$1" 2>"$work/err" || true
+    env time -o "$work/told" -f '%U %S %M' "${programs[$1]}" "${words[@]}" <"$work/input" >"$work/report.$1" 2>"$work/err" || true
     tail -n 1 "$work/told" >>"$work/times.$1"
 }
 
@@ -30,25 +45,39 @@ least() { # NUMBER
         "$work/times.$1"
 }
 
+# How many alarms the report of a program has; nothing where it has none.
+count_of() { # NUMBER
+    tail -n 1 "$work/report.$1" | sed -nE 's/^alarms ([0-9]+)$/\1/p; s/.*"count":([0-9]+)\}$/\1/p'
+}
+
+# How many times the time of the compiler SECONDS are.
+beside_compiler() { # SECONDS
+    cp "$work/input" "$work/input.c"
+    env time -o "$work/told" -f '%U %S' gcc -w -O0 -std=gnu99 -DCEDRATCLEAT_ANY_TARGET -include "$here/../include/cedratcleat.h" -c -o "$work/made.o" \
+        "$work/input.c" 2>"$work/err" || { echo 'no object' && return; }
+    awk -v own="$1" '{ printf "%.1f of gcc", own / ($1 + $2) }' "$work/told"
+}
+
 status=0
 printf '%6s %5s %7s %9s %6s %7s\n' lines tasks alarms seconds MB times
-for it in '250 3' '500 4' '750 5' '1000 6' '1400 8'; do
+for it in "${sizes[@]}"; do
     read -r lines tasks <<<"$it"
     "$here/control.py" "$lines" "$tasks" >"$work/input"
     rm -f "$work"/times.*
-    for _ in 1 2 3; do
+    for _ in $runs; do
         for number in "${!programs[@]}"; do run_once "$number"; done
     done
-    last=$(tail -n 1 "$work/report.0")
-    [[ $last =~ ^alarms\ [0-9]+$ ]] || { echo "$lines: no report: $last" && status=1 && continue; }
+    alarms=$(count_of 0)
+    [ -n "$alarms" ] || { echo "$lines: no report: $(tail -n 1 "$work/report.0")" && status=1 && continue; }
     read -r seconds most <<<"$(least 0)"
     times=
     if [ ${#programs[@]} -gt 1 ]; then
         cmp -s "$work/report.0" "$work/report.1" || { echo "$lines: the reports differ" && status=1 && continue; }
         times=$(least 1 | awk -v own="$seconds" '{ printf "%.1f", $1 / own }')
     fi
+    [ $large = no ] || times="$times $(beside_compiler "$seconds")"
     lines=$(wc -l <"$work/input")
-    printf '%6s %5s %7s %9s %6s %7s\n' "$lines" "$tasks" "${last#alarms }" "$seconds" "$most" "$times"
+    printf '%6s %5s %7s %9s %6s %7s\n' "$lines" "$tasks" "$alarms" "$seconds" "$most" "$times"
     echo "$lines $seconds" >>"$work/grown"
 done
 [ ! -s "$work/grown" ] || awk 'NR == 1 { lines = $1; seconds = $2 } { last = $1; took = $2 }
