@@ -107,7 +107,8 @@ not_above Scales.Usual Limits.Nodes = omega arith
 not_above Scales.Usual Limits.Work = omega arith
 not_above Scales.Large l = omega arith
 
-within_large : (scale : Scale) (file : TypedFileTree) (l : Limit) → is_exceeded scale file l ≡ false → is_exceeded Scales.Large file l ≡ false
+-- what is not exceeded on a scale is not on the large one
+pub within_large : (scale : Scale) (file : TypedFileTree) (l : Limit) → is_exceeded scale file l ≡ false → is_exceeded Scales.Large file l ≡ false
 within_large scale file l e =
     let a = ltb-false (number_on scale l) (laid_count file l) e in
     let b = not_above scale l in

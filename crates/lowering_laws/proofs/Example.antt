@@ -21,6 +21,7 @@ use Rattle.call_graph.specs.tm_trees.FileTrees.{only_void}
 use Rattle.call_graph.specs.tm_typed.Rules.{working_type, right_type, values_fold}
 use Rattle.call_graph.specs.tm_typed.CallGraph.{Reaches, by_call, by_calls, calls_in}
 use Rattle.call_graph.specs.tm_typed.Files.{FileState, first_file_state, items_in, file_of, IsAcyclic, IsTyped}
+use Rattle.cell_layout.specs.tm_laid.declared.scales.Scale.TheVariants as Scales
 use Rattle.cell_layout.specs.tm_laid.CallTrees.{call_tree}
 use Rattle.cell_layout.specs.tm_laid.TypeCells.{cell_count, abstract_count}
 use Rattle.cell_layout.specs.tm_laid.Layouts.{layout_of, laid_count, laid_out}
@@ -80,12 +81,12 @@ typed : IsTyped None items (Ok (file_of found None))
 unfolding working_type right_type values_fold
 typed = inr (record { acyclic = acyclic; answered = refl })
 
-laid : laid_out (file_of found None) ≡ Ok (layout_of (file_of found None))
+laid : laid_out Scales.Usual (file_of found None) ≡ Ok (layout_of (file_of found None))
 unfolding working_type right_type values_fold laid_count call_tree cell_count abstract_count
 laid = refl
 
 is_laid : IsLaidFile (layout_of (file_of found None))
-is_laid = record { main = None; items = items; file = file_of found None; typed = typed; answered = laid }
+is_laid = record { main = None; items = items; file = file_of found None; typed = typed; scale = Scales.Usual; answered = laid }
 
 -- so what is proved of all files holds of this one
 can_be_lowered : IsLowerable (layout_of (file_of found None))

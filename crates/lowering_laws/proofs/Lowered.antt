@@ -16,6 +16,7 @@ use Rattle.call_graph.specs.tm_typed.StatementRules.{in_body}
 use Rattle.call_graph.specs.tm_typed.Functions.{TypedBodyTree}
 use Rattle.call_graph.specs.tm_typed.Files.{TypedFunctionTree, no_typed_function, TypedFileTree, IsTyped}
 use Rattle.call_graph.specs.tm_typed.WellTyped.{OnAnswer}
+use Rattle.cell_layout.specs.tm_laid.declared.scales.Scale.{Scale}
 use Rattle.cell_layout.specs.tm_laid.Paths.{bodies_of}
 use Rattle.cell_layout.specs.tm_laid.TypeCells.{entry_of}
 use Rattle.cell_layout.specs.tm_laid.Layouts.{LaidTree, layout_of, unless_beyond, is_exceeded, laid_limits, laid_out}
@@ -49,9 +50,11 @@ unless_layout : (file : TypedFileTree) (o : Option Limit) → OnAnswer (IsLayout
 unless_layout file None = refl
 unless_layout file (Some l) = tt
 
-pub is_layout : (file : TypedFileTree) (laid : LaidTree) → laid_out file ≡ Ok laid → layout_of file ≡ laid
-is_layout file laid e =
-    from_answer (IsLayout file) (laid_out file) laid (unless_layout file (find (is_exceeded file) laid_limits)) e
+pub is_layout : (scale : Scale) (file : TypedFileTree) (laid : LaidTree) → laid_out scale file ≡ Ok laid
+    → layout_of file ≡ laid
+is_layout scale file laid e =
+    from_answer (IsLayout file) (laid_out scale file) laid
+    (unless_layout file (find (is_exceeded scale file) laid_limits)) e
 
 -- ## Calls
 
@@ -143,5 +146,5 @@ layout_with_bodies main items file e some = layout_lowerable main items file e s
 
 pub lowerable : (laid : LaidTree) → IsLaidFile laid → 0 < length laid.bodies → IsLowerable laid
 lowerable laid h =
-    subst (λ (x : LaidTree). 0 < length x.bodies → IsLowerable x) (is_layout h.file laid h.answered)
+    subst (λ (x : LaidTree). 0 < length x.bodies → IsLowerable x) (is_layout h.scale h.file laid h.answered)
     (layout_with_bodies h.main h.items h.file h.typed)

@@ -18,9 +18,11 @@ use Rattle.call_graph.specs.tm_typed.declared.scopes.ObjectNumber.TheVariants.{L
 use Rattle.call_graph.specs.tm_typed.Functions.{TypedBodyTree}
 use Rattle.call_graph.specs.tm_typed.Files.{TypedFunctionTree, no_typed_function, TypedFileTree}
 use Rattle.call_graph.specs.tm_typed.WellTyped.{OnAnswer}
+use Rattle.cell_layout.specs.tm_laid.declared.scales.Scale.{Scale}
 use Rattle.cell_layout.specs.tm_laid.Layouts.{LaidTree, first_path, callee, object_of, path_at, layout_of, laid_count}
 use Rattle.cell_layout.specs.tm_laid.Layouts.{laid_limits}
 use Rattle.cell_layout.specs.tm_laid.Layouts.{is_exceeded, unless_beyond, laid_out}
+use Rattle.cell_layout.proofs.LimitCounts.{within_large}
 use Rattle.lowering.specs.concrete_values.Values.{truth_value}
 use Rattle.lowering.specs.concrete_steps.Places.{result_type}
 use Rattle.lowering.specs.concrete_steps.NextAction.{function_at}
@@ -403,7 +405,7 @@ layout_file file laid e = ap (λ (x : LaidTree). x.file) e
 operations_of : (laid : LaidTree) → IsLaidFile laid → (body : ℕ)
     → All (λ e. IsPlaced (length laid.file.mutexes) e.op) (graph_of laid body)
 operations_of laid h body =
-    let same : h.file ≡ laid.file = layout_file h.file laid (is_layout h.file laid h.answered) in
+    let same : h.file ≡ laid.file = layout_file h.file laid (is_layout h.scale h.file laid h.answered) in
     graph_has laid
     (subst (λ (x : TypedFileTree). All (λ f. IsBodyOf x f f.body) x.functions) same
     (bodies_are_well_formed h.main h.items h.file h.typed))
@@ -510,19 +512,19 @@ none_found false x rest e = (refl, e)
 abbrev FewMutexes : TypedFileTree → LaidTree → Type 0
 FewMutexes file laid = length file.mutexes ≤ 16
 
-unless_few : (file : TypedFileTree) (o : Option Limit) → find (is_exceeded file) laid_limits ≡ o
+unless_few : (scale : Scale) (file : TypedFileTree) (o : Option Limit) → find (is_exceeded scale file) laid_limits ≡ o
     → OnAnswer (FewMutexes file) (unless_beyond file o)
 unfolding laid_count
-unless_few file (Some l) e = tt
-unless_few file None e =
-    let a = none_found (is_exceeded file Limits.Tasks) Limits.Tasks _ e in
-    let b = none_found (is_exceeded file Limits.Mutexes) Limits.Mutexes _ a.1 in
-    ltb-false 16 (length file.mutexes) b.0
+unless_few scale file (Some l) e = tt
+unless_few scale file None e =
+    let a = none_found (is_exceeded scale file Limits.Tasks) Limits.Tasks _ e in
+    let b = none_found (is_exceeded scale file Limits.Mutexes) Limits.Mutexes _ a.1 in
+    ltb-false 16 (length file.mutexes) (within_large scale file Limits.Mutexes b.0)
 
 pub few_mutexes : (laid : LaidTree) → IsLaidFile laid → length laid.file.mutexes ≤ 16
 few_mutexes laid h =
     let few : length (let f : TypedFileTree = h.file in f.mutexes) ≤ 16 =
-    from_answer (FewMutexes h.file) (laid_out h.file) laid
-    (unless_few h.file (find (is_exceeded h.file) laid_limits) refl) h.answered in
-    let same : h.file ≡ laid.file = layout_file h.file laid (is_layout h.file laid h.answered) in
+    from_answer (FewMutexes h.file) (laid_out h.scale h.file) laid
+    (unless_few h.scale h.file (find (is_exceeded h.scale h.file) laid_limits) refl) h.answered in
+    let same : h.file ≡ laid.file = layout_file h.file laid (is_layout h.scale h.file laid h.answered) in
     subst (λ (x : TypedFileTree). length x.mutexes ≤ 16) same few

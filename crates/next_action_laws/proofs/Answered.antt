@@ -9,8 +9,12 @@ use Rattle.cell_layout.specs.tm_terms.declared.refusals.Limit.TheVariants as Lim
 use Rattle.cell_layout.specs.tm_cint.declared.Class.TheVariants as Classes
 use Rattle.cell_layout.specs.tm_typed.Scopes.{cells_of}
 use Rattle.cell_layout.specs.tm_typed.Files.{TypedFileTree}
+use Rattle.cell_layout.specs.tm_laid.declared.scales.Scale.{Scale}
+use Rattle.cell_layout.specs.tm_laid.declared.scales.Scale.TheVariants as Scales
 use Rattle.cell_layout.specs.tm_laid.Layable.{tables_of}
 use Rattle.cell_layout.specs.tm_laid.Layouts.{LaidTree, layout_of, object_at, is_exceeded, laid_limits, unless_beyond}
+use Rattle.cell_layout.specs.tm_laid.Layouts.{laid_out}
+use Rattle.cell_layout.proofs.LimitCounts.{within_large}
 use Rattle.cell_types.specs.concrete_values.declared.actions.Next.{Next}
 use Rattle.cell_types.specs.concrete_values.Values.{number_of, pointer_of}
 use Rattle.cell_types.specs.concrete_values.declared.values.Value.TheVariants.{Number}
@@ -33,24 +37,27 @@ not_found p a false rest e = (refl, e)
 
 -- the layout is that of the file, which does not exceed the number of cells
 pub record Comes (file : TypedFileTree) (laid : LaidTree) : Type 0 where
-  pub within : is_exceeded file Limits.Cells ≡ false
+  pub within : is_exceeded Scales.Large file Limits.Cells ≡ false
   pub is : layout_of file ≡ laid
 
-comes_by : (file : TypedFileTree) (laid : LaidTree) (o : Option Limit) → find (is_exceeded file) laid_limits ≡ o
-    → unless_beyond file o ≡ Ok laid → Comes file laid
-comes_by file laid None e f =
-    let p : Limit → Bool = is_exceeded file in
+comes_by : (scale : Scale) (file : TypedFileTree) (laid : LaidTree) (o : Option Limit)
+    → find (is_exceeded scale file) laid_limits ≡ o → unless_beyond file o ≡ Ok laid → Comes file laid
+comes_by scale file laid None e f =
+    let p : Limit → Bool = is_exceeded scale file in
     let a = not_found p Limits.Tasks (p Limits.Tasks)
     (find p (Limits.Mutexes ∷ Limits.Paths ∷ Limits.Cells ∷ Limits.Abstract ∷ [])) e in
     let b = not_found p Limits.Mutexes (p Limits.Mutexes) (find p (Limits.Paths ∷ Limits.Cells ∷ Limits.Abstract ∷ []))
     a.1 in
     let c = not_found p Limits.Paths (p Limits.Paths) (find p (Limits.Cells ∷ Limits.Abstract ∷ [])) b.1 in
     let d = not_found p Limits.Cells (p Limits.Cells) (find p (Limits.Abstract ∷ [])) c.1 in
-    record { within = d.0; is = (let q : layout_of file ≡ laid = cc in q) }
-comes_by file laid (Some l) e f = absurd cc
+    record { within = within_large scale file Limits.Cells d.0; is = (let q : layout_of file ≡ laid = cc in q) }
+comes_by scale file laid (Some l) e f = absurd cc
+
+pub comes_out : (scale : Scale) (file : TypedFileTree) (laid : LaidTree) → laid_out scale file ≡ Ok laid → Comes file laid
+comes_out scale file laid e = comes_by scale file laid (find (is_exceeded scale file) laid_limits) refl e
 
 pub comes : (file : TypedFileTree) (order : List ℕ) (laid : LaidTree) → HasLayout file order laid → Comes file laid
-comes file order laid h = comes_by file laid (find (is_exceeded file) laid_limits) refl h.is
+comes file order laid h = comes_out h.scale file laid h.is
 
 pub layout_is : (file : TypedFileTree) (order : List ℕ) (laid : LaidTree) → HasLayout file order laid
     → layout_of file ≡ laid

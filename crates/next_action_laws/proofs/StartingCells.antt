@@ -27,6 +27,7 @@ use Rattle.cell_layout.specs.tm_typed.Files.{TypedFileTree}
 use Rattle.cell_layout.specs.tm_laid.declared.objects.DeclaredObject.{DeclaredObject}
 use Rattle.cell_layout.specs.tm_laid.declared.objects.Initial.{Initial}
 use Rattle.cell_layout.specs.tm_laid.declared.cells.LaidCell.{LaidCell}
+use Rattle.cell_layout.specs.tm_laid.declared.scales.Scale.TheVariants as Scales
 use Rattle.cell_layout.specs.tm_laid.TypeCells.{TypeCell, entry_of, structure_in, type_cells, type_depth, cells_of_type}
 use Rattle.cell_layout.specs.tm_laid.TypeCells.{abstract_cells_of_type}
 use Rattle.cell_layout.specs.tm_laid.Objects.{static_objects, path_objects, static_numbers, objects_from, laid_cell}
@@ -259,7 +260,7 @@ module _ (laid : LaidTree) where
 -- ## Objects of static storage
 
 module _ (file : TypedFileTree) (order : List ℕ) (h : IsLayable file order)
-    (within : is_exceeded file Limits.Cells ≡ false)
+    (within : is_exceeded Scales.Large file Limits.Cells ≡ false)
     (few : length (layout_along file (paths_of file)).objects ≤ 4294967296) where
   abbrev L : LaidTree
   L = layout_along file (paths_of file)
@@ -403,7 +404,7 @@ module _ (file : TypedFileTree) (order : List ℕ) (h : IsLayable file order)
       (all_begin file.statics (path_objects file 0 (paths_of file)) 0 0 0 f total) c v e
 
 pub cells_hold : (file : TypedFileTree) (order : List ℕ) → IsLayable file order
-    → is_exceeded file Limits.Cells ≡ false → length (layout_of file).objects ≤ 4294967296 → AreFilled file
+    → is_exceeded Scales.Large file Limits.Cells ≡ false → length (layout_of file).objects ≤ 4294967296 → AreFilled file
     → HoldsTypes (layout_of file) (start (layout_of file))
 unfolding layout_of
 cells_hold file order h within few f = start_held file order h within few f

@@ -30,6 +30,7 @@ use Rattle.cell_layout.specs.tm_typed.WellTyped.{ValueKind, a_pointer, kind_of, 
 use Rattle.cell_layout.specs.tm_laid.declared.objects.DeclaredObject.{DeclaredObject}
 use Rattle.cell_layout.specs.tm_laid.declared.objects.LaidObject.{LaidObject}
 use Rattle.cell_layout.specs.tm_laid.declared.cells.LaidCell.{LaidCell}
+use Rattle.cell_layout.specs.tm_laid.declared.scales.Scale.TheVariants as Scales
 use Rattle.cell_layout.specs.tm_laid.TypeCells.{cells_of_type}
 use Rattle.cell_layout.specs.tm_laid.Paths.{bodies_of, locals_in, locals_of, paths_of}
 use Rattle.cell_layout.specs.tm_laid.Layable.{tables_of, IsLayable}
@@ -96,7 +97,7 @@ found_type f None n e = absurd (none-some n e)
 -- ## The layout
 
 module _ (file : TypedFileTree) (order : List ℕ) (h : IsLayable file order)
-    (within : is_exceeded file Limits.Cells ≡ false) (body : ℕ) where
+    (within : is_exceeded Scales.Large file Limits.Cells ≡ false) (body : ℕ) where
   abbrev pub L : LaidTree
   L = layout_along file (paths_of file)
 
@@ -475,7 +476,7 @@ after_all laid body k first more (b ∷ answers) fit =
     after_all laid body (λ l. k (b ∷ l)) (more b [] fit.0) (λ a l f. more a (b ∷ l) f) answers fit.1
 
 pub always_proper : (file : TypedFileTree) (order : List ℕ) → IsLayable file order
-    → is_exceeded file Limits.Cells ≡ false → length (layout_of file).objects ≤ 4294967296
+    → is_exceeded Scales.Large file Limits.Cells ≡ false → length (layout_of file).objects ≤ 4294967296
     → All (λ (f : TypedFunctionTree). IsBodyOf file f f.body) file.functions
     → ((k : ℕ) (b : TypedBodyTree) → (function_of_file file k).body ≡ Some b
     → StatementsMention (is_defined_object file) (calls_in file.calls k) b.statements
@@ -493,7 +494,7 @@ always_proper file order h within few formed sites regular body lt answers fit =
 
 -- ## Places
 
-pub part_place : (file : TypedFileTree) (order : List ℕ) → IsLayable file order → is_exceeded file Limits.Cells ≡ false
+pub part_place : (file : TypedFileTree) (order : List ℕ) → IsLayable file order → is_exceeded Scales.Large file Limits.Cells ≡ false
     → length (layout_of file).objects ≤ 4294967296
     → (body o k n j c m : ℕ) → IsPlace (layout_of file) body o k n → ctype_of (tables_of file) n ≡ Types.Struct j
     → HasPart (tables_of file) j c m → IsPlace (layout_of file) body o (k + c) m
@@ -506,7 +507,7 @@ part_place file order h within few body o k n j c m p t x =
     (member_place laid order h body (small file order h within body) o k n j y.number x.member p t y.is))
 
 pub element_there : (file : TypedFileTree) (order : List ℕ) → IsLayable file order
-    → is_exceeded file Limits.Cells ≡ false → length (layout_of file).objects ≤ 4294967296
+    → is_exceeded Scales.Large file Limits.Cells ≡ false → length (layout_of file).objects ≤ 4294967296
     → (body o k n e l i : ℕ) → IsPlace (layout_of file) body o k n → ctype_of (tables_of file) n ≡ Types.Array e l
     → i < l
     → IsPlace (layout_of file) body o (k + i * cells_of (tables_of file) e) e

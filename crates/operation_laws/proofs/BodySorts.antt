@@ -25,6 +25,7 @@ use Rattle.temporary_types.specs.tm_laid.Paths.{bodies_of, locals_in, locals_of,
 use Rattle.temporary_types.specs.tm_laid.Layable.{IsLayable}
 use Rattle.temporary_types.specs.tm_laid.Layouts.{LaidTree, layout_along, layout_of, path_at, first_path, callee}
 use Rattle.temporary_types.specs.tm_laid.Layouts.{object_of}
+use Rattle.temporary_types.specs.tm_laid.declared.scales.Scale.TheVariants as Scales
 use Rattle.temporary_types.specs.tm_laid.Layouts.{is_exceeded}
 use Rattle.next_action_laws.specs.cell_layout.Laws.{GoesOnBy}
 use Rattle.next_action_laws.proofs.low.cell_layout.PathCalls.{calls_lead}
@@ -142,7 +143,7 @@ module _ (laid : LaidTree) where
   ends_by false = function_closes
 
 module _ (file : TypedFileTree) (order : List ℕ) (h : IsLayable file order)
-    (within : is_exceeded file Limits.Cells ≡ false) (body : ℕ) (few : length file.mutexes ≤ 16)
+    (within : is_exceeded Scales.Large file Limits.Cells ≡ false) (body : ℕ) (few : length file.mutexes ≤ 16)
     (formed : All (λ (f : TypedFunctionTree). IsBodyOf file f f.body) file.functions)
     (sites : (k : ℕ) (b : TypedBodyTree) → (function_of_file file k).body ≡ Some b
     → StatementsMention (is_defined_object file) (calls_in file.calls k) b.statements

@@ -1,19 +1,17 @@
 -- The graphs of a file that is typed and laid out have sorts, and their copies are settled.
-use Rattle.std.proofs.Common.{◌≡◌, refl, sym, subst, ℕ, ◌<◌, ◌≤◌, Bool, true, false, List, length, arith}
-use Rattle.std.specs.Prelude.{cond, find, Option, Some, None, Ok}
-use Rattle.std.proofs.lemmas.Option.{none-some, slice_get_within}
-use Rattle.temporary_types.specs.tm_terms.declared.refusals.Limit.{Limit}
+use Rattle.std.proofs.Common.{◌≡◌, sym, subst, ℕ, ◌<◌, ◌≤◌, false, List, length, arith}
+use Rattle.std.specs.Prelude.{Option, Ok}
+use Rattle.std.proofs.lemmas.Option.{slice_get_within}
 use Rattle.temporary_types.specs.tm_terms.declared.refusals.Limit.TheVariants as Limits
 use Rattle.temporary_types.specs.tm_terms.declared.tokens.Name.{Name}
 use Rattle.temporary_types.specs.tm_trees.FileTrees.{ItemTree}
 use Rattle.temporary_types.specs.tm_typed.Files.{TypedFileTree, IsTyped}
-use Rattle.temporary_types.specs.tm_typed.WellTyped.{OnAnswer}
-use Rattle.temporary_types.specs.tm_laid.Layouts.{LaidTree, layout_of, laid_limits, is_exceeded, unless_beyond}
-use Rattle.temporary_types.specs.tm_laid.Layouts.{laid_out}
-use Rattle.next_action_laws.proofs.low.typing_laws.Steps.{from_answer}
+use Rattle.temporary_types.specs.tm_laid.declared.scales.Scale.TheVariants as Scales
+use Rattle.temporary_types.specs.tm_laid.Layouts.{LaidTree, layout_of, is_exceeded}
 use Rattle.next_action_laws.proofs.low.typed_file_laws.TypedBodies.{bodies_are_well_formed}
 use Rattle.next_action_laws.proofs.low.typed_file_laws.MentionFiles.{sites_stand}
 use Rattle.lowering_laws.specs.lowering.Built.{built, graph_of}
+use Rattle.next_action_laws.proofs.Answered.{comes_out}
 use Rattle.next_action_laws.proofs.RegularFiles.{bodies_are_regular}
 use Rattle.lowering_laws.specs.LaidFiles.{IsLaidFile}
 use Rattle.lowering_laws.proofs.Founded.{file_layable}
@@ -28,29 +26,8 @@ use Rattle.operation_laws.proofs.BodySorts.{graph_sorts}
 
 -- ## A layout does not exceed its limit of cells
 
-none_found : {A : Type 0} (b : Bool) (x : A) (rest : Option A) → cond b (Some x) rest ≡ None
-    → (b ≡ false) × (rest ≡ None)
-none_found true x rest e = absurd (none-some x (sym e))
-none_found false x rest e = (refl, e)
-
-abbrev HasFewCells : TypedFileTree → LaidTree → Type 0
-HasFewCells file laid = is_exceeded file Limits.Cells ≡ false
-
-unless_many : (file : TypedFileTree) (o : Option Limit) → find (is_exceeded file) laid_limits ≡ o
-    → OnAnswer (HasFewCells file) (unless_beyond file o)
-unless_many file (Some l) e = tt
-unless_many file None e =
-    let p : Limit → Bool = is_exceeded file in
-    let a = none_found (p Limits.Tasks) Limits.Tasks _ e in
-    let b = none_found (p Limits.Mutexes) Limits.Mutexes _ a.1 in
-    let c = none_found (p Limits.Paths) Limits.Paths _ b.1 in
-    let d = none_found (p Limits.Cells) Limits.Cells _ c.1 in
-    d.0
-
-pub few_cells : (laid : LaidTree) → (h : IsLaidFile laid) → is_exceeded h.file Limits.Cells ≡ false
-few_cells laid h =
-    from_answer (HasFewCells h.file) (laid_out h.file) laid
-    (unless_many h.file (find (is_exceeded h.file) laid_limits) refl) h.answered
+pub few_cells : (laid : LaidTree) → (h : IsLaidFile laid) → is_exceeded Scales.Large h.file Limits.Cells ≡ false
+few_cells laid h = (comes_out h.scale h.file laid h.answered).within
 
 -- ## Files
 
@@ -61,7 +38,7 @@ IsSorted laid body = HasSorts laid (built laid body).temps (graph_of laid body)
     × Follows (built laid body).temps (graph_of laid body) × AreSettled (graph_of laid body)
 
 layout_sorts : (main : Option Name) (items : List ItemTree) (file : TypedFileTree) → IsTyped main items (Ok file)
-    → is_exceeded file Limits.Cells ≡ false → length (layout_of file).file.mutexes ≤ 16 → (body : ℕ)
+    → is_exceeded Scales.Large file Limits.Cells ≡ false → length (layout_of file).file.mutexes ≤ 16 → (body : ℕ)
     → body < length (layout_of file).bodies → IsSorted (layout_of file) body
 unfolding layout_of
 layout_sorts main items file typed within few body lt =
@@ -72,7 +49,7 @@ layout_sorts main items file typed within few body lt =
 
 pub file_sorts : (laid : LaidTree) → IsLaidFile laid → (body : ℕ) → body < length laid.bodies → IsSorted laid body
 file_sorts laid h body =
-    let is : layout_of h.file ≡ laid = is_layout h.file laid h.answered in
+    let is : layout_of h.file ≡ laid = is_layout h.scale h.file laid h.answered in
     let few : length (layout_of h.file).file.mutexes ≤ 16 =
     subst (λ (x : LaidTree). length x.file.mutexes ≤ 16) (sym is) (few_mutexes laid h) in
     subst (λ (x : LaidTree). body < length x.bodies → IsSorted x body) is

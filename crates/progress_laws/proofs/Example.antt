@@ -20,6 +20,7 @@ use Rattle.concrete_steps.specs.tm_trees.FileTrees.{no_parts}
 use Rattle.concrete_steps.specs.tm_typed.CallGraph.{Reaches, by_call, by_calls, calls_in}
 use Rattle.concrete_steps.specs.tm_typed.Files.{FileState, first_file_state, items_in, file_of, IsAcyclic}
 use Rattle.concrete_steps.specs.tm_typed.Files.{TypedFileTree, IsTyped}
+use Rattle.concrete_steps.specs.tm_laid.declared.scales.Scale.TheVariants as Scales
 use Rattle.concrete_steps.specs.tm_laid.CallTrees.{call_tree}
 use Rattle.concrete_steps.specs.tm_laid.TypeCells.{cell_count, abstract_count}
 use Rattle.concrete_steps.specs.tm_laid.Layouts.{LaidTree, layout_of, laid_count, laid_out}
@@ -86,7 +87,7 @@ acyclic k r = none_reached k k r
 typed : IsTyped None items (Ok file)
 typed = inr (record { acyclic = acyclic; answered = refl })
 
-laid_so : laid_out file ≡ Ok laid
+laid_so : laid_out Scales.Usual file ≡ Ok laid
 unfolding laid_count call_tree cell_count abstract_count
 laid_so = refl
 
@@ -105,6 +106,7 @@ has_layout = record {
       (All-nil (Contains []), tt)
       (All-cons (λ f. f < length file.functions) 0 [] (omega arith) (All-nil (λ f. f < length file.functions)))
       alone;
+  scale = Scales.Usual;
   is = laid_so;
   few = omega arith;
 }

@@ -18,6 +18,8 @@ use Rattle.operation_laws.specs.tm_typed.Functions.{TypedBodyTree}
 use Rattle.operation_laws.specs.tm_typed.Files.{TypedFunctionTree, no_typed_function, TypedFileTree}
 use Rattle.operation_laws.specs.tm_laid.Paths.{bodies_of}
 use Rattle.operation_laws.specs.tm_laid.Layable.{IsLayable}
+use Rattle.operation_laws.specs.tm_laid.declared.scales.Scale.{Scale}
+use Rattle.operation_laws.specs.tm_laid.declared.scales.Scale.TheVariants as Scales
 use Rattle.operation_laws.specs.tm_laid.Layouts.{LaidTree, layout_of, first_path, callee, object_of, is_exceeded}
 use Rattle.operation_laws.specs.tm_laid.Layouts.{laid_out}
 use Rattle.operation_laws.specs.cell_layout.Laws.{GoesOnBy}
@@ -120,7 +122,7 @@ module _ (laid : LaidTree) (body : ℕ) where
   }
 
 module _ (file : TypedFileTree) (order : List ℕ) (h : IsLayable file order)
-    (within : is_exceeded file Limits.Cells ≡ false) (body : ℕ)
+    (within : is_exceeded Scales.Large file Limits.Cells ≡ false) (body : ℕ)
     (formed : All (λ (f : TypedFunctionTree). IsBodyOf file f f.body) file.functions)
     (sites : (k : ℕ) (b : TypedBodyTree) → (function_of_file file k).body ≡ Some b
     → StatementsMention (is_defined_object file) (calls_in file.calls k) b.statements
@@ -131,7 +133,7 @@ module _ (file : TypedFileTree) (order : List ℕ) (h : IsLayable file order)
   abbrev on : ℕ → ℕ
   on path = function_on file order h within body path
 
-  module _ (out : laid_out file ≡ Ok X) (few : length X.objects ≤ 4294967296) where
+  module _ (scale : Scale) (out : laid_out scale file ≡ Ok X) (few : length X.objects ≤ 4294967296) where
     -- the function is one of the file
     there : (f : ℕ) (b : TypedBodyTree) → (function_of_file file f).body ≡ Some b → f < length file.functions
     there f b e = elim (cases_lt f (length file.functions)) [
@@ -176,7 +178,7 @@ module _ (file : TypedFileTree) (order : List ℕ) (h : IsLayable file order)
         let y : Through X body C call (calls_built depth ih path u) ss x =
         plan_built X body C call (calls_built depth ih path u) (plans X path b'.statements)
         (plans_fit X body path b'.locals (is_defined_object file) (calls_in file.calls (on path))
-        (stage file order h within body out few path u b' e) (sizes file order h within body path u b' e)
+        (stage file order h within body scale out few path u b' e) (sizes file order h within body path u b' e)
         (from_length X) F.result b'.statements ok (sites (on path) b' e).0) Later None ss b f tt in
         let t : CType = result_type X F in
         let z : Grown X body y.kinds (fallen_piece t x.result x.at) =

@@ -5,6 +5,8 @@ use Rattle.operation_laws.specs.tm_terms.declared.refusals.Limit.TheVariants as 
 use Rattle.operation_laws.specs.tm_terms.declared.tokens.Name.{Name}
 use Rattle.operation_laws.specs.tm_trees.FileTrees.{ItemTree}
 use Rattle.operation_laws.specs.tm_typed.Files.{TypedFileTree, IsTyped}
+use Rattle.operation_laws.specs.tm_laid.declared.scales.Scale.{Scale}
+use Rattle.operation_laws.specs.tm_laid.declared.scales.Scale.TheVariants as Scales
 use Rattle.operation_laws.specs.tm_laid.Layouts.{LaidTree, layout_of, is_exceeded, laid_out}
 use Rattle.operation_laws.specs.concrete_values.declared.values.Pointer.{Pointer}
 use Rattle.operation_laws.specs.concrete_values.declared.values.Pointer.TheVariants as Pointers
@@ -83,23 +85,23 @@ addresses_read laid g h node temps temps' e c l goes =
 -- ## Files
 
 layout_kinds : (main : Option Name) (items : List ItemTree) (file : TypedFileTree) → IsTyped main items (Ok file)
-    → is_exceeded file Limits.Cells ≡ false → laid_out file ≡ Ok (layout_of file)
+    → is_exceeded Scales.Large file Limits.Cells ≡ false → (scale : Scale) → laid_out scale file ≡ Ok (layout_of file)
     → length (layout_of file).objects ≤ 4294967296 → (body : ℕ) → body < length (layout_of file).bodies
     → HasKinds (layout_of file) body (graph_of (layout_of file) body)
 unfolding layout_of
-layout_kinds main items file typed within out few body lt =
+layout_kinds main items file typed within scale out few body lt =
     let o = file_layable main items file typed in
     graph_kinds file o.0 o.1 within body (bodies_are_well_formed main items file typed)
-    (sites_stand main items file typed) out few lt
+    (sites_stand main items file typed) scale out few lt
 
 pub file_kinds : (laid : LaidTree) → IsLaidFile laid → length laid.objects ≤ 4294967296 → (body : ℕ)
     → body < length laid.bodies → HasKinds laid body (graph_of laid body)
 file_kinds laid h few body lt =
-    let is : layout_of h.file ≡ laid = is_layout h.file laid h.answered in
+    let is : layout_of h.file ≡ laid = is_layout h.scale h.file laid h.answered in
     let P : LaidTree → Type 0 =
-    λ x. laid_out h.file ≡ Ok x → length x.objects ≤ 4294967296 → body < length x.bodies
+    λ x. laid_out h.scale h.file ≡ Ok x → length x.objects ≤ 4294967296 → body < length x.bodies
     → HasKinds x body (graph_of x body) in
-    subst P is (λ out few' lt'. layout_kinds h.main h.items h.file h.typed (few_cells laid h) out few' body lt')
+    subst P is (λ out few' lt'. layout_kinds h.main h.items h.file h.typed (few_cells laid h) h.scale out few' body lt')
     h.answered few lt
 
 pub stay_within : (laid : LaidTree) → IsLaidFile laid → length laid.objects ≤ 4294967296 → (body : ℕ)

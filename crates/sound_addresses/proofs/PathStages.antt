@@ -15,6 +15,8 @@ use Rattle.operation_laws.specs.tm_laid.declared.objects.DeclaredObject.{Declare
 use Rattle.operation_laws.specs.tm_laid.declared.objects.LaidObject.{LaidObject}
 use Rattle.operation_laws.specs.tm_laid.declared.cells.LaidCell.{LaidCell}
 use Rattle.operation_laws.specs.tm_laid.Paths.{locals_in, locals_of, paths_of}
+use Rattle.operation_laws.specs.tm_laid.declared.scales.Scale.{Scale}
+use Rattle.operation_laws.specs.tm_laid.declared.scales.Scale.TheVariants as Scales
 use Rattle.operation_laws.specs.tm_laid.Layable.{IsLayable, tables_of}
 use Rattle.operation_laws.specs.tm_laid.Layouts.{LaidTree, declared_objects, layout_along, path_at, object_at}
 use Rattle.operation_laws.specs.tm_laid.Layouts.{no_object, object_of}
@@ -70,7 +72,7 @@ found_type f (Some x) n e = (x, refl, same_Some (f x) n e)
 found_type f None n e = absurd (none-some n e)
 
 module _ (file : TypedFileTree) (order : List ℕ) (h : IsLayable file order)
-    (within : is_exceeded file Limits.Cells ≡ false) (body : ℕ) where
+    (within : is_exceeded Scales.Large file Limits.Cells ≡ false) (body : ℕ) where
   abbrev pub L : LaidTree
   L = layout_along file (paths_of file)
 
@@ -160,9 +162,9 @@ module _ (file : TypedFileTree) (order : List ℕ) (h : IsLayable file order)
 
   -- ## All together
 
-  module _ (out : laid_out file ≡ Ok L) (few : length L.objects ≤ 4294967296) where
+  module _ (scale : Scale) (out : laid_out scale file ≡ Ok L) (few : length L.objects ≤ 4294967296) where
     has_layout : HasLayout file order L
-    has_layout = record { layable = h; is = out; few = few }
+    has_layout = record { layable = h; scale = scale; is = out; few = few }
 
     retold : (locals : List LocalEntry) (j c n : ℕ) → HasPart (file_context file locals).scope j c n
         → HasPart (tables_of file) j c n

@@ -8,6 +8,7 @@ use Rattle.tm_laid.specs.tm_typed.declared.files.TypedFile.{TypedFile}
 use Rattle.tm_laid.specs.tm_typed.Files.{TypedFileTree, IsTyped}
 use Rattle.tm_laid.specs.tm_typed.TypedFiles.{typed_file_tree}
 use Rattle.tm_laid.specs.declared.layouts.Laid.{Laid}
+use Rattle.tm_laid.specs.declared.scales.Scale.{Scale}
 use Rattle.tm_laid.specs.Layouts.{laid_tree, laid_out, answer_of}
 use Rattle.tm_laid.specs.Layable.{IsLayable}
 use Rattle.c_typing.specs.call_graph.Graphs.{lists}
@@ -29,15 +30,15 @@ layable laws main items t e o =
     (λ f h. o.whole f (subst (λ (n : ℕ). f < n) same h))
 
 -- a layout that keeps the order of its file has worlds
-pub worlds : LaidFilesHaveWorlds → (t : TypedFile) → IsLayable (typed_file_tree t) t.order.items → (r : Result Laid Fail)
-    → IfSome (answer_of r) (λ answer. laid_out (typed_file_tree t) ≡ answer) → IfOk r (λ laid. laid.file.order.items ≡ t.order.items)
+pub worlds : LaidFilesHaveWorlds → (scale : Scale) (t : TypedFile) → IsLayable (typed_file_tree t) t.order.items → (r : Result Laid Fail)
+    → IfSome (answer_of r) (λ answer. laid_out scale (typed_file_tree t) ≡ answer) → IfOk r (λ laid. laid.file.order.items ≡ t.order.items)
     → IfOk r (λ laid. HasWorlds laid)
-worlds law t layable (Ok laid) told order =
-    law (typed_file_tree t) laid told (subst (λ z. IsLayable (typed_file_tree t) z) (sym order) layable)
-worlds law t layable (Err e) told order = tt
+worlds law scale t layable (Ok laid) told order =
+    law scale (typed_file_tree t) laid told (subst (λ z. IsLayable (typed_file_tree t) z) (sym order) layable)
+worlds law scale t layable (Err e) told order = tt
 
 -- it is that of a typed file
-pub laid_file : (main : Option Name) (items : List ItemTree) (t : TypedFile) → IsTyped main items (Ok (typed_file_tree t)) → (r : Result Laid Fail)
-    → IfSome (answer_of r) (λ answer. laid_out (typed_file_tree t) ≡ answer) → IfOk r (λ laid. IsLaidFile (laid_tree laid))
-laid_file main items t typed (Ok laid) told = record { main = main; items = items; file = typed_file_tree t; typed = typed; answered = told }
-laid_file main items t typed (Err e) told = tt
+pub laid_file : (scale : Scale) (main : Option Name) (items : List ItemTree) (t : TypedFile) → IsTyped main items (Ok (typed_file_tree t)) → (r : Result Laid Fail)
+    → IfSome (answer_of r) (λ answer. laid_out scale (typed_file_tree t) ≡ answer) → IfOk r (λ laid. IsLaidFile (laid_tree laid))
+laid_file scale main items t typed (Ok laid) told = record { main = main; items = items; file = typed_file_tree t; typed = typed; scale = scale; answered = told }
+laid_file scale main items t typed (Err e) told = tt

@@ -13,7 +13,7 @@ use flow_graph::Graphs;
 use graph_builder::lower;
 use program_worlds::programs_have_graphs;
 use std::alloc::Global;
-use tm_laid::Laid;
+use tm_laid::{Laid, Scale};
 use tm_terms::{Fail as Refused, Name, Shape, Token};
 use tm_trees::File;
 use typed_file_laws::typed_files_can_be_laid_out;
@@ -73,7 +73,7 @@ fn laid_in(alloc: Global, file: &File, main: Option<Name>) -> Result<Laid, Refus
     typed_files_can_be_laid_out();
     laid_files_have_worlds();
     match typed(alloc, file, main) {
-        Ok(typed) => lay(alloc, typed),
+        Ok(typed) => lay(alloc, Scale::Usual, typed),
         Err(fail) => Err(fail),
     }
 }
@@ -115,7 +115,7 @@ fn lowered_in(alloc: Global, layout: SourceLayout) -> Result<RunningProgram, Ref
     ensures graphs { IfOk result (λ program. HasGraphs program.layout.laid program.graphs.graphs.items) }
 {
     programs_have_graphs();
-    match lower(alloc, &layout.laid) {
+    match lower(alloc, Scale::Usual, &layout.laid) {
         Ok(graphs) => Ok(RunningProgram { layout, graphs }),
         Err(fail) => Err(fail),
     }

@@ -11,8 +11,8 @@ unfolding layout_of
 file_of file = refl
 
 pub returns : goal.returns
-returns c = λ file laid e layable.
-    let kept = limits_kept file (laid_tree laid) e in
+returns c = λ scale file laid e layable.
+    let kept = limits_kept scale file (laid_tree laid) e in
     let same : typed_file_tree laid.file ≡ file = ap (λ (z : LaidTree). z.file) kept.whole ∙ file_of file in
     record {
       runnable = record {
