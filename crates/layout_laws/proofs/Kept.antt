@@ -42,7 +42,8 @@ none_holds file laid false false false true e h = absurd (refused file Limits.Ce
 none_holds file laid false false false false true h = absurd (refused file Limits.Abstract laid h)
 none_holds file laid false false false false false h = record { tasks = refl; mutexes = refl; paths = refl; cells = refl; abstract_cells = refl }
 
-all_within : (scale : Scale) (file : TypedFileTree) (laid : LaidTree) → laid_out scale file ≡ Ok laid → IsAllWithin scale file
+all_within : (scale : Scale) (file : TypedFileTree) (laid : LaidTree) → laid_out scale file ≡ Ok laid
+    → IsAllWithin scale file
 unfolding first
 all_within scale file laid h =
     let n = none_holds file laid (is_exceeded scale file Limits.Tasks) (is_exceeded scale file Limits.Mutexes) (is_exceeded scale file Limits.Paths) (is_exceeded scale file Limits.Cells) (is_exceeded scale file Limits.Abstract) h in
@@ -84,7 +85,8 @@ limited file w = record {
       omega (arith, a, b, c));
 }
 
-pub limits_kept : (scale : Scale) (file : TypedFileTree) (laid : LaidTree) → laid_out scale file ≡ Ok laid → IsLimited file laid
+pub limits_kept : (scale : Scale) (file : TypedFileTree) (laid : LaidTree) → laid_out scale file ≡ Ok laid
+    → IsLimited file laid
 unfolding first
 limits_kept scale file laid h =
     let whole = is_whole file laid (is_exceeded scale file Limits.Tasks) (is_exceeded scale file Limits.Mutexes) (is_exceeded scale file Limits.Paths) (is_exceeded scale file Limits.Cells) (is_exceeded scale file Limits.Abstract) h in

@@ -86,7 +86,14 @@ unfolding working_type right_type values_fold laid_count call_tree cell_count ab
 laid = refl
 
 is_laid : IsLaidFile (layout_of (file_of found None))
-is_laid = record { main = None; items = items; file = file_of found None; typed = typed; scale = Scales.Usual; answered = laid }
+is_laid = record {
+  main = None;
+  items = items;
+  file = file_of found None;
+  typed = typed;
+  scale = Scales.Usual;
+  answered = laid;
+}
 
 -- so what is proved of all files holds of this one
 can_be_lowered : IsLowerable (layout_of (file_of found None))

@@ -53,7 +53,8 @@ comes_by scale file laid None e f =
     record { within = within_large scale file Limits.Cells d.0; is = (let q : layout_of file ≡ laid = cc in q) }
 comes_by scale file laid (Some l) e f = absurd cc
 
-pub comes_out : (scale : Scale) (file : TypedFileTree) (laid : LaidTree) → laid_out scale file ≡ Ok laid → Comes file laid
+pub comes_out : (scale : Scale) (file : TypedFileTree) (laid : LaidTree) → laid_out scale file ≡ Ok laid
+    → Comes file laid
 comes_out scale file laid e = comes_by scale file laid (find (is_exceeded scale file) laid_limits) refl e
 
 pub comes : (file : TypedFileTree) (order : List ℕ) (laid : LaidTree) → HasLayout file order laid → Comes file laid

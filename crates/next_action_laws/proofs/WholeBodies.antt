@@ -494,8 +494,8 @@ always_proper file order h within few formed sites regular body lt answers fit =
 
 -- ## Places
 
-pub part_place : (file : TypedFileTree) (order : List ℕ) → IsLayable file order → is_exceeded Scales.Large file Limits.Cells ≡ false
-    → length (layout_of file).objects ≤ 4294967296
+pub part_place : (file : TypedFileTree) (order : List ℕ) → IsLayable file order
+    → is_exceeded Scales.Large file Limits.Cells ≡ false → length (layout_of file).objects ≤ 4294967296
     → (body o k n j c m : ℕ) → IsPlace (layout_of file) body o k n → ctype_of (tables_of file) n ≡ Types.Struct j
     → HasPart (tables_of file) j c m → IsPlace (layout_of file) body o (k + c) m
 unfolding layout_of
