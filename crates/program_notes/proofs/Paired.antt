@@ -9,7 +9,9 @@ use Rattle.tm_terms.specs.declared.places.Place.{Place}
 use Rattle.tm_terms.specs.Alarms.{AlarmBefore, IsStrictlySorted}
 use Rattle.alarm_contexts.specs.declared.alarm_context.AlarmContexts.{AlarmContexts}
 use Rattle.alarm_contexts.specs.Contexts.{alarm_of, HasAlarm}
-use Rattle.program_notes.specs.AlarmTexts.{is_race_class, is_race, other_alarms}
+use Rattle.program_reports.proofs.Lists.{before_trans, never_before, tail_sorted, first_before, same_first}
+use Rattle.note_details.specs.Details.{is_race_class}
+use Rattle.program_notes.specs.AlarmTexts.{is_race, other_alarms}
 
 either : {A B C : Type 0} → (A → C) → (B → C) → A ⊎ B → C
 either f g (inl a) = f a
@@ -31,33 +33,6 @@ module _ {X : Type 0} where
   cases x y xs (zero, lt, e) = inl e
   cases x y xs (suc k, lt, e) = inr (k, omega (arith, lt), e)
 
--- ## The order
-
-before_trans : (a b c : Alarm) → AlarmBefore a b → AlarmBefore b c → AlarmBefore a c
-before_trans a b c (inl l) (inl m) = inl (omega (arith, l, m))
-before_trans a b c (inl l) (inr m) = inl (let e = m.0 in omega (arith, l, e))
-before_trans a b c (inr l) (inl m) = inl (let e = l.0 in omega (arith, m, e))
-before_trans a b c (inr (e, inl l)) (inr (f, inl m)) = inr (e ∙ f, inl (omega (arith, l, m)))
-before_trans a b c (inr (e, inl l)) (inr (f, inr m)) = inr (e ∙ f, inl (let g = m.0 in omega (arith, l, g)))
-before_trans a b c (inr (e, inr l)) (inr (f, inl m)) = inr (e ∙ f, inl (let g = l.0 in omega (arith, m, g)))
-before_trans a b c (inr (e, inr (g, l))) (inr (f, inr (h, m))) = inr (e ∙ f, inr (g ∙ h, omega (arith, l, m)))
-
-never_before : (a : Alarm) → AlarmBefore a a → ⊥
-never_before a (inl l) = absurd (omega (arith, l))
-never_before a (inr (e, inl l)) = absurd (omega (arith, l))
-never_before a (inr (e, inr (f, l))) = absurd (omega (arith, l))
-
-tail_sorted : (a : Alarm) (rest : List Alarm) → IsStrictlySorted (a ∷ rest) → IsStrictlySorted rest
-tail_sorted a [] s = tt
-tail_sorted a (b ∷ rest) s = s.1
-
--- the first comes before the others
-first_before : (a b : Alarm) (rest : List Alarm) → IsStrictlySorted (a ∷ rest) → Contains rest b → AlarmBefore a b
-first_before a b [] s h = absurd (none b h)
-first_before a b (c ∷ rest) s h =
-    either (λ e. subst (AlarmBefore a) e s.0) (λ more. before_trans a c b s.0 (first_before c b rest s.1 more))
-    (cases c b rest h)
-
 -- ## Lists
 
 -- a list has exactly the alarms of a report that are not races
@@ -65,16 +40,6 @@ abbrev AreOthers : List Alarm → List Alarm → Type 0
 AreOthers one report = (a : Alarm)
     → (Contains one a → Contains report a × (is_race a ≡ false))
     × (Contains report a → is_race a ≡ false → Contains one a)
-
--- the first of the report is no race: it is the first of the list
-same_first : (o r : Alarm) (one rest : List Alarm) → IsStrictlySorted (o ∷ one) → IsStrictlySorted (r ∷ rest)
-    → Contains (r ∷ rest) o → Contains (o ∷ one) r → o ≡ r
-same_first o r one rest s t h k =
-    either (λ e. sym e)
-    (λ above. either (λ e. e)
-    (λ below. absurd (never_before o
-    (before_trans o r o (first_before o r one s below) (first_before r o rest t above)))) (cases o r one k))
-    (cases r o rest h)
 
 -- what stands behind the first of a list is not the first
 not_first : (o a : Alarm) (one : List Alarm) → IsStrictlySorted (o ∷ one) → Contains one a → o ≡ a → ⊥

@@ -3,8 +3,6 @@
 use Rattle.std.specs.Prelude.{ℕ, Bool, true, false, cond, List, [], ◌∷◌, ◌++◌, length, take, codes, decimal}
 use Rattle.std.specs.Prelude.{slice_get, Option}
 use Rattle.std.specs.List.{enumerate_from}
-use Rattle.tm_cint.specs.declared.Class.{Class}
-use Rattle.tm_cint.specs.declared.Class.TheVariants.{Overflow, Div, Shift, Index, Pointer, Deref, Lock, Race}
 use Rattle.tm_terms.specs.declared.alarms.Alarm.{Alarm}
 use Rattle.tm_terms.specs.declared.places.Place.{Place}
 use Rattle.tm_terms.specs.Spelling.{text_of}
@@ -13,6 +11,7 @@ use Rattle.access_groups.specs.declared.object_access.ObjectAccess.{ObjectAccess
 use Rattle.alarm_contexts.specs.declared.alarm_context.AlarmContexts.{AlarmContexts}
 use Rattle.note_details.specs.declared.alarms.AlarmDetails.{AlarmDetails}
 use Rattle.note_details.specs.declared.races.RaceAccess.{RaceAccess}
+use Rattle.note_details.specs.Details.{is_race_class}
 use Rattle.notes_json.specs.Pieces.{listed, or_nothing}
 use Rattle.notes_json.specs.Accesses.{race_front, race_back, partner_text}
 use Rattle.notes_json.specs.Alarms.{race_middle}
@@ -20,16 +19,6 @@ use Rattle.program_notes.specs.Paths.{path_text}
 use Rattle.program_notes.specs.ContextTexts.{context_text}
 
 -- ## Races and others
-
-abbrev pub is_race_class : Class → Bool
-is_race_class Overflow = false
-is_race_class Div = false
-is_race_class Shift = false
-is_race_class Index = false
-is_race_class Pointer = false
-is_race_class Deref = false
-is_race_class Lock = false
-is_race_class Race = true
 
 abbrev pub is_race : Alarm → Bool
 is_race a = is_race_class a.class

@@ -1,5 +1,5 @@
 mod Operations
-mod Lists
+pub mod Lists
 pub mod One
 mod Exact
 pub mod Steps

@@ -26,7 +26,7 @@ cases a b rest (suc k, lt, e) = inr (k, omega (arith, lt), e)
 
 -- ## The order
 
-before_trans : (a b c : Alarm) → AlarmBefore a b → AlarmBefore b c → AlarmBefore a c
+pub before_trans : (a b c : Alarm) → AlarmBefore a b → AlarmBefore b c → AlarmBefore a c
 before_trans a b c (inl l) (inl m) = inl (omega (arith, l, m))
 before_trans a b c (inl l) (inr m) = inl (let e = m.0 in omega (arith, l, e))
 before_trans a b c (inr l) (inl m) = inl (let e = l.0 in omega (arith, m, e))
@@ -35,17 +35,17 @@ before_trans a b c (inr (e, inl l)) (inr (f, inr m)) = inr (e ∙ f, inl (let g 
 before_trans a b c (inr (e, inr l)) (inr (f, inl m)) = inr (e ∙ f, inl (let g = l.0 in omega (arith, m, g)))
 before_trans a b c (inr (e, inr (g, l))) (inr (f, inr (h, m))) = inr (e ∙ f, inr (g ∙ h, omega (arith, l, m)))
 
-never_before : (a : Alarm) → AlarmBefore a a → ⊥
+pub never_before : (a : Alarm) → AlarmBefore a a → ⊥
 never_before a (inl l) = absurd (omega (arith, l))
 never_before a (inr (e, inl l)) = absurd (omega (arith, l))
 never_before a (inr (e, inr (f, l))) = absurd (omega (arith, l))
 
-tail_sorted : (a : Alarm) (rest : List Alarm) → IsStrictlySorted (a ∷ rest) → IsStrictlySorted rest
+pub tail_sorted : (a : Alarm) (rest : List Alarm) → IsStrictlySorted (a ∷ rest) → IsStrictlySorted rest
 tail_sorted a [] s = tt
 tail_sorted a (b ∷ rest) s = s.1
 
 -- the first comes before the others
-first_before : (a b : Alarm) (rest : List Alarm) → IsStrictlySorted (a ∷ rest) → Contains rest b → AlarmBefore a b
+pub first_before : (a b : Alarm) (rest : List Alarm) → IsStrictlySorted (a ∷ rest) → Contains rest b → AlarmBefore a b
 first_before a b [] s h = absurd (none b h)
 first_before a b (c ∷ rest) s h =
     either (λ e. subst (AlarmBefore a) e s.0) (λ more. before_trans a c b s.0 (first_before c b rest s.1 more))
@@ -53,7 +53,7 @@ first_before a b (c ∷ rest) s h =
 
 -- ## Equal lists
 
-same_first : (a b : Alarm) (one other : List Alarm) → IsStrictlySorted (a ∷ one) → IsStrictlySorted (b ∷ other)
+pub same_first : (a b : Alarm) (one other : List Alarm) → IsStrictlySorted (a ∷ one) → IsStrictlySorted (b ∷ other)
     → Contains (b ∷ other) a → Contains (a ∷ one) b → a ≡ b
 same_first a b one other s t h k =
     either (λ e. sym e)
