@@ -1,5 +1,6 @@
 -- What `waits` and `ranges` answer: what the least solution of a source tells of its locks, of its objects and of its
--- places, and what that promises of its runs.
+-- places, and what that promises of its runs. The commands are on the usual scale, and notes on whatever scale is asked
+-- for.
 use Rattle.std.specs.Prelude.{◌≡◌, ℕ, ℤ, List, [], ◌∷◌, ◌++◌, Contains}
 use Rattle.std.specs.List.{flat_map}
 use Rattle.tm_terms.specs.declared.places.Place.{Place}
@@ -7,6 +8,8 @@ use Rattle.tm_terms.specs.declared.refusals.Refusal.{Refusal}
 use Rattle.tm_terms.specs.Spelling.{text_of}
 use Rattle.tm_terms.specs.Texts.{refusal_text}
 use Rattle.solution_lines.specs.SolutionTexts.{waits_text, range_line, dead_text}
+use Rattle.program_solutions.specs.tm_laid.declared.scales.Scale.{Scale}
+use Rattle.program_solutions.specs.tm_laid.declared.scales.Scale.TheVariants as Scales
 use Rattle.program_solutions.specs.tm_laid.Layouts.{LaidTree, object_at}
 use Rattle.certificate_check.specs.sound_core.concrete_steps.Worlds.{World, next_at}
 use Rattle.certificate_check.specs.sound_core.concrete_steps.Occurring.{IsReached}
@@ -21,19 +24,23 @@ use Rattle.value_ranges.specs.Places.{AreDead}
 use Rattle.certificate_check.specs.sound_core.Rings.{IsRing, AllLockAt}
 use Rattle.certificate_check.specs.sound_core.Ranges.{HoldsNumber, IsWithin}
 use Rattle.certificate_check.specs.sound_core.Places.{ActsAt, MayAct}
-use Rattle.certificate_check.specs.source_programs.Sources.{IsAccepted, IsRefused}
+use Rattle.certificate_check.specs.source_programs.Sources.{IsAcceptedOn, IsRefused}
 use Rattle.program_streams.specs.declared.statuses.Status.{Status}
 use Rattle.program_streams.specs.declared.statuses.Status.TheVariants.{NoAlarm, Alarms, Refused, Usage, ReadFault}
 use Rattle.program_streams.specs.declared.statuses.Status.TheVariants.{WriteFault, NoMemory}
 use Rattle.source_findings.specs.declared.findings.Finding.{Finding}
 use Rattle.source_findings.specs.declared.findings.Finding.TheVariants.{Waits, Ranges}
 
--- the least solution of the program of which the bytes are a source, with no numbers given as thresholds
-pub record Solves (bytes : List ℕ) : Type 0 where
+-- the least solution of the program of which the bytes are a source on a scale, with no numbers given as thresholds
+pub record SolvesOn (scale : Scale) (bytes : List ℕ) : Type 0 where
   pub program : ProgramBodies
-  pub accepted : IsAccepted [] bytes program
+  pub accepted : IsAcceptedOn scale [] bytes program
   pub pair : Pair
   pub least : IsLeastPair program pair
+
+-- that within the limits of the commands
+abbrev pub Solves : List ℕ → Type 0
+Solves = SolvesOn Scales.Usual
 
 -- ## Circular waits
 
@@ -43,9 +50,9 @@ abbrev pub ListsRings : LaidTree → List Place → Type 0
 ListsRings laid places = (w : World) → IsReached laid w → (tasks : List ℕ) → IsRing laid w tasks
     → AllLockAt laid w places tasks
 
--- the places of circular waits of a least solution
-pub record FindsWaits (bytes : List ℕ) (places : List Place) : Type 0 where
-  pub solves : Solves bytes
+-- the places of circular waits of the least solution on a scale
+pub record FindsWaitsOn (scale : Scale) (bytes : List ℕ) (places : List Place) : Type 0 where
+  pub solves : SolvesOn scale bytes
   pub are : (let s = solves in let pair = s.pair in AreWaits s.program (tables_of pair.tables) places)
   pub rings : (let s = solves in let a = s.accepted in ListsRings a.laid places)
 
@@ -54,11 +61,16 @@ abbrev pub waits_status : List Place → Status
 waits_status [] = NoAlarm
 waits_status (place ∷ places) = Alarms
 
-pub record TellsWaits (bytes : List ℕ) (status : Status) (text : List ℕ) : Type 0 where
+-- what is told of them
+pub record TellsWaitsOn (scale : Scale) (bytes : List ℕ) (status : Status) (text : List ℕ) : Type 0 where
   pub places : List Place
-  pub finds : FindsWaits bytes places
+  pub finds : FindsWaitsOn scale bytes places
   pub comes : status ≡ waits_status places
   pub is : text ≡ waits_text places
+
+-- that within the limits of the commands
+abbrev pub TellsWaits : List ℕ → Status → List ℕ → Type 0
+TellsWaits = TellsWaitsOn Scales.Usual
 
 -- ## Ranges and dead places
 
@@ -73,9 +85,10 @@ abbrev pub ActsNowhere : LaidTree → List Place → Type 0
 ActsNowhere laid dead = (w : World) → IsReached laid w → (place : Place) → Contains dead place → (body : ℕ)
     → MayAct laid w body → ActsAt (next_at laid w body) place → ⊥
 
--- the bounds and the dead places of a least solution
-pub record FindsRanges (bytes : List ℕ) (bounds : List ObjectBounds) (dead : List Place) : Type 0 where
-  pub solves : Solves bytes
+-- the bounds and the dead places of the least solution on a scale
+pub record FindsRangesOn (scale : Scale) (bytes : List ℕ) (bounds : List ObjectBounds) (dead : List Place)
+    : Type 0 where
+  pub solves : SolvesOn scale bytes
   pub ranges : (let s = solves in let pair = s.pair in AreRanges s.program (tables_of pair.tables) pair.store bounds)
   pub places : (let s = solves in let pair = s.pair in AreDead s.program (tables_of pair.tables) dead)
   pub within : (let s = solves in let a = s.accepted in StaysWithin s.program a.laid bounds)
@@ -86,13 +99,18 @@ abbrev pub bounds_line : List ℕ → LaidTree → ObjectBounds → List ℕ
 bounds_line bytes laid b =
     let o = object_at laid b.object in range_line o.place (text_of bytes o.name) b.low b.high
 
-pub record TellsRanges (bytes : List ℕ) (status : Status) (text : List ℕ) : Type 0 where
+-- what is told of both
+pub record TellsRangesOn (scale : Scale) (bytes : List ℕ) (status : Status) (text : List ℕ) : Type 0 where
   pub bounds : List ObjectBounds
   pub dead : List Place
-  pub finds : FindsRanges bytes bounds dead
+  pub finds : FindsRangesOn scale bytes bounds dead
   pub comes : status ≡ NoAlarm
   pub is : (let f = finds in let s = f.solves in let a = s.accepted in
       text ≡ flat_map (bounds_line bytes a.laid) bounds ++ dead_text dead)
+
+-- that within the limits of the commands
+abbrev pub TellsRanges : List ℕ → Status → List ℕ → Type 0
+TellsRanges = TellsRangesOn Scales.Usual
 
 -- ## Both
 

@@ -1,9 +1,10 @@
--- What the code tells of the least solution of a source is what the source is answered; and answers come with a whole
--- text, which sources that are too long have already where only a front of them is known.
+-- What the code tells of the least solution of a source is what the source is answered on a scale; and answers come
+-- with a whole text, which sources that are too long have already where only a front of them is known.
 use Rattle.std.proofs.Common.{◌≡◌, ◌∙◌, sym, ap, subst, ℕ, ◌<◌, ◌≤◌, ◌^◌, List, [], ◌∷◌, ◌++◌, length, map, arith}
 use Rattle.std.proofs.Common.{length-append, Vec, Option}
 use Rattle.std.specs.declared.alloc.Global.{Global}
 use Rattle.tm_terms.specs.declared.refusals.Refusal.{Refusal}
+use Rattle.tm_laid.specs.declared.scales.Scale.{Scale}
 use Rattle.tm_laid.specs.Layouts.{LaidTree}
 use Rattle.program_solutions.specs.program_equations.Programs.{ProgramBodies, IsProgram}
 use Rattle.program_solutions.specs.post_recheck.Pairs.{Pair}
@@ -17,9 +18,10 @@ use Rattle.alarm_contexts.specs.declared.alarm_context.AlarmContexts.{AlarmConte
 use Rattle.alarm_contexts.proofs.One.{report_alarms, no_races}
 use Rattle.request_circles.specs.declared.rings.Ring.{Ring}
 use Rattle.request_circles.specs.Rings.{ring_places}
-use Rattle.source_programs.specs.LaidSources.{longest_source, IsLaidSource}
-use Rattle.source_programs.specs.Sources.{IsAccepted, IsRefused}
-use Rattle.source_programs.specs.Sources.IsRefused.{too_long, not_lexed, not_parsed, not_typed, not_laid, not_prepared}
+use Rattle.source_programs.specs.LaidSources.{longest_source, IsLaidSourceOn}
+use Rattle.source_programs.specs.Sources.{IsAcceptedOn, IsRefusedOn}
+use Rattle.source_programs.specs.Sources.IsRefusedOn.{too_long, not_lexed, not_parsed, not_typed, not_laid}
+use Rattle.source_programs.specs.Sources.IsRefusedOn.{not_prepared}
 use Rattle.source_programs.proofs.Accepted.{accepted_is_program}
 use Rattle.sound_core.proofs.GroupedAccesses.{accesses_listed}
 use Rattle.sound_core.proofs.Rings.{ring_listed}
@@ -31,7 +33,7 @@ use Rattle.program_streams.specs.declared.statuses.Status.{Status}
 use Rattle.program_streams.specs.declared.statuses.Status.TheVariants.{NoAlarm, Alarms, Refused, Usage, ReadFault}
 use Rattle.program_streams.specs.declared.statuses.Status.TheVariants.{WriteFault, NoMemory}
 use Rattle.program_streams.specs.Statuses.{IsWhole}
-use Rattle.source_findings.specs.Findings.{Solves, FindsRanges}
+use Rattle.source_findings.specs.Findings.{SolvesOn, FindsRangesOn}
 use Rattle.value_ranges.specs.declared.object_bounds.ObjectBounds.{ObjectBounds}
 use Rattle.value_ranges.specs.Ranges.{AreRanges, AreCellRanges}
 use Rattle.value_ranges.specs.Places.{AreDead}
@@ -46,7 +48,7 @@ use Rattle.program_reports.specs.Reports.{IsReport}
 use Rattle.program_notes.specs.AlarmTexts.{other_alarms}
 use Rattle.program_notes.proofs.Paired.{paired}
 use Rattle.program_notes.specs.declared.declarations.Declared.{Declared}
-use Rattle.certificate_check.proofs.Sourced.{comes_from}
+use Rattle.certificate_check.proofs.Sourced.{comes_from, lists_all}
 use Rattle.note_lines.specs.Names.{task_names, task_priorities, mutex_names, object_names}
 use Rattle.note_lines.specs.RingTexts.{rings_text}
 use Rattle.note_lines.specs.RaceTexts.{groups_text}
@@ -54,10 +56,10 @@ use Rattle.note_lines.specs.AlarmTexts.{alarms_text}
 use Rattle.program_notes.specs.Operations.{operation_of}
 use Rattle.note_lines.specs.declared.names.Names.{Names}
 use Rattle.source_notes.specs.declared.answers.Note.{Note}
-use Rattle.source_notes.specs.declared.answers.Note.TheVariants.{Rings, Races, Alarms as Others, Whole, Parts}
+use Rattle.source_notes.specs.declared.answers.Note.TheVariants.{Report, Rings, Races, Alarms as Others, Whole, Parts}
 use Rattle.source_notes.specs.Notes.{rings_status, races_status, alarms_status, TellsRings, TellsRaces, TellsAlarms}
-use Rattle.source_notes.specs.Notes.{FindsRings, FindsRaces, FindsAlarms, FindsDetails, FindsCells, Declares}
-use Rattle.source_notes.specs.Notes.{TellsNotes}
+use Rattle.source_notes.specs.Notes.{FindsRings, FindsRaces, FindsAlarms, FindsReport, FindsDetails, FindsCells}
+use Rattle.source_notes.specs.Notes.{Declares, TellsNotes}
 use Rattle.source_notes.specs.Notes.{report_status, TellsReport, TellsParts, Tells, HasNotes}
 use Rattle.source_notes.specs.PartTexts.{Part}
 use Rattle.source_notes.specs.reading.Told.{TellsRingsOf, TellsRacesOf, TellsAlarmsOf, TellsNotesOf}
@@ -69,46 +71,59 @@ of_part : {A B : Status → List ℕ → Type 0} → ((status : Status) (text : 
     → Part A → Part B
 of_part f q = record { status = q.status; text = q.text; told = f q.status q.text q.told }
 
-module _ (bytes : List ℕ) (p : ProgramBodies) (a : IsAccepted [] bytes p) (few : length a.laid.objects ≤ 2 ^ 32)
-    (pair : Pair) (least : IsLeastPair p pair) where
-  solves : Solves bytes
+module _ (scale : Scale) (bytes : List ℕ) (p : ProgramBodies) (a : IsAcceptedOn scale [] bytes p)
+    (few : length a.laid.objects ≤ 2 ^ 32) (pair : Pair) (least : IsLeastPair p pair) where
+  solves : SolvesOn scale bytes
   solves = record { program = p; accepted = a; pair = pair; least = least }
 
   is : IsProgram p
-  is = accepted_is_program [] bytes p a
+  is = accepted_is_program scale [] bytes p a
 
   -- what each part promises of runs
-  rings_found : (rings : List Ring) → AreRings p (tables_of pair.tables) rings → FindsRings bytes rings
+  rings_found : (rings : List Ring) → AreRings p (tables_of pair.tables) rings → FindsRings scale bytes rings
   unfolding solves
   rings_found rings are = record {
     solves = solves;
     are = are;
-    blocked = λ w reached tasks ring. ring_listed a.laid p (comes_from [] bytes p a) is few pair.tables pair.store
+    blocked = λ w reached tasks ring. ring_listed a.laid p (comes_from scale [] bytes p a) is few pair.tables pair.store
         least.solution (ring_places rings) are.places w reached tasks ring;
   }
 
-  races_found : (groups : List AccessGroup) → AreGroups p (tables_of pair.tables) groups → FindsRaces bytes groups
+  races_found : (groups : List AccessGroup) → AreGroups p (tables_of pair.tables) groups → FindsRaces scale bytes groups
   unfolding solves
   races_found groups are = record {
     solves = solves;
     are = are;
-    listed = accesses_listed a.laid p (comes_from [] bytes p a) is few pair.tables pair.store least.solution groups are;
+    listed = accesses_listed a.laid p (comes_from scale [] bytes p a) is few pair.tables pair.store least.solution
+        groups are;
     alarmed = λ report r place. grouped_alarms p (tables_of pair.tables) groups are place report r;
   }
 
   -- the program of the solution is the one at hand
-  alarms_found : (alarms : List AlarmContexts) → AreContexts p (tables_of pair.tables) alarms → FindsAlarms bytes alarms
+  alarms_found : (alarms : List AlarmContexts) → AreContexts p (tables_of pair.tables) alarms
+      → FindsAlarms scale bytes alarms
   unfolding solves
   alarms_found alarms are = record {
     solves = solves;
     are = are;
-    listed = stops_listed a.laid p (comes_from [] bytes p a) is few pair.tables pair.store least.solution alarms are;
-    operands = operands_listed a.laid p (comes_from [] bytes p a) is few pair.tables pair.store least.solution alarms
+    listed = stops_listed a.laid p (comes_from scale [] bytes p a) is few pair.tables pair.store least.solution alarms
         are;
-    ends = always_ends a.laid p (comes_from [] bytes p a) is few pair.tables pair.store least.solution alarms are;
-    stops = λ told. locks_stop a.laid p (comes_from [] bytes p a) is few pair.tables pair.store least.solution told;
+    operands = operands_listed a.laid p (comes_from scale [] bytes p a) is few pair.tables pair.store least.solution
+        alarms are;
+    ends = always_ends a.laid p (comes_from scale [] bytes p a) is few pair.tables pair.store least.solution alarms are;
+    stops = λ told. locks_stop a.laid p (comes_from scale [] bytes p a) is few pair.tables pair.store least.solution
+        told;
     alarmed = λ report r place class other.
         report_alarms p (tables_of pair.tables) report alarms r are place class other;
+  }
+
+  -- the report lists each error that occurs in a run
+  report_found : (report : List Alarm) → IsReport p (tables_of pair.tables) report → FindsReport scale bytes report
+  unfolding solves
+  report_found report exact = record {
+    solves = solves;
+    is = exact;
+    lists = lists_all scale [] bytes p a few pair.tables pair.store least.solution report exact;
   }
 
   paired_found : (alarms : List AlarmContexts) (report : List Alarm) → AreContexts p (tables_of pair.tables) alarms
@@ -120,40 +135,41 @@ module _ (bytes : List ℕ) (p : ProgramBodies) (a : IsAccepted [] bytes p) (few
 
   ranges_found : (bounds : List ObjectBounds) (dead : List Place)
       → AreRanges p (tables_of pair.tables) pair.store bounds → AreDead p (tables_of pair.tables) dead
-      → FindsRanges bytes bounds dead
+      → FindsRangesOn scale bytes bounds dead
   unfolding solves
   ranges_found bounds dead ranges places = record {
     solves = solves;
     ranges = ranges;
     places = places;
-    within = λ w reached object cell n h. within a.laid p (comes_from [] bytes p a) is few pair.tables pair.store
+    within = λ w reached object cell n h. within a.laid p (comes_from scale [] bytes p a) is few pair.tables pair.store
         least.solution bounds ranges w reached object cell n h;
-    nowhere = λ w reached place has body may acts. never_listed a.laid p (comes_from [] bytes p a) is few
+    nowhere = λ w reached place has body may acts. never_listed a.laid p (comes_from scale [] bytes p a) is few
         pair.tables pair.store least.solution w reached dead places place has body may acts;
   }
 
   -- the bounds of cells
   cells_found : (bounds : List (Option ObjectBounds))
-      → AreCellRanges p (tables_of pair.tables) pair.store bounds → FindsCells bytes bounds
+      → AreCellRanges p (tables_of pair.tables) pair.store bounds → FindsCells scale bytes bounds
   unfolding solves
   cells_found bounds are = record {
     solves = solves;
     are = are;
-    within = λ w reached object cell n h. within_cells a.laid p (comes_from [] bytes p a) is few pair.tables pair.store
-        least.solution bounds are w reached object cell n h;
+    within = λ w reached object cell n h. within_cells a.laid p (comes_from scale [] bytes p a) is few pair.tables
+        pair.store least.solution bounds are w reached object cell n h;
   }
 
   details_found : (groups : List AccessGroup) (details : List (Vec AccessDetails Global))
-      → AreAllDetails p (tables_of pair.tables) groups details → FindsDetails bytes groups details
+      → AreAllDetails p (tables_of pair.tables) groups details → FindsDetails scale bytes groups details
   unfolding solves
   details_found groups details are = record { solves = solves; are = are }
 
-  module _ (laid : LaidTree) (of : IsLaidSource bytes laid) (names : Names) (are_tasks : names.tasks.items
+  module _ (laid : LaidTree) (of : IsLaidSourceOn scale bytes laid) (names : Names) (are_tasks : names.tasks.items
       ≡ task_names laid) (are_priorities : names.priorities.items ≡ task_priorities laid) (are_mutexes
       : names.mutexes.items ≡ mutex_names laid) (are_objects : names.objects.items ≡ object_names laid)
       (declared : Declared) (declares : Declares laid declared) where
     rings_told : (status : Status) (text : List ℕ)
-        → TellsRingsOf p bytes names.tasks.items names.mutexes.items pair status text → TellsRings bytes status text
+        → TellsRingsOf p bytes names.tasks.items names.mutexes.items pair status text
+        → TellsRings scale bytes status text
     rings_told status text t = record {
       rings = t.rings;
       finds = rings_found t.rings t.are;
@@ -166,7 +182,7 @@ module _ (bytes : List ℕ) (p : ProgramBodies) (a : IsAccepted [] bytes p) (few
 
     races_told : (status : Status) (text : List ℕ)
         → TellsRacesOf p bytes names.objects.items names.tasks.items names.mutexes.items pair status text
-        → TellsRaces bytes status text
+        → TellsRaces scale bytes status text
     races_told status text t = record {
       groups = t.groups;
       finds = races_found t.groups t.are;
@@ -179,7 +195,7 @@ module _ (bytes : List ℕ) (p : ProgramBodies) (a : IsAccepted [] bytes p) (few
     }
 
     alarms_told : (status : Status) (text : List ℕ) → TellsAlarmsOf p bytes names pair status text
-        → TellsAlarms bytes status text
+        → TellsAlarms scale bytes status text
     unfolding solves alarms_found
     alarms_told status text t = record {
       alarms = t.alarms;
@@ -198,7 +214,7 @@ module _ (bytes : List ℕ) (p : ProgramBodies) (a : IsAccepted [] bytes p) (few
     }
 
     notes_told : (status : Status) (text : List ℕ) → TellsNotesOf p bytes declared pair status text
-        → TellsNotes bytes status text
+        → TellsNotes scale bytes status text
     unfolding solves alarms_found
     notes_told status text t =
         let are = t.are in
@@ -208,7 +224,7 @@ module _ (bytes : List ℕ) (p : ProgramBodies) (a : IsAccepted [] bytes p) (few
         record {
           contents = c;
           finds = record {
-            report = record { solves = solves; is = are.report };
+            report = report_found report.alarms.items are.report;
             others = alarms_found c.others.items are.others;
             paired = paired_found c.others.items report.alarms.items are.others are.report;
             groups = races_found c.groups.items are.groups;
@@ -225,22 +241,22 @@ module _ (bytes : List ℕ) (p : ProgramBodies) (a : IsAccepted [] bytes p) (few
           is = t.is;
         }
 
-    report_told : (status : Status) (text : List ℕ) → TellsReportOf p pair status text → TellsReport bytes status text
-    unfolding solves
+    report_told : (status : Status) (text : List ℕ) → TellsReportOf p pair status text
+        → TellsReport scale bytes status text
     report_told status text t = record {
       report = t.report;
-      finds = record { solves = solves; is = t.are };
+      finds = report_found t.report t.are;
       comes = t.comes;
       is = t.is;
     }
 
     parts_told : (status : Status) (text : List ℕ) → TellsPartsOf p bytes names declared pair status text
-        → TellsParts bytes status text
+        → TellsParts scale bytes status text
     unfolding of_part
     parts_told status text t = record {
       report = of_part report_told t.report;
-      waits = of_part (waits_told bytes p a few pair least) t.waits;
-      ranges = of_part (ranges_told bytes p a few pair least) t.ranges;
+      waits = of_part (waits_told scale bytes p a few pair least) t.waits;
+      ranges = of_part (ranges_told scale bytes p a few pair least) t.ranges;
       rings = of_part rings_told t.rings;
       races = of_part races_told t.races;
       alarms = of_part alarms_told t.alarms;
@@ -251,42 +267,50 @@ module _ (bytes : List ℕ) (p : ProgramBodies) (a : IsAccepted [] bytes p) (few
 
     -- the status is one of the two
     rings_by : (rings : List Ring) (status : Status) (text : List ℕ) → status ≡ rings_status rings
-        → TellsRings bytes status text → HasNotes Rings bytes status text
+        → TellsRings scale bytes status text → HasNotes scale Rings bytes status text
     rings_by [] status text e t =
-        subst (λ s. TellsRings bytes s text → HasNotes Rings bytes s text) (sym e) (λ u. u) t
+        subst (λ s. TellsRings scale bytes s text → HasNotes scale Rings bytes s text) (sym e) (λ u. u) t
     rings_by (ring ∷ rings) status text e t =
-        subst (λ s. TellsRings bytes s text → HasNotes Rings bytes s text) (sym e) (λ u. u) t
+        subst (λ s. TellsRings scale bytes s text → HasNotes scale Rings bytes s text) (sym e) (λ u. u) t
 
     races_by : (groups : List AccessGroup) (status : Status) (text : List ℕ) → status ≡ races_status groups
-        → TellsRaces bytes status text → HasNotes Races bytes status text
+        → TellsRaces scale bytes status text → HasNotes scale Races bytes status text
     races_by [] status text e t =
-        subst (λ s. TellsRaces bytes s text → HasNotes Races bytes s text) (sym e) (λ u. u) t
+        subst (λ s. TellsRaces scale bytes s text → HasNotes scale Races bytes s text) (sym e) (λ u. u) t
     races_by (group ∷ groups) status text e t =
-        subst (λ s. TellsRaces bytes s text → HasNotes Races bytes s text) (sym e) (λ u. u) t
+        subst (λ s. TellsRaces scale bytes s text → HasNotes scale Races bytes s text) (sym e) (λ u. u) t
 
     alarms_by : (alarms : List AlarmContexts) (status : Status) (text : List ℕ) → status ≡ alarms_status alarms
-        → TellsAlarms bytes status text → HasNotes Others bytes status text
+        → TellsAlarms scale bytes status text → HasNotes scale Others bytes status text
     alarms_by [] status text e t =
-        subst (λ s. TellsAlarms bytes s text → HasNotes Others bytes s text) (sym e) (λ u. u) t
+        subst (λ s. TellsAlarms scale bytes s text → HasNotes scale Others bytes s text) (sym e) (λ u. u) t
     alarms_by (alarm ∷ alarms) status text e t =
-        subst (λ s. TellsAlarms bytes s text → HasNotes Others bytes s text) (sym e) (λ u. u) t
+        subst (λ s. TellsAlarms scale bytes s text → HasNotes scale Others bytes s text) (sym e) (λ u. u) t
+
+    report_by : (report : List Alarm) (status : Status) (text : List ℕ) → status ≡ report_status report
+        → TellsReport scale bytes status text → HasNotes scale Report bytes status text
+    report_by [] status text e t =
+        subst (λ s. TellsReport scale bytes s text → HasNotes scale Report bytes s text) (sym e) (λ u. u) t
+    report_by (alarm ∷ report) status text e t =
+        subst (λ s. TellsReport scale bytes s text → HasNotes scale Report bytes s text) (sym e) (λ u. u) t
 
     notes_by : (report : List Alarm) (status : Status) (text : List ℕ) → status ≡ report_status report
-        → TellsNotes bytes status text → HasNotes Whole bytes status text
+        → TellsNotes scale bytes status text → HasNotes scale Whole bytes status text
     notes_by [] status text e t =
-        subst (λ s. TellsNotes bytes s text → HasNotes Whole bytes s text) (sym e) (λ u. u) t
+        subst (λ s. TellsNotes scale bytes s text → HasNotes scale Whole bytes s text) (sym e) (λ u. u) t
     notes_by (alarm ∷ report) status text e t =
-        subst (λ s. TellsNotes bytes s text → HasNotes Whole bytes s text) (sym e) (λ u. u) t
+        subst (λ s. TellsNotes scale bytes s text → HasNotes scale Whole bytes s text) (sym e) (λ u. u) t
 
     parts_by : (report : List Alarm) (status : Status) (text : List ℕ) → status ≡ report_status report
-        → TellsParts bytes status text → HasNotes Parts bytes status text
+        → TellsParts scale bytes status text → HasNotes scale Parts bytes status text
     parts_by [] status text e t =
-        subst (λ s. TellsParts bytes s text → HasNotes Parts bytes s text) (sym e) (λ u. u) t
+        subst (λ s. TellsParts scale bytes s text → HasNotes scale Parts bytes s text) (sym e) (λ u. u) t
     parts_by (alarm ∷ report) status text e t =
-        subst (λ s. TellsParts bytes s text → HasNotes Parts bytes s text) (sym e) (λ u. u) t
+        subst (λ s. TellsParts scale bytes s text → HasNotes scale Parts bytes s text) (sym e) (λ u. u) t
 
     pub told : (n : Note) (status : Status) (text : List ℕ) → TellsOf n p bytes names declared pair status text
-        → HasNotes n bytes status text
+        → HasNotes scale n bytes status text
+    told Report status text t = report_by t.report status text t.comes (report_told status text t)
     told Rings status text t = rings_by t.rings status text t.comes (rings_told status text t)
     told Races status text t = races_by t.groups status text t.comes (races_told status text t)
     told Others status text t = alarms_by t.alarms status text t.comes (alarms_told status text t)
@@ -299,48 +323,53 @@ module _ (bytes : List ℕ) (p : ProgramBodies) (a : IsAccepted [] bytes p) (few
 
 -- ## Whole texts
 
-pub notes_are_whole : (n : Note) (bytes : List ℕ) (status : Status) (text : List ℕ) → HasNotes n bytes status text
-    → IsWhole status
-notes_are_whole n bytes NoAlarm text h = tt
-notes_are_whole n bytes Alarms text h = tt
-notes_are_whole n bytes Refused text h = tt
-notes_are_whole n bytes Usage text h = absurd h
-notes_are_whole n bytes ReadFault text h = absurd h
-notes_are_whole n bytes WriteFault text h = absurd h
-notes_are_whole n bytes NoMemory text h = absurd h
+pub notes_are_whole : (scale : Scale) (n : Note) (bytes : List ℕ) (status : Status) (text : List ℕ)
+    → HasNotes scale n bytes status text → IsWhole status
+notes_are_whole scale n bytes NoAlarm text h = tt
+notes_are_whole scale n bytes Alarms text h = tt
+notes_are_whole scale n bytes Refused text h = tt
+notes_are_whole scale n bytes Usage text h = absurd h
+notes_are_whole scale n bytes ReadFault text h = absurd h
+notes_are_whole scale n bytes WriteFault text h = absurd h
+notes_are_whole scale n bytes NoMemory text h = absurd h
 
 -- ## Sources that are too long
 
-longer_refused : (bytes more : List ℕ) (refusal : Refusal) → longest_source < length bytes → IsRefused bytes refusal
-    → IsRefused (bytes ++ more) refusal
-longer_refused bytes more refusal h (too_long k) = too_long (omega (arith, length-append bytes more))
-longer_refused bytes more refusal h (not_lexed k l) = absurd (omega arith)
-longer_refused bytes more refusal h (not_parsed k l q) = absurd (omega arith)
-longer_refused bytes more refusal h (not_typed k l t) = absurd (omega arith)
-longer_refused bytes more refusal h (not_laid k l t e) = absurd (omega arith)
-longer_refused bytes more refusal h (not_prepared source e) =
+longer_refused : (scale : Scale) (bytes more : List ℕ) (refusal : Refusal) → longest_source < length bytes
+    → IsRefusedOn scale bytes refusal → IsRefusedOn scale (bytes ++ more) refusal
+longer_refused scale bytes more refusal h (too_long k) = too_long (omega (arith, length-append bytes more))
+longer_refused scale bytes more refusal h (not_lexed k l) = absurd (omega arith)
+longer_refused scale bytes more refusal h (not_parsed k l q) = absurd (omega arith)
+longer_refused scale bytes more refusal h (not_typed k l t) = absurd (omega arith)
+longer_refused scale bytes more refusal h (not_laid k l t e) = absurd (omega arith)
+longer_refused scale bytes more refusal h (not_prepared source e) =
     absurd (let k : length bytes ≤ longest_source = source.short in omega arith)
 
-not_solved : (bytes : List ℕ) → longest_source < length bytes → Solves bytes → ⊥
-not_solved bytes long s =
+not_solved : (scale : Scale) (bytes : List ℕ) → longest_source < length bytes → SolvesOn scale bytes → ⊥
+not_solved scale bytes long s =
     let accepted = s.accepted in
     let source = accepted.source in
     let short : length bytes ≤ longest_source = source.short in
     omega (arith, long, short)
 
-solved_by : (n : Note) (bytes : List ℕ) (status : Status) (text : List ℕ) → Tells n bytes status text → Solves bytes
-solved_by Rings bytes status text t = (let f = t.finds in f.solves)
-solved_by Races bytes status text t = (let f = t.finds in f.solves)
-solved_by Others bytes status text t = (let f = t.finds in f.solves)
-solved_by Whole bytes status text t = (let f = t.finds in let r = f.report in r.solves)
-solved_by Parts bytes status text t = (let q = t.report in let r = q.told in let f = r.finds in f.solves)
+solved_by : (scale : Scale) (n : Note) (bytes : List ℕ) (status : Status) (text : List ℕ)
+    → Tells scale n bytes status text → SolvesOn scale bytes
+solved_by scale Report bytes status text t = (let f = t.finds in f.solves)
+solved_by scale Rings bytes status text t = (let f = t.finds in f.solves)
+solved_by scale Races bytes status text t = (let f = t.finds in f.solves)
+solved_by scale Others bytes status text t = (let f = t.finds in f.solves)
+solved_by scale Whole bytes status text t = (let f = t.finds in let r = f.report in r.solves)
+solved_by scale Parts bytes status text t = (let q = t.report in let r = q.told in let f = r.finds in f.solves)
 
-pub longer_notes : (n : Note) (bytes more : List ℕ) → longest_source < length bytes → (status : Status) (text : List ℕ)
-    → HasNotes n bytes status text → HasNotes n (bytes ++ more) status text
-longer_notes n bytes more long NoAlarm text h = absurd (not_solved bytes long (solved_by n bytes NoAlarm text h))
-longer_notes n bytes more long Alarms text h = absurd (not_solved bytes long (solved_by n bytes Alarms text h))
-longer_notes n bytes more long Refused text h = (h.0, longer_refused bytes more h.0 long h.1, h.2)
-longer_notes n bytes more long Usage text h = absurd h
-longer_notes n bytes more long ReadFault text h = absurd h
-longer_notes n bytes more long WriteFault text h = absurd h
-longer_notes n bytes more long NoMemory text h = absurd h
+pub longer_notes : (scale : Scale) (n : Note) (bytes more : List ℕ) → longest_source < length bytes
+    → (status : Status) (text : List ℕ) → HasNotes scale n bytes status text
+    → HasNotes scale n (bytes ++ more) status text
+longer_notes scale n bytes more long NoAlarm text h =
+    absurd (not_solved scale bytes long (solved_by scale n bytes NoAlarm text h))
+longer_notes scale n bytes more long Alarms text h =
+    absurd (not_solved scale bytes long (solved_by scale n bytes Alarms text h))
+longer_notes scale n bytes more long Refused text h = (h.0, longer_refused scale bytes more h.0 long h.1, h.2)
+longer_notes scale n bytes more long Usage text h = absurd h
+longer_notes scale n bytes more long ReadFault text h = absurd h
+longer_notes scale n bytes more long WriteFault text h = absurd h
+longer_notes scale n bytes more long NoMemory text h = absurd h

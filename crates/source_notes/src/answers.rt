@@ -1,11 +1,11 @@
-//! The answer to the bytes of a source.
+//! The answer to the bytes of a source, on a scale.
 ghost use Rattle.std.specs.Prelude.{◌≡◌, IfOk};
 ghost use Rattle.program_solutions.specs.program_systems.ReadPrograms.{program_of};
 ghost use Rattle.program_solutions.specs.LeastReports.{IsLeastPair};
 ghost use Rattle.source_notes.specs.Notes.{HasNotes, rings_status, races_status, alarms_status, report_status};
 ghost use Rattle.source_notes.specs.reading.Told.{TellsRingsOf, TellsRacesOf, TellsAlarmsOf};
 ghost use Rattle.source_notes.specs.reading.Told.{TellsNotesOf, AreContents};
-ghost use Rattle.source_notes.specs.reading.PartsTold.{TellsOf};
+ghost use Rattle.source_notes.specs.reading.PartsTold.{TellsReportOf, TellsOf};
 
 use crate::parts::parts_reply;
 use access_groups::{AccessGroup, groups};
@@ -18,16 +18,21 @@ use program_notes::{Contents, Declared, declared_of, notes_text};
 use program_reports::judge;
 use program_solutions::{Analysis, Solution, solution};
 use program_streams::Status;
+use report_json::report_json;
 use request_circles::Ring;
-use source_programs::source_program;
+use source_findings::refusal_line_on;
+use source_programs::source_program_on;
 use std::alloc::Global as Heap;
+use tm_laid::Scale;
 use tm_lattice::NoMemory;
-use tm_terms::{Alarm, Fail, refusal_line};
+use tm_terms::{Alarm, Fail};
 use value_ranges::{cell_ranges, ranges};
 
 /// What the notes are on.
 #[derive(Clone, Copy)]
 pub enum Note {
+    /// The report alone, as JSON.
+    Report,
     /// Rings of tasks that may come to wait for each other.
     Rings,
     /// Races by object.
@@ -90,6 +95,24 @@ pub(crate) fn report_status(report: &[Alarm]) -> Status
     } else {
         Status::Alarms
     }
+}
+
+/// The report of a least solution.
+pub(crate) fn report_reply(
+    alloc: Heap,
+    analysis: &Analysis,
+    found: &Solution,
+) -> Result<NoteReply, NoMemory>
+    requires { IsLeastPair (program_of analysis.now) found.now }
+    ensures { IfOk result (λ reply. TellsReportOf (program_of analysis.now) found.now reply.status reply.text.items) }
+{
+    let (program, facts) = analysis.parts();
+    let report = judge(alloc, program, facts, found.tables(), found.store())?;
+    let line = report_json(alloc, &report.alarms)?;
+    Ok(NoteReply {
+        status: report_status(&report.alarms),
+        text: line.into_bytes(),
+    })
 }
 
 /// What a least solution tells of rings.
@@ -237,6 +260,7 @@ fn reply_of(
         found.now reply.status reply.text.items) }
 {
     match note {
+        Note::Report => report_reply(alloc, analysis, found),
         Note::Rings => rings_reply(alloc, bytes, names, analysis, found),
         Note::Races => races_reply(alloc, bytes, names, analysis, found),
         Note::Alarms => alarms_reply(alloc, bytes, names, analysis, found),
@@ -245,12 +269,12 @@ fn reply_of(
     }
 }
 
-/// The notes on the bytes of a source, or its refusal. The solution is that of one worker, with no numbers given as
-/// thresholds.
-pub fn notes_of(alloc: Heap, note: Note, bytes: &[u8]) -> Result<NoteReply, NoMemory>
-    ensures { IfOk result (λ reply. HasNotes note bytes.now reply.status reply.text.items) }
+/// The notes on the bytes of a source on a scale, or its refusal there. The solution is that of one worker, with no
+/// numbers given as thresholds.
+pub fn notes_of(alloc: Heap, scale: Scale, note: Note, bytes: &[u8]) -> Result<NoteReply, NoMemory>
+    ensures { IfOk result (λ reply. HasNotes scale note bytes.now reply.status reply.text.items) }
 {
-    match source_program(alloc, bytes, &[]) {
+    match source_program_on(alloc, scale, bytes, &[]) {
         Ok(program) => {
             let names = names_of(alloc, &program.laid)?;
             let declared = declared_of(alloc, &program.laid)?;
@@ -259,7 +283,7 @@ pub fn notes_of(alloc: Heap, note: Note, bytes: &[u8]) -> Result<NoteReply, NoMe
             reply_of(alloc, note, bytes, &names, &declared, &analysis, &found)
         }
         Err(Fail::Refused(refusal)) => {
-            let text = refusal_line(alloc, &refusal)?;
+            let text = refusal_line_on(alloc, scale, &refusal)?;
             Ok(NoteReply {
                 status: Status::Refused,
                 text: text.into_bytes(),

@@ -9,15 +9,13 @@ ghost use Rattle.source_notes.specs.reading.Told.{TellsNotesOf};
 ghost use Rattle.source_notes.specs.reading.PartsTold.{TellsReportOf, TellsPartsOf, Adds, AddsFirst};
 
 use crate::answers::{
-    NoteReply, alarms_reply, races_reply, report_status, rings_reply, whole_reply,
+    NoteReply, alarms_reply, races_reply, report_reply, rings_reply, whole_reply,
 };
 use note_lines::Names;
 use notes_json::{push_bytes, push_number};
 use program_notes::Declared;
-use program_reports::judge;
 use program_solutions::{Analysis, Solution};
 use program_streams::Status;
-use report_json::report_json;
 use source_findings::{Finding, told_of};
 use std::alloc::Global as Heap;
 use tm_lattice::NoMemory;
@@ -50,12 +48,9 @@ fn push_report(
     ensures { IfOk result (AddsFirst (TellsReportOf (program_of analysis.now) found.now) (codes "report")
         text.old.items text.new.items) }
 {
-    let (program, facts) = analysis.parts();
-    let report = judge(alloc, program, facts, found.tables(), found.store())?;
-    let line = report_json(alloc, &report.alarms)?;
-    let status = report_status(&report.alarms);
-    push_part(alloc, text, b"report", status, line.as_bytes())?;
-    Ok(status)
+    let reply = report_reply(alloc, analysis, found)?;
+    push_part(alloc, text, b"report", reply.status, &reply.text)?;
+    Ok(reply.status)
 }
 
 /// Appends a finding.

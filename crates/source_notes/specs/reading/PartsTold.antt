@@ -10,7 +10,7 @@ use Rattle.program_streams.specs.declared.statuses.Status.{Status}
 use Rattle.source_findings.specs.Tellings.{TellsWaitsOf, TellsRangesOf}
 use Rattle.note_lines.specs.declared.names.Names.{Names}
 use Rattle.source_notes.specs.declared.answers.Note.{Note}
-use Rattle.source_notes.specs.declared.answers.Note.TheVariants.{Rings, Races, Alarms, Whole, Parts}
+use Rattle.source_notes.specs.declared.answers.Note.TheVariants.{Report, Rings, Races, Alarms, Whole, Parts}
 use Rattle.program_notes.specs.declared.declarations.Declared.{Declared}
 use Rattle.source_notes.specs.Notes.{report_status}
 use Rattle.source_notes.specs.PartTexts.{Part, shown}
@@ -48,6 +48,7 @@ pub record TellsPartsOf (p : ProgramBodies) (bytes : List ℕ) (names : Names) (
       ++ shown (codes "races") races) ++ shown (codes "alarms") alarms) ++ shown (codes "notes") notes
 
 abbrev pub TellsOf : Note → ProgramBodies → List ℕ → Names → Declared → Pair → Status → List ℕ → Type 0
+TellsOf Report p bytes names declared = TellsReportOf p
 TellsOf Rings p bytes names declared = TellsRingsOf p bytes names.tasks.items names.mutexes.items
 TellsOf Races p bytes names declared = TellsRacesOf p bytes names.objects.items names.tasks.items names.mutexes.items
 TellsOf Alarms p bytes names declared = TellsAlarmsOf p bytes names

@@ -4,6 +4,12 @@ use Rattle.program_solutions.specs.program_systems.ReadPrograms.{program_of}
 use Rattle.source_notes.specs.reading.PartsTold.{TellsOf}
 use Rattle.source_notes.proofs.answers.reply_of.Goals as goal
 
+pub returns-in-Report : goal.returns-in-Report
+returns-in-Report c =
+    subst (λ n. IfOk c.report_reply.result (λ reply. TellsOf n (program_of c.args.analysis.now) c.args.bytes.now
+    c.args.names.now c.args.declared.now c.args.found.now reply.status reply.text.items)) (sym c.in-Report.is)
+    c.report_reply.ensures
+
 pub returns-in-Rings : goal.returns-in-Rings
 returns-in-Rings c =
     subst (λ n. IfOk c.rings_reply.result (λ reply. TellsOf n (program_of c.args.analysis.now) c.args.bytes.now
