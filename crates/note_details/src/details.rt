@@ -25,7 +25,7 @@ use value_ranges::ObjectBounds;
 
 /// The details of a report: of each alarm, of each object, and for each race by object the members that its accesses
 /// reach; and of each object its number among those that are listed, none where it is not: those of static storage
-/// are, and those that notes name.
+/// are, and those that notes or advice name.
 #[derive(Drop)]
 pub struct Details {
     pub alarms: Vec<AlarmDetails>,
@@ -150,6 +150,15 @@ fn mark_groups(groups: &[AccessGroup], named: &mut Vec<bool>)
     }
 }
 
+// Marks the objects with these numbers.
+fn mark_all(objects: &[u32], named: &mut Vec<bool>)
+    ensures { length named.new.items ≡ length named.old.items }
+{
+    for object in objects {
+        mark(*object, named);
+    }
+}
+
 // Whether an object is listed.
 fn is_listed(laid: &Laid, named: &[bool], object: usize) -> bool {
     let is_static = match laid.objects.get(object) {
@@ -231,12 +240,13 @@ fn all_members(
     Ok(members)
 }
 
-// The details of alarms, where the objects that notes name are marked.
+// The details of alarms, where the objects that notes and advice name are marked.
 fn marked_details(
     alloc: Global,
     from: Sources<'_>,
     report: &[Alarm],
     others: &[AlarmContexts],
+    advised: &[u32],
     named: &mut Vec<bool>,
 ) -> Result<Vec<AlarmDetails>, NoMemory>
     requires placed { (place : APlace) → row_at from.racers.now.rows place
@@ -247,12 +257,13 @@ fn marked_details(
 {
     mark_values(others, named);
     mark_groups(from.groups, named);
+    mark_all(advised, named);
     alarm_details(alloc, from, report, others, named)
 }
 
 /// The details of a report: of its alarms, where these are the contexts of those that are not of races, in their order;
-/// of the groups of accesses, of which this is told; and of all objects, where these are the bounds of each abstract
-/// cell. The only error is want of memory.
+/// of the groups of accesses, of which this is told; and of all objects, where advice names those with these numbers, and
+/// these are the bounds of each abstract cell. The only error is want of memory.
 pub fn report_details(
     alloc: Global,
     bytes: &[u8],
@@ -262,6 +273,7 @@ pub fn report_details(
     others: &[AlarmContexts],
     groups: &[AccessGroup],
     accesses: &[Vec<AccessDetails>],
+    advised: &[u32],
     bounds: &[Option<ObjectBounds>],
 ) -> Result<Details, NoMemory>
     // The accesses of each alarm are the racing ones at its place; so there are as many details as alarms.
@@ -288,7 +300,7 @@ pub fn report_details(
         accesses,
     };
     let mut named = vec![in alloc; false; laid.objects.len()]?;
-    let alarms = marked_details(alloc, from, report, others, &mut named)?;
+    let alarms = marked_details(alloc, from, report, others, advised, &mut named)?;
     let members = all_members(alloc, bytes, laid, accesses)?;
     let numbers = numbers_of(alloc, laid, &named)?;
     let objects = all_objects(alloc, bytes, laid, bounds)?;

@@ -17,7 +17,7 @@ use tm_lattice::NoMemory;
 use tm_terms::{Name, class_word};
 
 /// The function of the body with this number.
-fn runner_text<'a>(bytes: &'a [u8], tasks: &[Name], number: u32) -> &'a [u8]
+pub(crate) fn runner_text<'a>(bytes: &'a [u8], tasks: &[Name], number: u32) -> &'a [u8]
     ensures { result.now ≡ runner_text bytes.now tasks.now number }
 {
     match tasks.get(number as usize) {

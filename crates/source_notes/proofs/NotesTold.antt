@@ -53,16 +53,17 @@ use Rattle.note_lines.specs.Names.{task_names, task_priorities, mutex_names, obj
 use Rattle.note_lines.specs.RingTexts.{rings_text}
 use Rattle.note_lines.specs.RaceTexts.{groups_text}
 use Rattle.note_lines.specs.AlarmTexts.{alarms_text}
+use Rattle.note_lines.specs.CauseTexts.{causes_text}
 use Rattle.program_notes.specs.Operations.{operation_of}
 use Rattle.note_lines.specs.declared.names.Names.{Names}
 use Rattle.source_notes.specs.declared.answers.Note.{Note}
-use Rattle.source_notes.specs.declared.answers.Note.TheVariants.{Report, Rings, Races, Alarms as Others, Whole, Parts}
+use Rattle.source_notes.specs.declared.answers.Note.TheVariants.{Report, Rings, Races, Alarms as Others, Causes, Whole, Parts}
 use Rattle.source_notes.specs.Notes.{rings_status, races_status, alarms_status, TellsRings, TellsRaces, TellsAlarms}
 use Rattle.source_notes.specs.Notes.{FindsRings, FindsRaces, FindsAlarms, FindsReport, FindsDetails, FindsCells}
-use Rattle.source_notes.specs.Notes.{Declares, TellsNotes}
+use Rattle.source_notes.specs.Notes.{Declares, TellsCauses, TellsNotes}
 use Rattle.source_notes.specs.Notes.{report_status, TellsReport, TellsParts, Tells, HasNotes}
 use Rattle.source_notes.specs.PartTexts.{Part}
-use Rattle.source_notes.specs.reading.Told.{TellsRingsOf, TellsRacesOf, TellsAlarmsOf, TellsNotesOf}
+use Rattle.source_notes.specs.reading.Told.{TellsRingsOf, TellsRacesOf, TellsAlarmsOf, TellsCausesOf, TellsNotesOf}
 use Rattle.source_notes.specs.reading.PartsTold.{TellsReportOf, TellsPartsOf, TellsOf}
 use Rattle.source_findings.proofs.Told.{waits_told, ranges_told}
 
@@ -213,6 +214,24 @@ module _ (scale : Scale) (bytes : List ℕ) (p : ProgramBodies) (a : IsAcceptedO
           (operation_of p) t.alarms) are_mutexes;
     }
 
+    causes_told : (status : Status) (text : List ℕ) → TellsCausesOf p bytes names pair status text
+        → TellsCauses scale bytes status text
+    unfolding solves alarms_found
+    causes_told status text t = record {
+      alarms = t.alarms;
+      finds = alarms_found t.alarms t.are;
+      groups = t.groups;
+      raced = races_found t.groups t.grouped;
+      advices = t.advices;
+      advised = t.advised;
+      comes = t.comes;
+      laid = laid;
+      of = of;
+      is = t.is
+          ∙ ap (λ os. causes_text bytes os names.tasks.items (operation_of p) t.alarms t.advices) are_objects
+          ∙ ap (λ ts. causes_text bytes (object_names laid) ts (operation_of p) t.alarms t.advices) are_tasks;
+    }
+
     notes_told : (status : Status) (text : List ℕ) → TellsNotesOf p bytes declared pair status text
         → TellsNotes scale bytes status text
     unfolding solves alarms_found
@@ -260,6 +279,7 @@ module _ (scale : Scale) (bytes : List ℕ) (p : ProgramBodies) (a : IsAcceptedO
       rings = of_part rings_told t.rings;
       races = of_part races_told t.races;
       alarms = of_part alarms_told t.alarms;
+      causes = of_part causes_told t.causes;
       notes = of_part notes_told t.notes;
       comes = t.comes;
       is = t.is;
@@ -294,6 +314,13 @@ module _ (scale : Scale) (bytes : List ℕ) (p : ProgramBodies) (a : IsAcceptedO
     report_by (alarm ∷ report) status text e t =
         subst (λ s. TellsReport scale bytes s text → HasNotes scale Report bytes s text) (sym e) (λ u. u) t
 
+    causes_by : (alarms : List AlarmContexts) (status : Status) (text : List ℕ) → status ≡ alarms_status alarms
+        → TellsCauses scale bytes status text → HasNotes scale Causes bytes status text
+    causes_by [] status text e t =
+        subst (λ s. TellsCauses scale bytes s text → HasNotes scale Causes bytes s text) (sym e) (λ u. u) t
+    causes_by (alarm ∷ alarms) status text e t =
+        subst (λ s. TellsCauses scale bytes s text → HasNotes scale Causes bytes s text) (sym e) (λ u. u) t
+
     notes_by : (report : List Alarm) (status : Status) (text : List ℕ) → status ≡ report_status report
         → TellsNotes scale bytes status text → HasNotes scale Whole bytes status text
     notes_by [] status text e t =
@@ -314,6 +341,7 @@ module _ (scale : Scale) (bytes : List ℕ) (p : ProgramBodies) (a : IsAcceptedO
     told Rings status text t = rings_by t.rings status text t.comes (rings_told status text t)
     told Races status text t = races_by t.groups status text t.comes (races_told status text t)
     told Others status text t = alarms_by t.alarms status text t.comes (alarms_told status text t)
+    told Causes status text t = causes_by t.alarms status text t.comes (causes_told status text t)
     told Whole status text t =
         let c = t.contents in let r = c.report in notes_by r.alarms.items status text t.comes (notes_told status text t)
     told Parts status text t =
@@ -358,6 +386,7 @@ solved_by scale Report bytes status text t = (let f = t.finds in f.solves)
 solved_by scale Rings bytes status text t = (let f = t.finds in f.solves)
 solved_by scale Races bytes status text t = (let f = t.finds in f.solves)
 solved_by scale Others bytes status text t = (let f = t.finds in f.solves)
+solved_by scale Causes bytes status text t = (let f = t.finds in f.solves)
 solved_by scale Whole bytes status text t = (let f = t.finds in let r = f.report in r.solves)
 solved_by scale Parts bytes status text t = (let q = t.report in let r = q.told in let f = r.finds in f.solves)
 

@@ -1,7 +1,7 @@
 -- What is answered to a source on a scale: its report, the rings in which its tasks may come to wait for each other,
--- its races by object, its other alarms and what they stand on, the whole notes on all alarms, or each as a text of its
--- own.
-use Rattle.std.specs.Prelude.{◌≡◌, ◌↔◌, ℕ, ℤ, List, [], ◌∷◌, ◌++◌, map, Contains, Option, codes}
+-- its races by object, its other alarms and what they stand on, advice on these, the whole notes on all alarms, or each
+-- as a text of its own.
+use Rattle.std.specs.Prelude.{◌≡◌, ◌↔◌, ℕ, ℤ, List, [], ◌∷◌, ◌++◌, map, length, Contains, Option, codes}
 use Rattle.std.specs.declared.vec.Vec.{Vec}
 use Rattle.std.specs.declared.alloc.Global.{Global}
 use Rattle.tm_cint.specs.declared.Class.{Class}
@@ -49,10 +49,13 @@ use Rattle.note_lines.specs.Names.{task_names, task_priorities, mutex_names, obj
 use Rattle.note_lines.specs.RingTexts.{rings_text}
 use Rattle.note_lines.specs.RaceTexts.{groups_text}
 use Rattle.note_lines.specs.AlarmTexts.{alarms_text}
+use Rattle.note_lines.specs.CauseTexts.{causes_text}
+use Rattle.alarm_causes.specs.declared.advices.Advice.{Advice}
+use Rattle.alarm_causes.specs.Advised.{AreAdvised}
 use Rattle.source_notes.specs.PartTexts.{Part, shown}
 use Rattle.program_notes.specs.Operations.{operation_of}
 use Rattle.source_notes.specs.declared.answers.Note.{Note}
-use Rattle.source_notes.specs.declared.answers.Note.TheVariants.{Report, Rings, Races, Alarms as Others, Whole, Parts}
+use Rattle.source_notes.specs.declared.answers.Note.TheVariants.{Report, Rings, Races, Alarms as Others, Causes, Whole, Parts}
 
 -- ## Rings
 
@@ -202,6 +205,22 @@ pub record TellsNotes (scale : Scale) (bytes : List ℕ) (status : Status) (text
   pub is : (let o = finds.others in let s = o.solves in
       text ≡ notes_text bytes declared (operation_of s.program) contents)
 
+-- ## Advice
+
+-- The alarms that are not races, and advice on each with these races, of which nothing is promised but its form.
+pub record TellsCauses (scale : Scale) (bytes : List ℕ) (status : Status) (text : List ℕ) : Type 0 where
+  pub alarms : List AlarmContexts
+  pub finds : FindsAlarms scale bytes alarms
+  pub groups : List AccessGroup
+  pub raced : FindsRaces scale bytes groups
+  pub advices : List Advice
+  pub advised : AreAdvised (length groups) alarms advices
+  pub comes : status ≡ alarms_status alarms
+  pub laid : LaidTree
+  pub of : IsLaidSourceOn scale bytes laid
+  pub is : (let s = finds.solves in
+      text ≡ causes_text bytes (object_names laid) (task_names laid) (operation_of s.program) alarms advices)
+
 -- ## All texts
 
 -- the report alone
@@ -211,8 +230,8 @@ pub record TellsReport (scale : Scale) (bytes : List ℕ) (status : Status) (tex
   pub comes : status ≡ report_status report
   pub is : text ≡ json_text report
 
--- The report as JSON, the waits, the ranges, the notes on rings, races and other alarms, and the whole notes, each as it
--- is answered alone, behind a line with its name, its status and its length; the status is that of the report.
+-- The report as JSON, the waits, the ranges, the notes on rings, races and other alarms, the advice, and the whole notes,
+-- each as it is answered alone, behind a line with its name, its status and its length; the status is that of the report.
 pub record TellsParts (scale : Scale) (bytes : List ℕ) (status : Status) (text : List ℕ) : Type 0 where
   pub report : Part (TellsReport scale bytes)
   pub waits : Part (TellsWaitsOn scale bytes)
@@ -220,11 +239,13 @@ pub record TellsParts (scale : Scale) (bytes : List ℕ) (status : Status) (text
   pub rings : Part (TellsRings scale bytes)
   pub races : Part (TellsRaces scale bytes)
   pub alarms : Part (TellsAlarms scale bytes)
+  pub causes : Part (TellsCauses scale bytes)
   pub notes : Part (TellsNotes scale bytes)
   pub comes : status ≡ report.status
-  pub is : text ≡ (((((shown (codes "report") report ++ shown (codes "waits") waits)
+  pub is : text ≡ ((((((shown (codes "report") report ++ shown (codes "waits") waits)
       ++ shown (codes "ranges") ranges) ++ shown (codes "rings") rings)
-      ++ shown (codes "races") races) ++ shown (codes "alarms") alarms) ++ shown (codes "notes") notes
+      ++ shown (codes "races") races) ++ shown (codes "alarms") alarms) ++ shown (codes "causes") causes)
+      ++ shown (codes "notes") notes
 
 -- ## All
 
@@ -233,6 +254,7 @@ Tells scale Report = TellsReport scale
 Tells scale Rings = TellsRings scale
 Tells scale Races = TellsRaces scale
 Tells scale Others = TellsAlarms scale
+Tells scale Causes = TellsCauses scale
 Tells scale Whole = TellsNotes scale
 Tells scale Parts = TellsParts scale
 

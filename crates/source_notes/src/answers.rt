@@ -3,17 +3,18 @@ ghost use Rattle.std.specs.Prelude.{◌≡◌, IfOk};
 ghost use Rattle.program_solutions.specs.program_systems.ReadPrograms.{program_of};
 ghost use Rattle.program_solutions.specs.LeastReports.{IsLeastPair};
 ghost use Rattle.source_notes.specs.Notes.{HasNotes, rings_status, races_status, alarms_status, report_status};
-ghost use Rattle.source_notes.specs.reading.Told.{TellsRingsOf, TellsRacesOf, TellsAlarmsOf};
+ghost use Rattle.source_notes.specs.reading.Told.{TellsRingsOf, TellsRacesOf, TellsAlarmsOf, TellsCausesOf};
 ghost use Rattle.source_notes.specs.reading.Told.{TellsNotesOf, AreContents};
 ghost use Rattle.source_notes.specs.reading.PartsTold.{TellsReportOf, TellsOf};
 
 use crate::parts::parts_reply;
 use access_groups::{AccessGroup, groups};
 use access_partners::access_details;
+use alarm_causes::{advice_on_alarms, objects_named};
 use alarm_contexts::{AlarmContexts, alarm_contexts};
 use lock_waits::rings;
 use note_details::report_details;
-use note_lines::{Names, alarms_text, groups_text, names_of, rings_text};
+use note_lines::{Names, alarms_text, causes_text, groups_text, names_of, rings_text};
 use program_notes::{Contents, Declared, declared_of, notes_text};
 use program_reports::judge;
 use program_solutions::{Analysis, Solution, solution};
@@ -39,10 +40,12 @@ pub enum Note {
     Races,
     /// Alarms of values and locks, and what they stand on.
     Alarms,
-    /// All of it but the rings, with ranges, dead places and details, as one line of JSON.
+    /// Advice on these alarms: where the values come from.
+    Causes,
+    /// All of it but the rings and the advice, with ranges, dead places and details, as one line of JSON.
     Whole,
-    /// The report as JSON, the waits, the ranges, the notes on rings, races and other alarms, and the whole notes, each as
-    /// it is answered alone, behind a line with its name, its status and its length in bytes.
+    /// The report as JSON, the waits, the ranges, the notes on rings, races and other alarms, the advice and the whole
+    /// notes, each as it is answered alone, behind a line with its name, its status and its length in bytes.
     Parts,
 }
 
@@ -178,6 +181,58 @@ pub(crate) fn alarms_reply(
     })
 }
 
+/// Advice on the alarms of a least solution.
+pub(crate) fn causes_reply(
+    alloc: Heap,
+    bytes: &[u8],
+    names: &Names,
+    analysis: &Analysis,
+    found: &Solution,
+) -> Result<NoteReply, NoMemory>
+    requires { IsLeastPair (program_of analysis.now) found.now }
+    ensures { IfOk result (λ reply. TellsCausesOf (program_of analysis.now) bytes.now names.now
+        found.now reply.status reply.text.items) }
+{
+    let (program, facts) = analysis.parts();
+    let alarms = alarm_contexts(alloc, program, facts, found.tables(), found.store())?;
+    let groups = groups(alloc, program, facts, found.tables(), found.store())?;
+    let advices = advice_on_alarms(
+        alloc,
+        program,
+        facts,
+        found.tables(),
+        found.store(),
+        &alarms,
+        &groups,
+    )?;
+    let text = causes_text(alloc, bytes, names, program, facts, &alarms, &advices)?;
+    Ok(NoteReply {
+        status: alarms_status(&alarms),
+        text,
+    })
+}
+
+/// The numbers of the objects that advice on these alarms names.
+fn advised_objects(
+    alloc: Heap,
+    analysis: &Analysis,
+    found: &Solution,
+    alarms: &[AlarmContexts],
+    groups: &[AccessGroup],
+) -> Result<Vec<u32>, NoMemory> {
+    let (program, facts) = analysis.parts();
+    let advices = advice_on_alarms(
+        alloc,
+        program,
+        facts,
+        found.tables(),
+        found.store(),
+        alarms,
+        groups,
+    )?;
+    objects_named(alloc, &advices)
+}
+
 /// All that a least solution tells.
 fn contents_of(
     alloc: Heap,
@@ -202,6 +257,7 @@ fn contents_of(
     )?;
     let ranges = ranges(alloc, program, facts, found.tables(), found.store())?;
     let cells = cell_ranges(alloc, program, facts, found.tables(), found.store())?;
+    let advised = advised_objects(alloc, analysis, found, &others, &groups)?;
     let details = report_details(
         alloc,
         bytes,
@@ -211,6 +267,7 @@ fn contents_of(
         &others,
         &groups,
         &accesses,
+        &advised,
         &cells,
     )?;
     Ok(Contents {
@@ -264,6 +321,7 @@ fn reply_of(
         Note::Rings => rings_reply(alloc, bytes, names, analysis, found),
         Note::Races => races_reply(alloc, bytes, names, analysis, found),
         Note::Alarms => alarms_reply(alloc, bytes, names, analysis, found),
+        Note::Causes => causes_reply(alloc, bytes, names, analysis, found),
         Note::Whole => whole_reply(alloc, bytes, declared, analysis, found),
         Note::Parts => parts_reply(alloc, bytes, names, declared, analysis, found),
     }

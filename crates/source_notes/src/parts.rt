@@ -5,11 +5,11 @@ ghost use Rattle.program_solutions.specs.LeastReports.{IsLeastPair};
 ghost use Rattle.source_findings.specs.Tellings.{TellsOf as FindingTellsOf};
 ghost use Rattle.source_notes.specs.PartTexts.{part_text};
 ghost use Rattle.source_notes.specs.reading.Told.{TellsRingsOf, TellsRacesOf, TellsAlarmsOf};
-ghost use Rattle.source_notes.specs.reading.Told.{TellsNotesOf};
+ghost use Rattle.source_notes.specs.reading.Told.{TellsCausesOf, TellsNotesOf};
 ghost use Rattle.source_notes.specs.reading.PartsTold.{TellsReportOf, TellsPartsOf, Adds, AddsFirst};
 
 use crate::answers::{
-    NoteReply, alarms_reply, races_reply, report_reply, rings_reply, whole_reply,
+    NoteReply, alarms_reply, causes_reply, races_reply, report_reply, rings_reply, whole_reply,
 };
 use note_lines::Names;
 use notes_json::{push_bytes, push_number};
@@ -122,6 +122,23 @@ fn push_alarms(
     push_part(alloc, text, b"alarms", reply.status, &reply.text)
 }
 
+/// Appends the advice on these.
+fn push_causes(
+    alloc: Heap,
+    text: &mut Vec<u8>,
+    bytes: &[u8],
+    names: &Names,
+    analysis: &Analysis,
+    found: &Solution,
+) -> Result<(), NoMemory>
+    requires { IsLeastPair (program_of analysis.now) found.now }
+    ensures { OnOk result (Adds (TellsCausesOf (program_of analysis.now) bytes.now names.now found.now)
+        (codes "causes") text.old.items text.new.items) }
+{
+    let reply = causes_reply(alloc, bytes, names, analysis, found)?;
+    push_part(alloc, text, b"causes", reply.status, &reply.text)
+}
+
 /// Appends the whole notes.
 fn push_notes(
     alloc: Heap,
@@ -175,6 +192,7 @@ pub(crate) fn parts_reply(
     push_rings(alloc, &mut text, bytes, names, analysis, found)?;
     push_races(alloc, &mut text, bytes, names, analysis, found)?;
     push_alarms(alloc, &mut text, bytes, names, analysis, found)?;
+    push_causes(alloc, &mut text, bytes, names, analysis, found)?;
     push_notes(alloc, &mut text, bytes, declared, analysis, found)?;
     Ok(NoteReply { status, text })
 }

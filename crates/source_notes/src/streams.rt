@@ -35,8 +35,9 @@ pub fn tell_notes<S: Source, K: Sink>(
     // report has a race, and both sides of each race that a run comes to are among them. Status 0 or 1 of alarms: those
     // that the report has besides, each with the operation, and the least sets that have all values of its operands in
     // the states of the least solution in which its class is not excluded; wherever a run stops with an error, one of
-    // them tells it, with the values there in these sets. Status 0 or 1 of all notes: the whole report, all of this
-    // with it, and the bounds of objects and the dead places. Status 2: the refusal, on the scale.
+    // them tells it, with the values there in these sets. Status 0 or 1 of causes: for each of these alarms one advice,
+    // of which nothing else is promised. Status 0 or 1 of all notes: the whole report, the races and alarms with it, and
+    // the bounds of objects and the dead places. Status 2: the refusal, on the scale.
     ensures whole { IsWhole result →
         Answers (HasNotes scale note) (S.left source.old) (K.taken out.old) (K.taken out.new) result }
 

@@ -10,11 +10,11 @@ use Rattle.program_streams.specs.declared.statuses.Status.{Status}
 use Rattle.source_findings.specs.Tellings.{TellsWaitsOf, TellsRangesOf}
 use Rattle.note_lines.specs.declared.names.Names.{Names}
 use Rattle.source_notes.specs.declared.answers.Note.{Note}
-use Rattle.source_notes.specs.declared.answers.Note.TheVariants.{Report, Rings, Races, Alarms, Whole, Parts}
+use Rattle.source_notes.specs.declared.answers.Note.TheVariants.{Report, Rings, Races, Alarms, Causes, Whole, Parts}
 use Rattle.program_notes.specs.declared.declarations.Declared.{Declared}
 use Rattle.source_notes.specs.Notes.{report_status}
 use Rattle.source_notes.specs.PartTexts.{Part, shown}
-use Rattle.source_notes.specs.reading.Told.{TellsRingsOf, TellsRacesOf, TellsAlarmsOf, TellsNotesOf}
+use Rattle.source_notes.specs.reading.Told.{TellsRingsOf, TellsRacesOf, TellsAlarmsOf, TellsCausesOf, TellsNotesOf}
 
 pub record TellsReportOf (p : ProgramBodies) (pair : Pair) (status : Status) (text : List ℕ) : Type 0 where
   pub report : List Alarm
@@ -41,16 +41,19 @@ pub record TellsPartsOf (p : ProgramBodies) (bytes : List ℕ) (names : Names) (
   pub rings : Part (TellsRingsOf p bytes names.tasks.items names.mutexes.items pair)
   pub races : Part (TellsRacesOf p bytes names.objects.items names.tasks.items names.mutexes.items pair)
   pub alarms : Part (TellsAlarmsOf p bytes names pair)
+  pub causes : Part (TellsCausesOf p bytes names pair)
   pub notes : Part (TellsNotesOf p bytes declared pair)
   pub comes : status ≡ report.status
-  pub is : text ≡ (((((shown (codes "report") report ++ shown (codes "waits") waits)
+  pub is : text ≡ ((((((shown (codes "report") report ++ shown (codes "waits") waits)
       ++ shown (codes "ranges") ranges) ++ shown (codes "rings") rings)
-      ++ shown (codes "races") races) ++ shown (codes "alarms") alarms) ++ shown (codes "notes") notes
+      ++ shown (codes "races") races) ++ shown (codes "alarms") alarms) ++ shown (codes "causes") causes)
+      ++ shown (codes "notes") notes
 
 abbrev pub TellsOf : Note → ProgramBodies → List ℕ → Names → Declared → Pair → Status → List ℕ → Type 0
 TellsOf Report p bytes names declared = TellsReportOf p
 TellsOf Rings p bytes names declared = TellsRingsOf p bytes names.tasks.items names.mutexes.items
 TellsOf Races p bytes names declared = TellsRacesOf p bytes names.objects.items names.tasks.items names.mutexes.items
 TellsOf Alarms p bytes names declared = TellsAlarmsOf p bytes names
+TellsOf Causes p bytes names declared = TellsCausesOf p bytes names
 TellsOf Whole p bytes names declared = TellsNotesOf p bytes declared
 TellsOf Parts p bytes names declared = TellsPartsOf p bytes names declared

@@ -1,5 +1,5 @@
 -- What the code tells of a least solution, before it is known of which source it is.
-use Rattle.std.specs.Prelude.{◌≡◌, ℕ, List}
+use Rattle.std.specs.Prelude.{◌≡◌, ℕ, List, length}
 use Rattle.tm_terms.specs.declared.tokens.Name.{Name}
 use Rattle.program_solutions.specs.program_equations.Programs.{ProgramBodies}
 use Rattle.program_solutions.specs.program_equations.Solutions.{tables_of}
@@ -22,6 +22,9 @@ use Rattle.source_notes.specs.Notes.{rings_status, races_status, alarms_status, 
 use Rattle.note_lines.specs.RingTexts.{rings_text}
 use Rattle.note_lines.specs.RaceTexts.{groups_text}
 use Rattle.note_lines.specs.AlarmTexts.{alarms_text}
+use Rattle.note_lines.specs.CauseTexts.{causes_text}
+use Rattle.alarm_causes.specs.declared.advices.Advice.{Advice}
+use Rattle.alarm_causes.specs.Advised.{AreAdvised}
 use Rattle.program_notes.specs.Operations.{operation_of}
 use Rattle.note_lines.specs.declared.names.Names.{Names}
 use Rattle.note_lines.specs.declared.names.ObjectName.{ObjectName}
@@ -47,6 +50,17 @@ pub record TellsAlarmsOf (p : ProgramBodies) (bytes : List ℕ) (names : Names) 
   pub comes : status ≡ alarms_status alarms
   pub is : text ≡ alarms_text bytes names.objects.items names.tasks.items names.priorities.items names.mutexes.items
       (operation_of p) alarms
+
+pub record TellsCausesOf (p : ProgramBodies) (bytes : List ℕ) (names : Names) (pair : Pair) (status : Status)
+    (text : List ℕ) : Type 0 where
+  pub alarms : List AlarmContexts
+  pub are : AreContexts p (tables_of pair.tables) alarms
+  pub groups : List AccessGroup
+  pub grouped : AreGroups p (tables_of pair.tables) groups
+  pub advices : List Advice
+  pub advised : AreAdvised (length groups) alarms advices
+  pub comes : status ≡ alarms_status alarms
+  pub is : text ≡ causes_text bytes names.objects.items names.tasks.items (operation_of p) alarms advices
 
 -- what the tables and the store tell
 pub record AreContents (p : ProgramBodies) (pair : Pair) (c : Contents) : Type 0 where

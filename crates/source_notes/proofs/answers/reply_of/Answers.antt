@@ -39,3 +39,9 @@ returns-in-Parts c =
     subst (λ n. IfOk c.parts_reply.result (λ reply. TellsOf n (program_of c.args.analysis.now) c.args.bytes.now
     c.args.names.now c.args.declared.now c.args.found.now reply.status reply.text.items)) (sym c.in-Parts.is)
     c.parts_reply.ensures
+
+pub returns-in-Causes : goal.returns-in-Causes
+returns-in-Causes c =
+    subst (λ n. IfOk c.causes_reply.result (λ reply. TellsOf n (program_of c.args.analysis.now) c.args.bytes.now
+    c.args.names.now c.args.declared.now c.args.found.now reply.status reply.text.items)) (sym c.in-Causes.is)
+    c.causes_reply.ensures

@@ -11,6 +11,7 @@ returns c =
     let rings = c.in_ok-push_rings.ensures in
     let races = c.in_ok-push_races.ensures in
     let alarms = c.in_ok-push_alarms.ensures in
+    let causes = c.in_ok-push_causes.ensures in
     let notes = c.in_ok-push_notes.ensures in
     record {
       report = report.part;
@@ -19,14 +20,16 @@ returns c =
       rings = rings.part;
       races = races.part;
       alarms = alarms.part;
+      causes = causes.part;
       notes = notes.part;
       comes = report.comes;
       is = notes.is
-          ∙ ap (λ (z : List ℕ). z ++ shown (codes "notes") notes.part) (alarms.is
+          ∙ ap (λ (z : List ℕ). z ++ shown (codes "notes") notes.part) (causes.is
+          ∙ ap (λ (z : List ℕ). z ++ shown (codes "causes") causes.part) (alarms.is
           ∙ ap (λ (z : List ℕ). z ++ shown (codes "alarms") alarms.part) (races.is
           ∙ ap (λ (z : List ℕ). z ++ shown (codes "races") races.part) (rings.is
           ∙ ap (λ (z : List ℕ). z ++ shown (codes "rings") rings.part) (ranges.is
           ∙ ap (λ (z : List ℕ). z ++ shown (codes "ranges") ranges.part) (waits.is
           ∙ ap (λ (z : List ℕ). z ++ shown (codes "waits") waits.part) (report.is
-          ∙ ap (λ (z : List ℕ). z ++ shown (codes "report") report.part) c.new-text.ensures.items))))));
+          ∙ ap (λ (z : List ℕ). z ++ shown (codes "report") report.part) c.new-text.ensures.items)))))));
     }

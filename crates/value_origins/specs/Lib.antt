@@ -1,0 +1,2 @@
+-- To which stores null pointers are traced.
+pub mod Nulls
