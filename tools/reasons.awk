@@ -1,7 +1,7 @@
-# Writes the lines of a report in its files, and below each why its alarm stands there. It reads seven parts: the places
-# of the notes, `LINE:COL`, in a line each; these places in their files, line by line; the notes on races and those on the
-# other alarms, as `alarm_notes` writes them; the ways to alarms, as `ways.awk` writes them; the report as it counts the
-# lines of the text, and as its files do.
+# Writes the lines of a report in its files, and below each why its alarm stands there. It reads eight parts: the places
+# of the notes, `LINE:COL`, in a line each; these places in their files, line by line; the notes on races, those on the
+# other alarms and the advice on these, as `alarm_notes` writes them; the ways to alarms, as `ways.awk` writes them; the
+# report as it counts the lines of the text, and as its files do.
 
 BEGIN {
     # Bounds of types (C99 5.2.4.2.1), and those that the types long and unsigned long have instead.
@@ -165,6 +165,78 @@ function tell_alarm(key, class,    computes) {
         note(place, "a run that comes here so always ends here: what stands behind is not analysed for such runs")
 }
 
+# ----- Advice -----
+
+# Reads the first line of advice: LINE:COL CLASS CAUSE [ROLE]
+function read_cause() {
+    advised = $1 " " $2
+    cause[advised] = $3
+    blamed[advised] = $4
+}
+
+# Reads a step of the way back: PLACE KIND TASK [LEAST GREATEST] [null] [invalid] [of NAME], where a point stands for a
+# place that is not known.
+function read_step() {
+    way[advised, ++steps[advised]] = $0
+}
+
+# What the operand to blame is called.
+function operand_named(key) {
+    if (blamed[key] == "right" && key ~ / DIV$/) return "divisor"
+    return blamed[key] == "pointer" || blamed[key] == "subscript" || blamed[key] == "offset" ? blamed[key] : "value"
+}
+
+# What is wrong with the pointers of a step, if something is.
+function flaws(step,    text) {
+    if (step ~ / null( |$)/) text = "null"
+    if (step ~ / invalid( |$)/) text = text (text == "" ? "" : " or ") "never set"
+    return text
+}
+
+# What a load gives.
+function loaded(values, bad) {
+    return bad != "" ? " may be " bad " here" : values != "" ? " is " values " here" : " is read here"
+}
+
+# What a store stores.
+function stored(values, bad) {
+    return values != "" ? values : "a pointer" (bad != "" ? " that may be " bad : "")
+}
+
+# Tells of a step of the way back at a place. Operators, addresses and constants that are numbers are passed over: what
+# they give stands at the step before them.
+function tell_step(step, at, what,    words, last, name, values, bad) {
+    last = split(step, words, " ")
+    name = words[last - 1] == "of" && last > 4 ? words[last] : "the object"
+    if (words[4] ~ /^-?[0-9]+$/) values = range(words[4], words[5], 0, "")
+    bad = flaws(step)
+    if (words[2] == "load") note(at, name loaded(values, bad))
+    if (words[2] == "store") note(at, words[3] " stores " stored(values, bad) " to " name " here")
+    if (words[2] == "loop") note(at, "here the way back was before: the " what " changes from turn to turn of a loop")
+    if (words[2] == "alarm") note(at, "the " what " comes from here, where another alarm stands: see that first")
+    if (words[2] == "input") note(at, "an input, or a function that may end without return, gives " values " here")
+    if (words[2] == "volatile") note(at, "a volatile object may be " (values != "" ? values : "any pointer") " here")
+    if (words[2] == "open") note(at, name " is read here, and may not have been set")
+    if (words[2] == "initial") note(at, name " is read here, and may be as it was before the program ran")
+    if (words[2] == "unset") note(at, "what a function gives here that may end without return is used")
+    if (words[2] == "constant" && bad != "") note(at, "null is meant here")
+}
+
+# Tells the way back from the operand to blame, as far as it was not told already.
+function tell_way(key,    it, words, at) {
+    at = place
+    for (it = 1; it <= steps[key]; it++) {
+        split(way[key, it], words, " ")
+        if (words[1] in shown) at = words[1]
+        if ((words[2] == "load" || words[2] == "store") && told_steps[way[key, it]]++) {
+            note(at, "further back as above")
+            break
+        }
+        tell_step(way[key, it], at, operand_named(key))
+    }
+    if (cause[key] == "interference") note(place, "without what other tasks store meanwhile no such value is here")
+}
+
 # ----- Call paths -----
 
 # Reads a call path: LINE:COL CLASS path TASK LINE:COL ..
@@ -246,16 +318,21 @@ part == 4 && $3 == "of" && $5 == "at" { read_object(); next }
 part == 4 && NF == 4 && $3 == "bad" { read_flaw(); next }
 part == 4 && $2 ~ /^[A-Z]+$/ { read_head(); next }
 part == 4 && NF >= 2 && $1 in shown { read_operand(); next }
-part == 5 && $3 == "path" { read_path(); next }
-part == 5 && $3 == "paths" { all_paths[$1 " " $2] = $4; next }
-part == 5 && $2 == "races" { read_race(); next }
-part == 5 && $2 == "with" { read_partner(); next }
-part == 6 { alarms[FNR] = $1; classes[FNR] = $2; next }
-part == 7 {
+part == 5 && $1 ~ /:/ && $2 ~ /^[A-Z]+$/ { read_cause(); next }
+part == 5 && NF > 2 { read_step(); next }
+part == 6 && $3 == "path" { read_path(); next }
+part == 6 && $3 == "paths" { all_paths[$1 " " $2] = $4; next }
+part == 6 && $2 == "races" { read_race(); next }
+part == 6 && $2 == "with" { read_partner(); next }
+part == 7 { alarms[FNR] = $1; classes[FNR] = $2; next }
+part == 8 {
     print
     place = alarms[FNR]
     class = classes[FNR]
     if (class == "RACE") tell_race()
-    else if ((place " " class) in operator) tell_alarm(place " " class, class)
+    else if ((place " " class) in operator) {
+        tell_alarm(place " " class, class)
+        tell_way(place " " class)
+    }
     tell_paths(place " " class)
 }
