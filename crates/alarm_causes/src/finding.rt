@@ -203,8 +203,8 @@ fn all_advice(
     Ok(list)
 }
 
-/// Advice on each of the alarms, in their order. Facts, tables, store, alarms and groups are those of the program: where
-/// they are not, the advice says little. The only error is want of memory.
+/// Advice on each of the alarms, in their order. Facts, tables, store, alarms and groups are those of the program:
+/// where they are not, the advice says little. The only error is want of memory.
 pub fn advice_on_alarms(
     alloc: Global,
     program: &Program,

@@ -1,9 +1,9 @@
 //! The program `alarm_notes [large] report|rings|races|alarms|causes|notes|parts < SOURCE`: it analyses standard input,
-//! writes the report as JSON or notes to standard output, on the rings in which tasks may come to wait for each other, on
-//! the races by object, on what the other alarms stand on, advice on where their values come from, or on all of it as one
-//! line of JSON or as texts that can be cut out again, and ends with the number of the status. Behind the word `large` it
-//! takes sources of the large scale. With other words it ends with the status of words that are no command, and where the
-//! system does not give it its words, with status 7.
+//! writes the report as JSON or notes to standard output, on the rings in which tasks may come to wait for each other,
+//! on the races by object, on what the other alarms stand on, advice on where their values come from, or on all of it
+//! as one line of JSON or as texts that can be cut out again, and ends with the number of the status. Behind the word
+//! `large` it takes sources of the large scale. With other words it ends with the status of words that are no command,
+//! and where the system does not give it its words, with status 7.
 #![tactic(auto)]
 
 use program_streams::Status;
@@ -18,7 +18,8 @@ use tm_laid::Scale;
 const NO_WORDS: u8 = 7;
 
 /// The line that says how the program is used.
-const USAGE: &str = "usage: alarm_notes [large] report|rings|races|alarms|causes|notes|parts < SOURCE";
+const USAGE: &str =
+    "usage: alarm_notes [large] report|rings|races|alarms|causes|notes|parts < SOURCE";
 
 /// The status where the words cannot be had for this reason: memory may run out while they are copied.
 fn status_without_words(reason: ErrorKind) -> u8 {

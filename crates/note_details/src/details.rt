@@ -262,8 +262,8 @@ fn marked_details(
 }
 
 /// The details of a report: of its alarms, where these are the contexts of those that are not of races, in their order;
-/// of the groups of accesses, of which this is told; and of all objects, where advice names those with these numbers, and
-/// these are the bounds of each abstract cell. The only error is want of memory.
+/// of the groups of accesses, of which this is told; and of all objects, where advice names those with these numbers,
+/// and these are the bounds of each abstract cell. The only error is want of memory.
 pub fn report_details(
     alloc: Global,
     bytes: &[u8],

@@ -1,7 +1,7 @@
-//! Notes in lines, for people and for scripts that show them: rings of tasks that may come to wait for each other, races
-//! by object with all accesses, alarms of values and locks with the values of their operands, and advice on these. Names
-//! stand in them byte for byte as in the source, places as LINE:COL. Where rings, races, alarms and advice come from,
-//! this crate does not know.
+//! Notes in lines, for people and for scripts that show them: rings of tasks that may come to wait for each other,
+//! races by object with all accesses, alarms of values and locks with the values of their operands, and advice on
+//! these. Names stand in them byte for byte as in the source, places as LINE:COL. Where rings, races, alarms and advice
+//! come from, this crate does not know.
 //!
 //! Where one task `a` locks `m` and then `n`, at 3:34, and another one `b` `n` and then `m`, at 4:34, the lines of the
 //! rings are `3:34 RING 2`, `3:34 a holds m asks n`, `4:34 b holds n asks m`, then `4:34 RING 2` with the same lines in

@@ -57,7 +57,8 @@ use Rattle.note_lines.specs.CauseTexts.{causes_text}
 use Rattle.program_notes.specs.Operations.{operation_of}
 use Rattle.note_lines.specs.declared.names.Names.{Names}
 use Rattle.source_notes.specs.declared.answers.Note.{Note}
-use Rattle.source_notes.specs.declared.answers.Note.TheVariants.{Report, Rings, Races, Alarms as Others, Causes, Whole, Parts}
+use Rattle.source_notes.specs.declared.answers.Note.TheVariants.{Report, Rings, Races, Alarms as Others, Causes}
+use Rattle.source_notes.specs.declared.answers.Note.TheVariants.{Whole, Parts}
 use Rattle.source_notes.specs.Notes.{rings_status, races_status, alarms_status, TellsRings, TellsRaces, TellsAlarms}
 use Rattle.source_notes.specs.Notes.{FindsRings, FindsRaces, FindsAlarms, FindsReport, FindsDetails, FindsCells}
 use Rattle.source_notes.specs.Notes.{Declares, TellsCauses, TellsNotes}

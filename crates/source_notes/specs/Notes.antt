@@ -55,7 +55,8 @@ use Rattle.alarm_causes.specs.Advised.{AreAdvised}
 use Rattle.source_notes.specs.PartTexts.{Part, shown}
 use Rattle.program_notes.specs.Operations.{operation_of}
 use Rattle.source_notes.specs.declared.answers.Note.{Note}
-use Rattle.source_notes.specs.declared.answers.Note.TheVariants.{Report, Rings, Races, Alarms as Others, Causes, Whole, Parts}
+use Rattle.source_notes.specs.declared.answers.Note.TheVariants.{Report, Rings, Races, Alarms as Others, Causes}
+use Rattle.source_notes.specs.declared.answers.Note.TheVariants.{Whole, Parts}
 
 -- ## Rings
 
@@ -170,8 +171,8 @@ pub record FindsCells (scale : Scale) (bytes : List ℕ) (bounds : List (Option 
 
 -- The report of the least solution, the alarms of it that are not races, in the same order, the races by object with
 -- what each access races with, which each alarm of races tells, and the bounds of objects and of cells with the dead
--- places, each with what that promises of runs. Of the other details, as call paths and the names of members, nothing is
--- promised.
+-- places, each with what that promises of runs. Of the other details, as call paths and the names of members, nothing
+-- is promised.
 pub record FindsNotes (scale : Scale) (bytes : List ℕ) (c : Contents) : Type 0 where
   pub report : (let r = c.report in FindsReport scale bytes r.alarms.items)
   pub others : FindsAlarms scale bytes c.others.items
@@ -230,8 +231,9 @@ pub record TellsReport (scale : Scale) (bytes : List ℕ) (status : Status) (tex
   pub comes : status ≡ report_status report
   pub is : text ≡ json_text report
 
--- The report as JSON, the waits, the ranges, the notes on rings, races and other alarms, the advice, and the whole notes,
--- each as it is answered alone, behind a line with its name, its status and its length; the status is that of the report.
+-- The report as JSON, the waits, the ranges, the notes on rings, races and other alarms, the advice, and the whole
+-- notes, each as it is answered alone, behind a line with its name, its status and its length; the status is that of
+-- the report.
 pub record TellsParts (scale : Scale) (bytes : List ℕ) (status : Status) (text : List ℕ) : Type 0 where
   pub report : Part (TellsReport scale bytes)
   pub waits : Part (TellsWaitsOn scale bytes)

@@ -18,8 +18,8 @@ use tm_terms::limits::SOURCE;
 /// How many bytes of a source are read at most: one more than it may have.
 const MOST: usize = SOURCE as usize + 1;
 
-/// Reads a source to its end, or past the limit, and writes notes on it on a scale, or why it is refused there. The text
-/// is made before its first byte is written.
+/// Reads a source to its end, or past the limit, and writes notes on it on a scale, or why it is refused there. The
+/// text is made before its first byte is written.
 pub fn tell_notes<S: Source, K: Sink>(
     alloc: Global,
     scale: Scale,
@@ -30,14 +30,14 @@ pub fn tell_notes<S: Source, K: Sink>(
     // Status 0 or 1 of the report: that of the least solution, which lists each error that occurs in a run of the
     // source. Status 0 or 1 of rings: for each place of a circular wait of the least solution a shortest ring that
     // begins there; and in each world that a run reaches and that has not stopped, each task of each ring of blocked
-    // tasks is about to lock at one of these places. Status 0 or 1 of races: the objects with races in the least solution, each
-    // with all accesses to it, under the mutexes that are held there in a run; those that race stand exactly where the
-    // report has a race, and both sides of each race that a run comes to are among them. Status 0 or 1 of alarms: those
-    // that the report has besides, each with the operation, and the least sets that have all values of its operands in
-    // the states of the least solution in which its class is not excluded; wherever a run stops with an error, one of
-    // them tells it, with the values there in these sets. Status 0 or 1 of causes: for each of these alarms one advice,
-    // of which nothing else is promised. Status 0 or 1 of all notes: the whole report, the races and alarms with it, and
-    // the bounds of objects and the dead places. Status 2: the refusal, on the scale.
+    // tasks is about to lock at one of these places. Status 0 or 1 of races: the objects with races in the least
+    // solution, each with all accesses to it, under the mutexes that are held there in a run; those that race stand
+    // exactly where the report has a race, and both sides of each race that a run comes to are among them. Status 0 or
+    // 1 of alarms: those that the report has besides, each with the operation, and the least sets that have all values
+    // of its operands in the states of the least solution in which its class is not excluded; wherever a run stops with
+    // an error, one of them tells it, with the values there in these sets. Status 0 or 1 of causes: for each of these
+    // alarms one advice, of which nothing else is promised. Status 0 or 1 of all notes: the whole report, the races and
+    // alarms with it, and the bounds of objects and the dead places. Status 2: the refusal, on the scale.
     ensures whole { IsWhole result →
         Answers (HasNotes scale note) (S.left source.old) (K.taken out.old) (K.taken out.new) result }
 

@@ -19,9 +19,9 @@ pub struct BodyIndex {
     pub(crate) first_copies: Vec<usize>,
 }
 
-/// A program with its facts, its tables, its store, and what is found once of each body. The tables and the bodies stand
-/// by the numbers of the bodies: a task by its number, the initial section behind them. Of what is missing nothing is
-/// told: it counts as having no value.
+/// A program with its facts, its tables, its store, and what is found once of each body. The tables and the bodies
+/// stand by the numbers of the bodies: a task by its number, the initial section behind them. Of what is missing
+/// nothing is told: it counts as having no value.
 #[derive(Clone, Copy)]
 pub struct Analysed<'a> {
     pub program: &'a Program,

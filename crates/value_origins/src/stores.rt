@@ -278,8 +278,8 @@ fn widest_to_cell(
 }
 
 /// The store with the most values that may have given those of a load of one of these cells, a store of an input before
-/// all others. Where the load may give the null pointer, only a store that may store this one; none where no store does,
-/// so that it was there from the start.
+/// all others. Where the load may give the null pointer, only a store that may store this one; none where no store
+/// does, so that it was there from the start.
 pub fn widest_store(
     analysed: Analysed<'_>,
     stores: &Stores,
