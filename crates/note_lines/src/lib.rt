@@ -9,7 +9,7 @@
 //! those of the races are `2:5 x RACES 2`, `3:40 a stores holds m free races`, `4:40 b loads holds free races`,
 //! `races 1`. Where a task `c` of priority 7 divides 8 by an input of 0 to 3, at 5:40, those of the alarms are
 //! `5:40 DIV / in int edges 1 tasks c 7`, `5:40 left 8 8 0`, `5:40 right 0 3 1`, `alarms 1`, and those of the advice
-//! `5:40 DIV input right`, `5:42 input c 0 3`, `causes 1`.
+//! `5:40 DIV input right`, `. input c 0 3`, `causes 1`.
 #![tactic(auto)]
 
 mod alarm_lines;

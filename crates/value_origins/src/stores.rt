@@ -23,13 +23,16 @@ pub struct StoreSite {
     pub held: u16,
     /// Whether what it stores is an input, or a copy of one.
     pub is_input: bool,
+    /// How many stores go before it: those of an input before all others, then those with more values.
+    pub rank: usize,
 }
 
 /// All stores of a program by the cells that they reach.
 #[derive(Drop)]
 pub struct Stores {
+    // By their ranks.
     pub(crate) sites: Vec<StoreSite>,
-    // For each abstract cell the positions of the stores that reach it.
+    // For each abstract cell the ranks of the stores that reach it, rising.
     pub(crate) by_cell: Vec<Vec<usize>>,
 }
 
@@ -49,7 +52,7 @@ fn holds_input(analysed: Analysed<'_>, used: Use) -> bool {
     }
 }
 
-// The store of a temporary.
+// The store of a temporary, with no rank yet.
 fn site_of(analysed: Analysed<'_>, stored: Use) -> StoreSite {
     let Mutexes { held, .. } = mutexes_at(analysed, stored.edge);
     StoreSite {
@@ -57,77 +60,137 @@ fn site_of(analysed: Analysed<'_>, stored: Use) -> StoreSite {
         values: value_at(analysed, stored),
         held,
         is_input: holds_input(analysed, stored),
+        rank: 0,
     }
-}
-
-// The store with this position reaches these cells.
-fn add_cells(
-    alloc: Global,
-    by_cell: &mut Vec<Vec<usize>>,
-    cells: &[u32],
-    position: usize,
-) -> Result<(), NoMemory> {
-    for cell in cells {
-        add_at(alloc, by_cell, *cell, position)?;
-    }
-    Ok(())
 }
 
 // Adds the store of an edge, if it is one.
 fn add_edge(
-    alloc: Global,
     analysed: Analysed<'_>,
     edge: ContextEdge,
-    stores: &mut Stores,
+    sites: &mut Vec<StoreSite>,
 ) -> Result<(), NoMemory> {
-    let Operation::Store {
-        address,
-        value,
-        scalar,
-        ..
-    } = operation_at(analysed, edge)
-    else {
-        return Ok(());
-    };
-    let access = Access {
-        edge,
-        address,
-        scalar,
-    };
-    let cells = cells_at(alloc, analysed, access)?;
-    let position = stores.sites.len();
-    add_cells(alloc, &mut stores.by_cell, &cells, position)?;
-    stores
-        .sites
-        .push(site_of(analysed, Use { edge, temp: value }))?;
+    if let Operation::Store { value, .. } = operation_at(analysed, edge) {
+        sites.push(site_of(analysed, Use { edge, temp: value }))?;
+    }
     Ok(())
 }
 
 // Adds the stores of a graph.
 fn add_graph(
-    alloc: Global,
     analysed: Analysed<'_>,
     graph: &Graph,
-    stores: &mut Stores,
+    sites: &mut Vec<StoreSite>,
 ) -> Result<(), NoMemory> {
     for edge in 0..graph.edges.len() {
         let at = ContextEdge {
             body: graph.body,
             edge,
         };
-        add_edge(alloc, analysed, at, stores)?;
+        add_edge(analysed, at, sites)?;
     }
+    Ok(())
+}
+
+// The stores of all bodies, by bodies and edges.
+fn all_sites(alloc: Global, analysed: Analysed<'_>) -> Result<Vec<StoreSite>, NoMemory> {
+    let mut sites = Vec::new(alloc);
+    for graph in &analysed.program.graphs.graphs {
+        add_graph(analysed, graph, &mut sites)?;
+    }
+    Ok(sites)
+}
+
+// Where a store stands among others, by what is compared of them: those of an input before all others, then those with
+// more values, then the earlier ones.
+#[derive(Clone, Copy, PartialEq, Eq, PartialOrd, Ord)]
+struct Standing {
+    is_computed: bool,
+    fewer: u128,
+    position: usize,
+}
+
+// That of a store at a position.
+fn standing_of(site: &StoreSite, position: usize) -> Standing {
+    Standing {
+        is_computed: !site.is_input,
+        fewer: u128::MAX - weight(&site.values),
+        position,
+    }
+}
+
+// Those of stores, sorted.
+fn standings_of(alloc: Global, sites: &[StoreSite]) -> Result<Vec<Standing>, NoMemory> {
+    let mut standings = Vec::new(alloc);
+    for position in 0..sites.len() {
+        standings.push(standing_of(&sites[position], position))?;
+    }
+    standings.sort()?;
+    Ok(standings)
+}
+
+// The cells that the store of an edge reaches.
+fn stored_cells(
+    alloc: Global,
+    analysed: Analysed<'_>,
+    edge: ContextEdge,
+) -> Result<Vec<u32>, NoMemory> {
+    match operation_at(analysed, edge) {
+        Operation::Store {
+            address,
+            scalar,
+            ..
+        } => {
+            let access = Access {
+                edge,
+                address,
+                scalar,
+            };
+            cells_at(alloc, analysed, access)
+        }
+        _ => Ok(Vec::new(alloc)),
+    }
+}
+
+// Adds a rank to those of each of some cells.
+fn add_cells(
+    alloc: Global,
+    by_cell: &mut Vec<Vec<usize>>,
+    cells: &[u32],
+    rank: usize,
+) -> Result<(), NoMemory> {
+    for cell in cells {
+        add_at(alloc, by_cell, *cell, rank)?;
+    }
+    Ok(())
+}
+
+// Adds a store behind those that go before it.
+fn add_site(
+    alloc: Global,
+    analysed: Analysed<'_>,
+    site: &StoreSite,
+    stores: &mut Stores,
+) -> Result<(), NoMemory> {
+    let rank = stores.sites.len();
+    let cells = stored_cells(alloc, analysed, site.stored.edge)?;
+    add_cells(alloc, &mut stores.by_cell, &cells, rank)?;
+    stores.sites.push(StoreSite { rank, ..*site })?;
     Ok(())
 }
 
 /// The stores of all bodies. The only error is want of memory.
 pub fn stores_of(alloc: Global, analysed: Analysed<'_>) -> Result<Stores, NoMemory> {
+    let sites = all_sites(alloc, analysed)?;
+    let standings = standings_of(alloc, &sites)?;
     let mut stores = Stores {
         sites: Vec::new(alloc),
         by_cell: Vec::new(alloc),
     };
-    for graph in &analysed.program.graphs.graphs {
-        add_graph(alloc, analysed, graph, &mut stores)?;
+    for standing in &standings {
+        if let Some(site) = sites.get(standing.position) {
+            add_site(alloc, analysed, site, &mut stores)?;
+        }
     }
     Ok(stores)
 }
@@ -196,23 +259,6 @@ fn may_arrive(analysed: Analysed<'_>, reader: &Reader, site: &StoreSite) -> bool
         || is_handed(analysed, reader, writer)
 }
 
-// Whether a store has the more values; one of an input counts most.
-fn is_wider(site: &StoreSite, known: &StoreSite) -> bool {
-    if site.is_input == known.is_input {
-        weight(&known.values) < weight(&site.values)
-    } else {
-        site.is_input
-    }
-}
-
-// Whether a store has the more values than the one that is known, if one is known.
-fn is_better(site: &StoreSite, known: Option<&StoreSite>) -> bool {
-    match known {
-        None => true,
-        Some(known) => is_wider(site, known),
-    }
-}
-
 // Whether a store gives what is looked for of a load: the null pointer where that is loaded, for it goes wrong wherever
 // it comes from; and else any of the values.
 fn gives_some(stored: &Extent, loaded: &Extent) -> bool
@@ -232,34 +278,24 @@ fn may_give(analysed: Analysed<'_>, reader: &Reader, site: &StoreSite) -> bool
     gives_some(&site.values, &reader.values) && may_arrive(analysed, reader, site)
 }
 
-// The positions of the stores that reach a cell.
-fn positions_at(stores: &Stores, cell: u32) -> &[usize] {
+// The ranks of the stores that reach a cell, rising.
+fn ranks_at(stores: &Stores, cell: u32) -> &[usize] {
     match stores.by_cell.get(cell as usize) {
         None => &[],
-        Some(positions) => positions,
+        Some(ranks) => ranks,
     }
 }
 
-// Of the store that is known and of another one, if that may have given what is looked for of a load, the one with the
-// more values, in doubt the known one.
-fn wider(
-    analysed: Analysed<'_>,
-    reader: &Reader,
-    known: Option<StoreSite>,
-    site: &StoreSite,
-) -> Option<StoreSite>
-    requires { GivesNull reader.now.values.null known }
-    ensures { GivesNull reader.now.values.null result }
-{
-    if is_better(site, known.as_ref()) && may_give(analysed, reader, site) {
-        Some(*site)
-    } else {
-        known
+// Whether a rank goes before the store that is known, if one is known.
+fn is_before(rank: usize, known: Option<&StoreSite>) -> bool {
+    match known {
+        None => true,
+        Some(known) => rank < known.rank,
     }
 }
 
-// The same of all stores that reach the cell of a load.
-fn widest_to_cell(
+// The first of the store that is known and of those that reach the cell of a load and may have given what is looked for.
+fn first_store(
     analysed: Analysed<'_>,
     stores: &Stores,
     reader: &Reader,
@@ -268,13 +304,17 @@ fn widest_to_cell(
     requires { GivesNull reader.now.values.null known }
     ensures { GivesNull reader.now.values.null result }
 {
-    let mut best = known;
-    for position in positions_at(stores, reader.cell) {
-        if let Some(site) = stores.sites.get(*position) {
-            best = wider(analysed, reader, best, site);
+    for rank in ranks_at(stores, reader.cell) {
+        if !is_before(*rank, known.as_ref()) {
+            return known;
+        }
+        if let Some(site) = stores.sites.get(*rank) {
+            if may_give(analysed, reader, site) {
+                return Some(*site);
+            }
         }
     }
-    best
+    known
 }
 
 /// The store with the most values that may have given those of a load of one of these cells, a store of an input before
@@ -292,7 +332,7 @@ pub fn widest_store(
     let mut best = None;
     for cell in cells {
         let reader = reader_of(analysed, edge, *cell, values);
-        best = widest_to_cell(analysed, stores, &reader, best);
+        best = first_store(analysed, stores, &reader, best);
     }
     best
 }
