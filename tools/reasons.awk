@@ -193,31 +193,26 @@ function flaws(step,    text) {
     return text
 }
 
-# What a load gives.
-function loaded(values, bad) {
-    return bad != "" ? " may be " bad " here" : values != "" ? " is " values " here" : " is read here"
-}
-
-# What a store stores.
-function stored(values, bad) {
-    return values != "" ? values : "a pointer" (bad != "" ? " that may be " bad : "")
+# What is loaded or stored.
+function moved(span, bad) {
+    return span != "" ? span : "a pointer" (bad != "" ? " that may be " bad : "")
 }
 
 # Tells of a step of the way back at a place. Operators, addresses and constants that are numbers are passed over: what
 # they give stands at the step before them.
-function tell_step(step, at, what,    words, last, name, values, bad) {
+function tell_step(step, at, what,    words, last, name, span, bad) {
     last = split(step, words, " ")
     name = words[last - 1] == "of" && last > 4 ? words[last] : "the object"
-    if (words[4] ~ /^-?[0-9]+$/) values = range(words[4], words[5], 0, "")
+    if (words[4] ~ /^-?[0-9]+$/) span = range(words[4], words[5], 0, "")
     bad = flaws(step)
-    if (words[2] == "load") note(at, name loaded(values, bad))
-    if (words[2] == "store") note(at, words[3] " stores " stored(values, bad) " to " name " here")
+    if (words[2] == "load") note(at, words[3] " reads " moved(span, bad) " from " name " here")
+    if (words[2] == "store") note(at, words[3] " stores " moved(span, bad) " to " name " here")
     if (words[2] == "loop") note(at, "here the way back was before: the " what " changes from turn to turn of a loop")
     if (words[2] == "alarm") note(at, "the " what " comes from here, where another alarm stands: see that first")
-    if (words[2] == "input") note(at, "an input, or a function that may end without return, gives " values " here")
-    if (words[2] == "volatile") note(at, "a volatile object may be " (values != "" ? values : "any pointer") " here")
-    if (words[2] == "open") note(at, name " is read here, and may not have been set")
-    if (words[2] == "initial") note(at, name " is read here, and may be as it was before the program ran")
+    if (words[2] == "input") note(at, "an input, or a function that may end without return, gives " span " here")
+    if (words[2] == "volatile") note(at, "a volatile object may be " (span != "" ? span : "any pointer") " here")
+    if (words[2] == "open") note(at, name " may not have been set")
+    if (words[2] == "initial") note(at, name " may be as it was before the program ran")
     if (words[2] == "unset") note(at, "what a function gives here that may end without return is used")
     if (words[2] == "constant" && bad != "") note(at, "null is meant here")
 }
