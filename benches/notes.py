@@ -5,9 +5,9 @@
 
 PROGRAM is the built alarm_notes. CASES has a JSON object in each line, with the source `stdin`, and `status` and
 `stdout` of the other implementation. The whole texts are compared, byte for byte; of one that differs it is told in
-which members. Of the objects that no cell of static storage belongs to, the other implementation lists also those that
-its advice names, which this one has not: a text that differs in these alone, with the numbers of objects that follow
-from it, counts as one that differs in `advice`. The status is 1 where a case differs otherwise."""
+which members. Of the objects that are not of static storage both list also those that their advice names, which
+need not be the same: a text that differs in these alone, with the numbers of objects that follow from it, counts as one
+that differs in `advice`. The status is 1 where a case differs otherwise."""
 import json
 import subprocess
 import sys
