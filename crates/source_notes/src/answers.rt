@@ -27,7 +27,7 @@ use std::alloc::Global as Heap;
 use tm_laid::Scale;
 use tm_lattice::NoMemory;
 use tm_terms::{Alarm, Fail};
-use value_ranges::{cell_ranges, ranges};
+use value_ranges::{cell_ranges, ranges_by_cells};
 
 /// What the notes are on.
 #[derive(Clone, Copy)]
@@ -255,8 +255,8 @@ fn contents_of(
         found.store(),
         &groups,
     )?;
-    let ranges = ranges(alloc, program, facts, found.tables(), found.store())?;
     let cells = cell_ranges(alloc, program, facts, found.tables(), found.store())?;
+    let ranges = ranges_by_cells(alloc, program, facts, found.tables(), found.store(), &cells)?;
     let advised = advised_objects(alloc, analysis, found, &others, &groups)?;
     let details = report_details(
         alloc,

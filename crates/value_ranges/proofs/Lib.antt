@@ -2,5 +2,6 @@ mod Widening
 mod Listing
 mod Noting
 mod Told
+mod CellEnds
 mod Adding
 mod Dead

@@ -24,7 +24,7 @@ use Rattle.value_ranges.specs.declared.cells.IntegerCell.{IntegerCell}
 use Rattle.value_ranges.specs.declared.object_bounds.Grouping.{Grouping}
 use Rattle.value_ranges.specs.declared.object_bounds.Grouping.TheVariants as Groupings
 use Rattle.value_ranges.specs.Ranges.{IsKeyOf, key_count, IsToldNumber, IsNumberBy, IsNumberOf, AreBoundsBy}
-use Rattle.value_ranges.specs.Ranges.{AreBoundsIf, AreRising, IsListed, AreRanges, AreCellRanges}
+use Rattle.value_ranges.specs.Ranges.{AreBounds, AreBoundsIf, AreRising, IsListed, AreRanges, AreCellRanges}
 use Rattle.value_ranges.specs.Ranges.IsToldNumber.{at_first, at_node, in_store}
 use Rattle.value_ranges.specs.reading.Notes.{Noted, noted_at, IsNamed, IsWidened, Below, IsFirst, IsFirstBelow}
 use Rattle.value_ranges.specs.reading.Notes.{AreIntegerCells, no_integer_cell, IsInCell, IsInNode, IsInTables}
@@ -65,7 +65,7 @@ within_tables tables t n s e = by_place (dec_lt t (length tables))
 
 -- ## Layouts
 
-read_cell : (by : Grouping) (laid : LaidTree) (key x : ℕ) → IsKeyOf by laid key x → IsKeyOf by (read_layout laid) key x
+pub read_cell : (by : Grouping) (laid : LaidTree) (key x : ℕ) → IsKeyOf by laid key x → IsKeyOf by (read_layout laid) key x
 read_cell Groupings.Objects laid key x h =
     record { within = h.within; of = h.of; integer = h.integer; there = h.there; static = h.static }
 read_cell Groupings.Cells laid key x h = (
@@ -74,7 +74,7 @@ read_cell Groupings.Cells laid key x h = (
       record { within = of.within; of = of.of; integer = of.integer; there = of.there; static = of.static }),
 )
 
-cell_read : (by : Grouping) (laid : LaidTree) (key x : ℕ) → IsKeyOf by (read_layout laid) key x → IsKeyOf by laid key x
+pub cell_read : (by : Grouping) (laid : LaidTree) (key x : ℕ) → IsKeyOf by (read_layout laid) key x → IsKeyOf by laid key x
 cell_read Groupings.Objects laid key x h =
     record { within = h.within; of = h.of; integer = h.integer; there = h.there; static = h.static }
 cell_read Groupings.Cells laid key x h = (
@@ -304,35 +304,50 @@ module _ (by : Grouping) (p : ProgramBodies) (lists : List (List (Option State))
   pub all_counted : length noted ≡ key_count by p.laid
   all_counted = in_all.count ∙ sym (count_read by laid) ∙ sym (ap (key_count by) read)
 
-module _ (p : ProgramBodies) (lists : List (List (Option State))) (store : Interferences) (laid : LaidTree)
-    (read : p.laid ≡ read_layout laid) (noted : List Noted)
-    (in_all : AreNotedIn Groupings.Objects laid lists store.weak noted) where
-  module _ (list : List ObjectBounds) (h : AreListed noted (length noted) list) (object : ℕ) (n : ℤ)
-      (number : IsNumberOf p (tables_of lists) store object n) where
-    within : object < length noted
-    within =
-        let lt : object < length p.laid.objects = (let of = number.of in of.there) in
-        let same : length p.laid.objects ≡ length laid.objects = ap (λ (m : LaidTree). length m.objects) read in
-        let count = in_all.count in
-        omega (arith, lt, same, count)
+-- what is noted of objects, where it is widened by their numbers
+module _ (p : ProgramBodies) (lists : List (List (Option State))) (store : Interferences) (noted : List Noted)
+    (count : length noted ≡ length p.laid.objects)
+    (are : (object : ℕ) → IsWidened (IsNumberOf p (tables_of lists) store object) object None (noted_at noted object))
+  where
+    object_bounds : (object : ℕ) (b : ObjectBounds) → noted_at noted object ≡ Some b
+        → AreBounds p (tables_of lists) store b.object b.low b.high
+    object_bounds object b e =
+        let w = subst (λ o. IsWidened (IsNumberOf p (tables_of lists) store object) object None o) e (are object) in
+        subst (λ o. AreBounds p (tables_of lists) store o b.low b.high) (sym (w.named tt)) (record {
+          low_is = either (λ l. absurd l) (λ h. h) (w.low b.low refl);
+          high_is = either (λ l. absurd l) (λ h. h) (w.high b.high refl);
+          least = λ n h. (w.has n h).0;
+          greatest = λ n h. (w.has n h).1;
+        })
 
-    by_note : (o : Noted) → noted_at noted object ≡ o → IsWidened (IsNumberOf p (tables_of lists) store object) object None o → IsListed list object
-    by_note None e w = absurd (w.has n number)
-    by_note (Some b) e w =
-        record { bounds = b; has = (h.exact b).1 (object, within, e); of = w.named tt }
+    module _ (list : List ObjectBounds) (h : AreListed noted (length noted) list) (object : ℕ) (n : ℤ)
+        (number : IsNumberOf p (tables_of lists) store object n) where
+      within : object < length noted
+      within = let lt : object < length p.laid.objects = (let of = number.of in of.there) in omega (arith, lt, count)
 
-    is_listed : IsListed list object
-    is_listed = by_note (noted_at noted object) refl
-        (told Groupings.Objects p lists store laid read noted in_all object)
+      by_note : (o : Noted) → noted_at noted object ≡ o
+          → IsWidened (IsNumberOf p (tables_of lists) store object) object None o → IsListed list object
+      by_note None e w = absurd (w.has n number)
+      by_note (Some b) e w =
+          record { bounds = b; has = (h.exact b).1 (object, within, e); of = w.named tt }
 
-  pub are_ranges : (list : List ObjectBounds) → AreListed noted (length noted) list
-      → AreRanges p (tables_of lists) store list
-  are_ranges list h = record {
-    sorted = are_rising list h.rising;
-    each = λ b c. let there = (h.exact b).0 c in bounds_from Groupings.Objects p lists store laid read noted in_all
-        there.0 b there.2;
-    all = λ object n number. is_listed list h object n number;
-  }
+      is_listed : IsListed list object
+      is_listed = by_note (noted_at noted object) refl (are object)
+
+    pub ranges_told : (list : List ObjectBounds) → AreListed noted (length noted) list
+        → AreRanges p (tables_of lists) store list
+    ranges_told list h = record {
+      sorted = are_rising list h.rising;
+      each = λ b c. let there = (h.exact b).0 c in object_bounds there.0 b there.2;
+      all = λ object n number. is_listed list h object n number;
+    }
+
+pub are_ranges : (p : ProgramBodies) (lists : List (List (Option State))) (store : Interferences) (laid : LaidTree)
+    → p.laid ≡ read_layout laid → (noted : List Noted) → AreNotedIn Groupings.Objects laid lists store.weak noted
+    → (list : List ObjectBounds) → AreListed noted (length noted) list → AreRanges p (tables_of lists) store list
+are_ranges p lists store laid read noted in_all =
+    ranges_told p lists store noted (all_counted Groupings.Objects p lists store laid read noted in_all)
+    (told Groupings.Objects p lists store laid read noted in_all)
 
 pub are_cell_ranges : (p : ProgramBodies) (lists : List (List (Option State))) (store : Interferences)
     (laid : LaidTree) → p.laid ≡ read_layout laid → (noted : List Noted)

@@ -41,8 +41,8 @@ fn is_static(laid: &Laid, object: u32) -> bool
     }
 }
 
-// The object of an abstract cell of integer type that is of static storage.
-fn object_of(laid: &Laid, cell: usize) -> Option<u32>
+/// The object of an abstract cell of integer type that is of static storage.
+pub(crate) fn object_of(laid: &Laid, cell: usize) -> Option<u32>
     ensures { (o : ℕ) → (result ≡ Some o) ↔ IsIntegerCell (laid_tree laid.now) o cell }
 {
     match laid.abstract_cells.get(cell) {

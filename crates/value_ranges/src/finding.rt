@@ -8,6 +8,7 @@ ghost use Rattle.value_ranges.specs.Ranges.{AreRanges, AreCellRanges};
 ghost use Rattle.value_ranges.specs.Places.{AreDead};
 
 use crate::bounds::listed;
+use crate::grouped::grouped;
 use crate::notes::noted_in;
 use crate::object_bounds::{Grouping, ObjectBounds, Ranges};
 use crate::places::dead_places;
@@ -59,4 +60,30 @@ pub fn cell_ranges(
 {
     let bounds = noted_in(alloc, &program.laid, Grouping::Cells, tables, store)?;
     Ok(bounds)
+}
+
+/// The same as `ranges`, where the bounds of the abstract cells are found already: those of an object are of its cells.
+pub fn ranges_by_cells(
+    alloc: Global,
+    program: &Program,
+    facts: &ProgramFacts,
+    tables: &[Table],
+    store: &Store,
+    cells: &[Option<ObjectBounds>],
+) -> Result<Ranges, NoMemory>
+    requires analysable { IsAnalysable program.now }
+    requires facts { AreProgramFacts program.now facts.now }
+    requires fits { FitsPair (program_with program.now facts.now) (pair_of tables.now store.now) }
+    requires cells { AreCellRanges (program_with program.now facts.now) (tables_of (lists_of tables.now)) store.now
+        cells.now }
+    ensures bounds { IfOk result (λ ranges. AreRanges (program_with program.now facts.now)
+        (tables_of (lists_of tables.now)) store.now ranges.bounds.items) }
+    ensures dead { IfOk result (λ ranges. AreDead (program_with program.now facts.now)
+        (tables_of (lists_of tables.now)) ranges.dead.items) }
+{
+    let _store = store;
+    let noted = grouped(alloc, &program.laid, cells)?;
+    let bounds = listed(alloc, &noted)?;
+    let dead = dead_places(alloc, &program.graphs.graphs, &program.configured, tables)?;
+    Ok(Ranges { bounds, dead })
 }

@@ -9,9 +9,10 @@
 mod bounds;
 mod cells;
 mod finding;
+mod grouped;
 mod notes;
 mod object_bounds;
 mod places;
 
-pub use finding::{cell_ranges, ranges};
+pub use finding::{cell_ranges, ranges, ranges_by_cells};
 pub use object_bounds::{Grouping, ObjectBounds, Ranges};

@@ -99,8 +99,8 @@ fn note_weak(noted: &mut Vec<Option<ObjectBounds>>, cells: &[IntegerCell], store
     }
 }
 
-// Nothing is noted of so many objects.
-fn nothing(alloc: Global, count: usize) -> Result<Vec<Option<ObjectBounds>>, NoMemory>
+/// Nothing is noted of so many objects.
+pub(crate) fn nothing(alloc: Global, count: usize) -> Result<Vec<Option<ObjectBounds>>, NoMemory>
     ensures count { IfOk result (λ noted. length noted.items ≡ count) }
     ensures none { IfOk result (λ noted. (o : ℕ) → noted_at noted.items o ≡ None) }
 {

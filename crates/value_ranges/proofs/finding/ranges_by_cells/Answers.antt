@@ -1,0 +1,53 @@
+use Rattle.std.proofs.Common.{length, List, refl, sym, subst}
+use Rattle.std.proofs.lemmas.List.{length-map}
+use Rattle.tm_laid.specs.Layouts.{laid_tree}
+use Rattle.flow_graph.specs.declared.graphs.Graph.{Graph}
+use Rattle.mutex_configs.specs.declared.nodes.ConfiguredGraph.{ConfiguredGraph}
+use Rattle.post_recheck.specs.program_systems.ProgramFacts.{program_with}
+use Rattle.post_recheck.specs.Pairs.{lists_of, pair_of}
+use Rattle.value_ranges.specs.reading.Notes.{Noted, IsNamed, noted_at, AreListed}
+use Rattle.value_ranges.specs.reading.Reached.{AreCopiesOf, AreDeadIn}
+use Rattle.value_ranges.proofs.CellEnds.{cells_are_proper, ranges_grouped}
+use Rattle.value_ranges.proofs.Dead.{copies_of, are_dead}
+use Rattle.value_ranges.proofs.finding.ranges_by_cells.Goals as goal
+
+pub grouped-requires : goal.grouped-requires
+grouped-requires c =
+    cells_are_proper (program_with c.args.program.now c.args.facts.now) (lists_of c.args.tables.now) c.args.store.now
+    c.args.cells.now c.requires.cells
+
+pub listed-requires : goal.listed-requires
+listed-requires c = λ o.
+    subst (λ (xs : List Noted). IsNamed o (noted_at xs o)) (sym c.deref.ensures.value)
+    (let w = c.in_ok-noted.ensures.each o in w.named tt)
+
+pub dead_places-requires : goal.dead_places-requires
+dead_places-requires c =
+    let program = c.args.program.now in
+    let lists = lists_of c.args.tables.now in
+    subst (λ (gs : List Graph). AreCopiesOf gs c.deref-3.result.now lists) (sym c.deref-2.ensures.value)
+    (subst (λ (cs : List ConfiguredGraph). AreCopiesOf program.graphs.graphs.items cs lists)
+    (sym c.deref-3.ensures.value)
+    (copies_of program c.args.facts.now c.requires.analysable c.requires.facts
+    (pair_of c.args.tables.now c.args.store.now) c.requires.fits))
+
+pub returns-clause-bounds : goal.returns-clause-bounds
+returns-clause-bounds c =
+    ranges_grouped (program_with c.args.program.now c.args.facts.now) (lists_of c.args.tables.now) c.args.store.now
+    c.args.cells.now c.requires.cells (laid_tree c.args.program.now.laid) refl c.in_ok-noted.noted.items
+    c.in_ok-noted.ensures c.in_ok-bounds.bounds.items
+    (subst (λ (xs : List Noted). AreListed xs (length xs) c.in_ok-bounds.bounds.items) c.deref.ensures.value
+    c.in_ok-bounds.ensures)
+
+pub returns-clause-dead : goal.returns-clause-dead
+returns-clause-dead c =
+    let program = c.args.program.now in
+    let lists = lists_of c.args.tables.now in
+    let n = length c.args.tables.now in
+    are_dead program c.args.facts.now c.requires.analysable c.requires.facts
+    (pair_of c.args.tables.now c.args.store.now) c.requires.fits n
+    (sym (length-map c.args.tables.now (λ v. v.items))) c.in_ok-dead.dead.items
+    (subst (λ (gs : List Graph). AreDeadIn gs program.configured.items lists n c.in_ok-dead.dead.items)
+    c.deref-2.ensures.value
+    (subst (λ (cs : List ConfiguredGraph). AreDeadIn c.deref-2.result.now cs lists n c.in_ok-dead.dead.items)
+    c.deref-3.ensures.value c.in_ok-dead.ensures))
