@@ -1,5 +1,5 @@
 -- Advice on one more alarm.
-use Rattle.std.proofs.Common.{◌≡◌, ◌<◌, ◌+◌, ◌++◌, ◌∷◌, [], ℕ, List, length, get_or, take, subst, sym, absurd}
+use Rattle.std.proofs.Common.{◌≡◌, ◌<◌, ◌+◌, ◌++◌, ◌∷◌, [], ℕ, List, length, get_or, take, subst, sym}
 use Rattle.std.proofs.lemmas.List.{take_more}
 use Rattle.alarm_contexts.specs.declared.alarm_context.AlarmContexts.{AlarmContexts}
 use Rattle.alarm_causes.specs.declared.advices.Advice.{Advice}
