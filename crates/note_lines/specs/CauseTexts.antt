@@ -62,32 +62,33 @@ abbrev pub blamed_text : Operation → Option ℕ → List ℕ
 blamed_text operation None = []
 blamed_text operation (Some n) = codes " " ++ role_at operation n
 
+-- of NAME, behind a blank, where the step is at an object
+abbrev pub object_named : List ℕ → Option ObjectName → List ℕ
+object_named bytes None = []
+object_named bytes (Some o) = codes " of " ++ spelled bytes (Some o.name)
+
+abbrev pub of_object : List ℕ → List ObjectName → Option ℕ → List ℕ
+of_object bytes objects None = []
+of_object bytes objects (Some object) = object_named bytes (slice_get objects object)
+
+-- PLACE KIND TASK
+abbrev pub step_front : List ℕ → List Name → Step → List ℕ
+step_front bytes tasks s =
+    place_or_point s.place ++ (step_word s.kind ++ (codes " " ++ runner_text bytes tasks s.task))
+
+-- [LEAST GREATEST] [null] [invalid] [of NAME]
+abbrev pub step_back : List ℕ → List ObjectName → Step → List ℕ
+step_back bytes objects s = bounds_text s.bounds ++ (word_if s.null (codes " null")
+    ++ (word_if s.invalid (codes " invalid") ++ of_object bytes objects s.object))
+
+-- LINE:COL CLASS CAUSE [ROLE]
+abbrev pub advice_head : AlarmContexts → Operation → Advice → List ℕ
+advice_head a operation v = line_of (place_head a.place ++ (class_text a.class ++ (codes " "
+    ++ (cause_word v.cause ++ blamed_text operation v.blamed))))
+
 module _ (bytes : List ℕ) (objects : List ObjectName) (tasks : List Name) where
-  -- of NAME, behind a blank, where the step is at an object
-  abbrev pub object_named : Option ObjectName → List ℕ
-  object_named None = []
-  object_named (Some o) = codes " of " ++ spelled bytes (Some o.name)
-
-  abbrev pub of_object : Option ℕ → List ℕ
-  of_object None = []
-  of_object (Some object) = object_named (slice_get objects object)
-
-  -- PLACE KIND TASK
-  abbrev pub step_front : Step → List ℕ
-  step_front s = place_or_point s.place ++ (step_word s.kind ++ (codes " " ++ runner_text bytes tasks s.task))
-
-  -- [LEAST GREATEST] [null] [invalid] [of NAME]
-  abbrev pub step_back : Step → List ℕ
-  step_back s = bounds_text s.bounds ++ (word_if s.null (codes " null")
-      ++ (word_if s.invalid (codes " invalid") ++ of_object s.object))
-
   abbrev pub step_text : Step → List ℕ
-  step_text s = line_of (step_front s ++ step_back s)
-
-  -- LINE:COL CLASS CAUSE [ROLE]
-  abbrev pub advice_head : AlarmContexts → Operation → Advice → List ℕ
-  advice_head a operation v = line_of (place_head a.place ++ (class_text a.class ++ (codes " "
-      ++ (cause_word v.cause ++ blamed_text operation v.blamed))))
+  step_text s = line_of (step_front bytes tasks s ++ step_back bytes objects s)
 
   -- the first line, and the steps
   abbrev pub advice_text : AlarmContexts → Operation → Advice → List ℕ
