@@ -1,0 +1,2 @@
+-- How the walk goes, part by part.
+pub mod Walks
