@@ -1,2 +1,0 @@
--- How the walk goes, part by part.
-pub mod Walks
