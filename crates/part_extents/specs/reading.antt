@@ -1,0 +1,2 @@
+-- How the code stands for parts.
+pub mod Sought
