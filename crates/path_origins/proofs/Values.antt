@@ -1,0 +1,357 @@
+-- What is noted of expressions for their values and as branches, step by step: a was noted before, and each further
+-- name stands for what is noted behind the next step.
+use Rattle.std.proofs.Common.{◌≡◌, ◌⊎◌, inl, inr, ℕ, suc, Bool, true, false, List, [], ◌∷◌, length, refl, ap, sym, ◌∙◌}
+use Rattle.std.specs.Prelude.{ℤ, cond}
+use Rattle.tm_terms.specs.declared.places.Place.{Place}
+use Rattle.tm_typed.specs.declared.expressions.Rvalue.{Rvalue}
+use Rattle.tm_typed.specs.declared.expressions.Lvalue.{Lvalue}
+use Rattle.tm_typed.specs.declared.types.Qualified.{Qualified}
+use Rattle.tm_typed.specs.TypedTrees.{RvalueTree, a_folded, a_function_call, as_rvalues, rvalue_tree, lvalue_tree}
+use Rattle.tm_laid.specs.Layouts.{LaidTree, callee}
+use Rattle.body_builder.specs.concrete_steps.NextAction.{function_at}
+use Rattle.body_builder.specs.concrete_steps.Places.{rvalue_place, result_type}
+use Rattle.path_origins.specs.declared.origins.Form.{Form}
+use Rattle.path_origins.specs.declared.origins.Form.TheVariants as Forms
+use Rattle.path_origins.specs.declared.origins.Span.{Span}
+use Rattle.path_origins.specs.declared.walks.Wanted.{Wanted}
+use Rattle.path_origins.specs.declared.walks.Wanted.TheVariants as Wants
+use Rattle.path_origins.specs.declared.types.Given.{Given}
+use Rattle.path_origins.specs.Types.{given, type_of, given_by, is_pointer}
+use Rattle.path_origins.specs.Noted.{Noted, nothing, behind, both, sequenced, scoped, passing_if, one, one_if, skips}
+use Rattle.path_origins.specs.Noted.{stored}
+use Rattle.path_origins.specs.Expressions.{all_arguments, walked, addressed, valued, decided, met, converted_if}
+use Rattle.path_origins.specs.Expressions.{tested, operated, compared}
+use Rattle.path_origins.specs.Expressions.{changed, called, count_of}
+use Rattle.path_origins.specs.reading.Walks.{by_wanted, end_by, decided_by, operands_added}
+use Rattle.path_origins.specs.reading.Walks.{sequenced_from, stored_from}
+use Rattle.path_origins.specs.reading.Ends.{converted_end, operator_end, equality_end, change_end}
+use Rattle.path_origins.specs.reading.Ends.{stores_and_body}
+use Rattle.path_origins.proofs.Laws.{behind_behind, behind_nothing, then_behind, value_ended, value_noted, fork_noted}
+use Rattle.path_origins.proofs.Beside.{both_noted, stored_noted, sequenced_noted, passing_noted}
+
+-- ## Steps in a row
+
+pub three_behind : (a b c d x y z : Noted) → b ≡ behind a x → c ≡ behind b y → d ≡ behind c z
+    → d ≡ behind a (behind x (behind y z))
+three_behind a b c d x y z e f g = then_behind a b d x (behind y z) e (then_behind b c d y z f g)
+
+-- an edge or none, by another test
+pub as_one : (p : Place) (f : Form) (is has : Bool) (a b : Noted) → is ≡ has → b ≡ behind a (one_if is p f)
+    → b ≡ behind a (one_if has p f)
+as_one p f is has a b e h = h ∙ ap (λ k. behind a (one_if k p f)) e
+
+-- two edges on which control goes on
+two_skips : (p : Place) → skips p 2 ≡ behind (one p Forms.Skip) (one p Forms.Skip)
+two_skips p = ap (behind (one p Forms.Skip)) (behind_nothing (one p Forms.Skip))
+
+pub passing_size : (is : Bool) (p : Place) (x : Noted) → (passing_if is p x).size ≡ x.size
+passing_size true p x = refl
+passing_size false p x = refl
+
+-- what is wanted for its value is no branch
+pub not_branch : (w : Wanted) → (w ≡ Wants.Value) ⊎ (w ≡ Wants.Bare) → w ≡ Wants.Branch → ⊥
+not_branch w (inl e) h = cc
+not_branch w (inr e) h = cc
+
+-- there are as many arguments as the list has
+pub count_of-length : (xs : List Rvalue) → count_of (as_rvalues xs) ≡ length xs
+count_of-length [] = refl
+count_of-length (x ∷ xs) = ap suc (count_of-length xs)
+
+module _ (laid : LaidTree) (is_open : Place → Bool) (sizes : ℕ → ℕ) (path : ℕ) where
+  -- ## What is read of the code's tree
+
+  pub as_read : (w : Wanted) (used : Bool) (r s : Rvalue) (a b : Noted) → r ≡ s
+      → b ≡ behind a (by_wanted w (walked laid is_open sizes path used (rvalue_tree s)))
+      → b ≡ behind a (by_wanted w (walked laid is_open sizes path used (rvalue_tree r)))
+  as_read w used r s a b e h =
+      h ∙ ap (λ q. behind a (by_wanted w (walked laid is_open sizes path used (rvalue_tree q)))) (sym e)
+
+  pub given_as : (r s : Rvalue) (g : Given) → r ≡ s → g ≡ given laid is_open path (rvalue_tree s)
+      → g ≡ given laid is_open path (rvalue_tree r)
+  given_as r s g e h = h ∙ ap (λ q. given laid is_open path (rvalue_tree q)) (sym e)
+
+  pub address_read : (r s : Lvalue) (a b : Noted) → r ≡ s
+      → b ≡ behind a (addressed laid is_open sizes path (lvalue_tree s))
+      → b ≡ behind a (addressed laid is_open sizes path (lvalue_tree r))
+  address_read r s a b e h = h ∙ ap (λ q. behind a (addressed laid is_open sizes path (lvalue_tree q))) (sym e)
+
+  pub type_read : (r s : Lvalue) (q : Qualified) → r ≡ s → q ≡ type_of laid is_open path (lvalue_tree s)
+      → q ≡ type_of laid is_open path (lvalue_tree r)
+  type_read r s q e h = h ∙ ap (λ l. type_of laid is_open path (lvalue_tree l)) (sym e)
+
+  -- ## Values
+
+  -- a value that is tested by another test
+  pub value_given : (w : Wanted) (is pointer : Bool) (p : Place) (a b c x : Noted) → is ≡ pointer → b ≡ behind a x
+      → c ≡ behind b (end_by w is p) → c ≡ behind a (by_wanted w (valued laid is_open sizes path pointer p x))
+  value_given w is pointer p a b c x same first second =
+      value_noted laid is_open sizes path w pointer p a b c x first
+      (second ∙ ap (λ k. behind b (end_by w k p)) same)
+
+  pub two_given : (w : Wanted) (is pointer : Bool) (p : Place) (a b c d x y : Noted) → is ≡ pointer
+      → b ≡ behind a x → c ≡ behind b y → d ≡ behind c (end_by w is p)
+      → d ≡ behind a (by_wanted w (valued laid is_open sizes path pointer p (behind x y)))
+  two_given w is pointer p a b c d x y same e f g =
+      value_given w is pointer p a c d (behind x y) same (then_behind a b c x y e f) g
+
+  -- the same at a place that is known by another name
+  pub value_placed : (w : Wanted) (pointer : Bool) (q p : Place) (a b c x : Noted) → q ≡ p → b ≡ behind a x
+      → c ≡ behind b (end_by w pointer q)
+      → c ≡ behind a (by_wanted w (valued laid is_open sizes path pointer p x))
+  value_placed w pointer q p a b c x place first second =
+      value_noted laid is_open sizes path w pointer p a b c x first
+      (second ∙ ap (λ r. behind b (end_by w pointer r)) place)
+
+  pub load_noted : (w : Wanted) (is pointer : Bool) (q p : Place) (a b c d x : Noted) → q ≡ p → is ≡ pointer
+      → b ≡ behind a x → c ≡ behind b (one q Forms.Load) → d ≡ behind c (end_by w is q)
+      → d ≡ behind a (by_wanted w (valued laid is_open sizes path pointer p (behind x (one p Forms.Load))))
+  load_noted w is pointer q p a b c d x place same e f g =
+      two_given w is pointer p a b c d x (one p Forms.Load) same e
+      (f ∙ ap (λ r. behind b (one r Forms.Load)) place) (g ∙ ap (λ r. behind c (end_by w is r)) place)
+
+  -- what is folded
+  pub folded_branch : (w : Wanted) (used : Bool) (z : ℤ) (e : RvalueTree) (a b : Noted) → w ≡ Wants.Branch
+      → b ≡ behind a (walked laid is_open sizes path true e).fork
+      → b ≡ behind a (by_wanted w (walked laid is_open sizes path used (a_folded z e)))
+  folded_branch w used z e a b is h =
+      h ∙ ap (λ v. behind a (by_wanted v (walked laid is_open sizes path used (a_folded z e)))) (sym is)
+
+  pub folded_value : (w : Wanted) (used : Bool) (z : ℤ) (e : RvalueTree) (q : Place) (a b : Noted)
+      → (w ≡ Wants.Branch → ⊥) → q ≡ rvalue_place e → b ≡ behind a (one q Forms.Constant)
+      → b ≡ behind a (by_wanted w (walked laid is_open sizes path used (a_folded z e)))
+  folded_value Wants.Value used z e q a b not place h = h ∙ ap (λ r. behind a (one r Forms.Constant)) place
+  folded_value Wants.Bare used z e q a b not place h = h ∙ ap (λ r. behind a (one r Forms.Constant)) place
+  folded_value Wants.Branch used z e q a b not place h = absurd (not refl)
+
+  pub comma_noted : (w : Wanted) (is pointer : Bool) (p : Place) (n : ℕ) (a b c d f x y : Noted) → is ≡ pointer
+      → n ≡ length a.pending → b ≡ behind a x → c ≡ sequenced_from n b → d ≡ behind c y
+      → f ≡ behind d (end_by w is p)
+      → f ≡ behind a (by_wanted w (valued laid is_open sizes path pointer p (behind (sequenced x) y)))
+  comma_noted w is pointer p n a b c d f x y same first e g h k =
+      two_given w is pointer p a c d f (sequenced x) y same (sequenced_noted n a b c x first e g) h k
+
+  conversion_ended : (w : Wanted) (same : Bool) (p : Place) (is : Bool) (x : Noted)
+      → behind x (converted_end w same p is)
+      ≡ by_wanted w (record {
+        value = converted_if laid is_open sizes path is p x;
+        bare = cond same x (converted_if laid is_open sizes path is p x);
+        fork = tested laid is_open sizes path false p (converted_if laid is_open sizes path is p x);
+      })
+  conversion_ended Wants.Value same p is x = ap (behind x) (behind_nothing (one_if is p Forms.Conversion))
+  conversion_ended Wants.Bare true p is x = behind_nothing x
+  conversion_ended Wants.Bare false p is x = refl
+  conversion_ended Wants.Branch same p is x =
+      sym (behind_behind x (one_if is p Forms.Conversion) (end_by Wants.Branch false p))
+
+  pub conversion_noted : (w : Wanted) (same : Bool) (p : Place) (is : Bool) (a b c x : Noted) → b ≡ behind a x
+      → c ≡ behind b (converted_end w same p is)
+      → c ≡ behind a (by_wanted w (record {
+        value = converted_if laid is_open sizes path is p x;
+        bare = cond same x (converted_if laid is_open sizes path is p x);
+        fork = tested laid is_open sizes path false p (converted_if laid is_open sizes path is p x);
+      }))
+  conversion_noted w same p is a b c x e f =
+      then_behind a b c x (converted_end w same p is) e f ∙ ap (behind a) (conversion_ended w same p is x)
+
+  -- the same by other tests
+  pub conversion_read : (w : Wanted) (alike same : Bool) (p : Place) (makes is : Bool) (a b c x : Noted)
+      → alike ≡ same → makes ≡ is → b ≡ behind a x → c ≡ behind b (converted_end w alike p makes)
+      → c ≡ behind a (by_wanted w (record {
+        value = converted_if laid is_open sizes path is p x;
+        bare = cond same x (converted_if laid is_open sizes path is p x);
+        fork = tested laid is_open sizes path false p (converted_if laid is_open sizes path is p x);
+      }))
+  conversion_read w alike same p makes is a b c x e f g h =
+      conversion_noted w same p is a b c x g
+      (h ∙ ap (λ k. behind b (converted_end w k p makes)) e ∙ ap (λ k. behind b (converted_end w same p k)) f)
+
+  -- a condition with the sequence point behind it, another one, and the end
+  pub both_ways_noted : (w : Wanted) (p : Place) (a b c d x y : Noted) → b ≡ behind a (sequenced x)
+      → c ≡ behind b y → d ≡ behind c (behind (skips p 2) (decided_by w p))
+      → d ≡ behind a (by_wanted w (decided laid is_open sizes path p (behind (behind (sequenced x) y)
+      (met laid is_open sizes path p))))
+  both_ways_noted w p a b c d x y e f g =
+      let z : Noted = behind (sequenced x) y in
+      let s : Noted = skips p 2 in
+      fork_noted laid is_open sizes path w p a (behind c s) d (behind z (met laid is_open sizes path p))
+      (then_behind a c (behind c s) z (met laid is_open sizes path p) (then_behind a b c (sequenced x) y e f)
+      (ap (behind c) (two_skips p))) (g ∙ sym (behind_behind c s (decided_by w p)))
+
+  -- the condition, the first value and its copy, the second one and its copy, two edges, and the end
+  pub choice_noted : (w : Wanted) (is pointer : Bool) (p : Place) (n : ℕ) (copy : Bool)
+      (a b c d f g h i k x y z : Noted) → is ≡ pointer → n ≡ length a.pending → b ≡ behind a z
+      → c ≡ sequenced_from n b → d ≡ behind c x → f ≡ behind d (one_if copy p Forms.Copy) → g ≡ behind f y
+      → h ≡ behind g (one_if copy p Forms.Copy) → i ≡ behind h (skips p 2) → k ≡ behind i (end_by w is p)
+      → k ≡ behind a (by_wanted w (valued laid is_open sizes path pointer p (behind (sequenced z)
+      (behind (behind x (one_if copy p Forms.Copy)) (behind (behind y (one_if copy p Forms.Copy))
+      (met laid is_open sizes path p))))))
+  choice_noted w is pointer p n copy a b c d f g h i k x y z same first eb ec ed ef eg eh ei ek =
+      let copied = one_if copy p Forms.Copy in
+      value_given w is pointer p a i k (behind (sequenced z) (behind (behind x copied) (behind (behind y copied)
+      (met laid is_open sizes path p)))) same
+      (then_behind a c i (sequenced z) (behind (behind x copied) (behind (behind y copied)
+      (met laid is_open sizes path p))) (sequenced_noted n a b c z first eb ec)
+      (three_behind c f h i (behind x copied) (behind y copied) (met laid is_open sizes path p)
+      (then_behind c d f x copied ed ef) (then_behind f g h y copied eg eh) (ei ∙ ap (behind h) (two_skips p)))) ek
+
+  -- the arguments, their stores with the body of the path, and the end
+  pub call_noted : (w : Wanted) (is pointer : Bool) (p : Place) (to count n : ℕ) (used : Bool) (a b c d x : Noted)
+      → is ≡ pointer → count ≡ n → b ≡ behind a (sequenced x)
+      → c ≡ behind b (scoped (stores_and_body laid is_open sizes path to used n p)) → d ≡ behind c (end_by w is p)
+      → d ≡ behind a (by_wanted w (valued laid is_open sizes path pointer p
+      (called laid is_open sizes path to used count p x)))
+  call_noted w is pointer p to count n used a b c d x same counted eb ec ed =
+      two_given w is pointer p a b c d (sequenced x)
+      (scoped (stores_and_body laid is_open sizes path to used count p)) same eb
+      (ec ∙ ap (λ k. behind b (scoped (stores_and_body laid is_open sizes path to used k p))) (sym counted)) ed
+
+  -- the same of a list of arguments, for the path to which the call leads
+  pub call_read : (w : Wanted) (used : Bool) (u : RvalueTree) (f site : ℕ) (p : Place) (xs : List Rvalue) (to n : ℕ)
+      (is : Bool) (a b c d : Noted) → u ≡ a_function_call f site (as_rvalues xs) p → to ≡ callee laid path site
+      → is ≡ is_pointer (given_by (result_type laid (function_at laid (callee laid path site)))) → n ≡ length xs
+      → b ≡ behind a (sequenced (all_arguments laid is_open sizes path p (function_at laid to).parameters true nothing
+      (as_rvalues xs)))
+      → c ≡ behind b (scoped (stores_and_body laid is_open sizes path to used n p)) → d ≡ behind c (end_by w is p)
+      → d ≡ behind a (by_wanted w (walked laid is_open sizes path used u))
+  call_read w used u f site p xs to n is a b c d tree goes pointer counted eb ec ed =
+      let at : ℕ = callee laid path site in
+      let x : Noted = all_arguments laid is_open sizes path p (function_at laid at).parameters true nothing
+      (as_rvalues xs) in
+      call_noted w is (is_pointer (given_by (result_type laid (function_at laid at)))) p at (count_of (as_rvalues xs)) n
+      used a b c d x pointer (count_of-length xs ∙ sym counted)
+      (eb ∙ ap (λ k. behind a (sequenced (all_arguments laid is_open sizes path p (function_at laid k).parameters true
+      nothing (as_rvalues xs)))) goes)
+      (ec ∙ ap (λ k. behind b (scoped (stores_and_body laid is_open sizes path k used n p))) goes) ed
+      ∙ ap (λ v. behind a (by_wanted w (walked laid is_open sizes path used v))) (sym tree)
+
+  -- ## Operators
+
+  operator_ended : (comparison : Bool) (w : Wanted) (p : Place) (x : Noted)
+      → behind x (operator_end comparison w p) ≡ by_wanted w (operated laid is_open sizes path comparison p x)
+  operator_ended true Wants.Value p x = refl
+  operator_ended true Wants.Bare p x = refl
+  operator_ended true Wants.Branch p x = refl
+  operator_ended false w p x =
+      sym (behind_behind x (one p Forms.Binary) (end_by w false p))
+      ∙ value_ended laid is_open sizes path w false p (behind x (one p Forms.Binary))
+
+  -- both operands with their edges, the conversions of both, and the operator
+  pub binary_noted : (comparison : Bool) (w : Wanted) (p pl pr : Place) (il ir : Bool) (a b c d f x : Noted)
+      → b ≡ behind a x → c ≡ behind b (one_if il pl Forms.Conversion)
+      → d ≡ behind c (one_if ir pr Forms.Conversion) → f ≡ behind d (operator_end comparison w p)
+      → f ≡ behind a (by_wanted w (operated laid is_open sizes path comparison p
+      (behind (behind x (one_if il pl Forms.Conversion)) (one_if ir pr Forms.Conversion))))
+  binary_noted comparison w p pl pr il ir a b c d f x eb ec ed ef =
+      let l = one_if il pl Forms.Conversion in
+      let r = one_if ir pr Forms.Conversion in
+      let z : Noted = behind (behind x l) r in
+      then_behind a d f z (operator_end comparison w p)
+      (then_behind a c d (behind x l) r (then_behind a b c x l eb ec) ed) ef
+      ∙ ap (behind a) (operator_ended comparison w p z)
+
+  equality_ended : (w : Wanted) (p : Place) (x : Noted)
+      → behind (behind x (behind (one p Forms.Usable) (one p Forms.Usable))) (equality_end w p)
+      ≡ by_wanted w (compared laid is_open sizes path p x)
+  equality_ended Wants.Value p x = refl
+  equality_ended Wants.Bare p x = refl
+  equality_ended Wants.Branch p x = refl
+
+  pub pointers_noted : (w : Wanted) (p : Place) (a b c x : Noted) → b ≡ behind a x
+      → c ≡ behind b (behind (behind (one p Forms.Usable) (one p Forms.Usable)) (equality_end w p))
+      → c ≡ behind a (by_wanted w (compared laid is_open sizes path p x))
+  pointers_noted w p a b c x e f =
+      let usable : Noted = behind (one p Forms.Usable) (one p Forms.Usable) in
+      then_behind a b c x (behind usable (equality_end w p)) e f
+      ∙ ap (behind a) (sym (behind_behind x usable (equality_end w p)) ∙ equality_ended w p x)
+
+  pub move_noted : (w : Wanted) (p : Place) (n m : ℕ) (a b c x : Noted) → n ≡ m → b ≡ behind a x
+      → c ≡ behind b (behind (one p (Forms.Move n)) (end_by w true p))
+      → c ≡ behind a (by_wanted w (valued laid is_open sizes path true p (behind x (one p (Forms.Move m)))))
+  move_noted w p n m a b c x same e f =
+      let g = f ∙ ap (λ k. behind b (behind (one p (Forms.Move k)) (end_by w true p))) same in
+      then_behind a b c x (behind (one p (Forms.Move m)) (end_by w true p)) e g
+      ∙ ap (behind a) (sym (behind_behind x (one p (Forms.Move m)) (end_by w true p))
+      ∙ value_ended laid is_open sizes path w true p (behind x (one p (Forms.Move m))))
+
+  -- ## What changes objects
+
+  -- the address, the value, a pointer that is passed, both with their edges, the store, and the end
+  pub assignment_noted : (w : Wanted) (is pointer : Bool) (p q : Place) (n : ℕ) (passed passes : Bool)
+      (first second : Span) (a b c d f g h x y : Noted) → is ≡ pointer → passed ≡ passes → n ≡ length a.pending
+      → b ≡ behind a x → c ≡ behind b y → d ≡ passing_if passed q c → first.first ≡ a.size → first.end ≡ b.size
+      → second.first ≡ b.size → second.end ≡ c.size → f ≡ operands_added p first second d
+      → g ≡ stored_from n p f → h ≡ behind g (end_by w is p)
+      → h ≡ behind a (by_wanted w (valued laid is_open sizes path pointer p
+      (stored p (both p x (passing_if passes q y)))))
+  assignment_noted w is pointer p q n passed passes first second a b c d f g h x y same other before eb ec ed e1 e2 e3
+      e4 ef eg eh =
+      let given : Noted = passing_if passes q y in
+      let dd : d ≡ passing_if passes q c = ed ∙ ap (λ k. passing_if k q c) other in
+      let end : second.end ≡ d.size = e4 ∙ sym (passing_size passes q c) ∙ ap (λ z. z.size) (sym dd) in
+      value_given w is pointer p a g h (stored p (both p x given)) same
+      (stored_noted n p a f g (both p x given) before
+      (both_noted p first second a b d f x given eb (passing_noted passes q b c d y ec dd) e1 e2 e3 end ef) eg) eh
+
+  -- conversions of both sides, the operator, and a conversion back
+  in_turn : (y k l m o : Noted)
+      → behind y (behind (behind (behind k l) m) o) ≡ behind (behind (behind (behind y k) l) m) o
+  in_turn y k l m o =
+      sym (behind_behind y (behind (behind k l) m) o)
+      ∙ ap (λ z. behind z o) (sym (behind_behind y (behind k l) m)
+      ∙ ap (λ z. behind z m) (sym (behind_behind y k l)))
+
+  pub change_noted : (p at behind_it : Place) (n : ℕ) (loaded operand back : Bool) (a b c x : Noted)
+      → n ≡ length a.pending → b ≡ behind a x
+      → c ≡ stored_from n p (behind b (change_end loaded at operand behind_it back p))
+      → c ≡ behind a (changed laid is_open sizes path loaded at operand behind_it back p x)
+  change_noted p at behind_it n loaded operand back a b c x before e f =
+      let l = one_if loaded at Forms.Conversion in
+      let r = one_if operand behind_it Forms.Conversion in
+      let o = one_if back p Forms.Conversion in
+      let end : Noted = change_end loaded at operand behind_it back p in
+      stored_noted n p a (behind b end) c (behind (behind (behind (behind x l) r) (one p Forms.Binary)) o) before
+      (then_behind a b (behind b end) x end e refl
+      ∙ ap (behind a) (in_turn x l r (one p Forms.Binary) o)) f
+
+  -- an operator with its operand is stored, and the end
+  pub compound_noted : (w : Wanted) (p at behind_it : Place) (n : ℕ) (loaded operand operates back : Bool)
+      (a b c d x : Noted) → operand ≡ operates → n ≡ length a.pending → b ≡ behind a x
+      → c ≡ stored_from n p (behind b (change_end loaded at operand behind_it back p))
+      → d ≡ behind c (end_by w false p)
+      → d ≡ behind a (by_wanted w (valued laid is_open sizes path false p
+      (changed laid is_open sizes path loaded at operates behind_it back p x)))
+  compound_noted w p at behind_it n loaded operand operates back a b c d x same before eb ec ed =
+      value_noted laid is_open sizes path w false p a c d
+      (changed laid is_open sizes path loaded at operates behind_it back p x)
+      (change_noted p at behind_it n loaded operates back a b c x before eb
+      (ec ∙ ap (λ k. stored_from n p (behind b (change_end loaded at k behind_it back p))) same)) ed
+
+  -- a pointer is moved and stored, and the end
+  pub moved_noted : (w : Wanted) (p : Place) (n k m : ℕ) (a b c d f x : Noted) → k ≡ m → n ≡ length a.pending
+      → b ≡ behind a x → c ≡ behind b (one p (Forms.Move k)) → d ≡ stored_from n p c
+      → f ≡ behind d (end_by w true p)
+      → f ≡ behind a (by_wanted w (valued laid is_open sizes path true p
+      (stored p (behind x (one p (Forms.Move m))))))
+  moved_noted w p n k m a b c d f x same before eb ec ed ef =
+      value_noted laid is_open sizes path w true p a d f (stored p (behind x (one p (Forms.Move m))))
+      (stored_noted n p a c d (behind x (one p (Forms.Move m))) before
+      (then_behind a b c x (one p (Forms.Move m)) eb (ec ∙ ap (λ i. behind b (one p (Forms.Move i))) same)) ed) ef
+
+-- ## Addresses
+
+-- two operands with their edges, and an edge
+pub element_noted : (p : Place) (f : Form) (first second : Span) (a b c d g x y : Noted) → b ≡ behind a x
+    → c ≡ behind b y → first.first ≡ a.size → first.end ≡ b.size → second.first ≡ b.size → second.end ≡ c.size
+    → d ≡ operands_added p first second c → g ≡ behind d (one p f) → g ≡ behind a (behind (both p x y) (one p f))
+element_noted p f first second a b c d g x y eb ec e1 e2 e3 e4 ed eg =
+    then_behind a d g (both p x y) (one p f) (both_noted p first second a b c d x y eb ec e1 e2 e3 e4 ed) eg
+
+-- the same with two edges
+pub subscript_noted : (p : Place) (f h : Form) (first second : Span) (a b c d g k x y : Noted) → b ≡ behind a x
+    → c ≡ behind b y → first.first ≡ a.size → first.end ≡ b.size → second.first ≡ b.size → second.end ≡ c.size
+    → d ≡ operands_added p first second c → g ≡ behind d (one p f) → k ≡ behind g (one p h)
+    → k ≡ behind a (behind (both p x y) (behind (one p f) (one p h)))
+subscript_noted p f h first second a b c d g k x y eb ec e1 e2 e3 e4 ed eg ek =
+    three_behind a d g k (both p x y) (one p f) (one p h)
+    (both_noted p first second a b c d x y eb ec e1 e2 e3 e4 ed) eg ek

@@ -1,0 +1,448 @@
+//! Expressions are walked.
+ghost use Rattle.std.specs.Prelude.{◌≡◌, ℕ, Bool, true, IfOk, OnOk, is_some, get_or};
+ghost use Rattle.tm_typed.specs.TypedTrees.{rvalue_tree};
+ghost use Rattle.tm_laid.specs.TypeCells.{entry_of};
+ghost use Rattle.tm_laid.specs.Layouts.{laid_tree};
+ghost use Rattle.tm_terms.specs.declared.places.Place.{Place as APlace};
+ghost use Rattle.body_builder.specs.concrete_steps.NextAction.{function_at};
+ghost use Rattle.body_builder.specs.concrete_steps.Places.{rvalue_place, result_type};
+ghost use Rattle.body_builder.specs.lowering.Table.{implied};
+ghost use Rattle.path_origins.specs.Types.{given, given_by, pointer_to};
+ghost use Rattle.path_origins.specs.Noted.{behind, one_if, scoped, skips};
+ghost use Rattle.path_origins.specs.Expressions.{walked};
+ghost use Rattle.path_origins.specs.Shown.{shown, sizes_in};
+ghost use Rattle.path_origins.specs.reading.Walks.{by_wanted, decided_by, IsBehind};
+ghost use Rattle.path_origins.specs.reading.Ends.{converted_end, against_before, stores, stores_and_body, life_from};
+ghost use Rattle.path_origins.specs.reading.Reading.{IsGiven, IsRead, IsTested, AreRead};
+ghost use Rattle.path_origins.specs.Opens.{is_among};
+
+use crate::addresses::walk_address;
+use crate::lookups::{
+    callee, function_on, is_conversion, is_implied, is_pointer_scalar, is_same_place, object_of,
+    result_type, rvalue_place, type_at,
+};
+use crate::notes::{
+    end_scopes, note, note_body, note_conversion, note_end, note_fork_end, note_life,
+    note_operands, note_passing, note_skips, sequence, since,
+};
+use crate::operators::walk_operator;
+use crate::origins::{Form, Life, Notes, Span};
+use crate::types::{Given, given_by, held_by, object_place};
+use crate::walks::{Here, Wanted};
+use body_builder::more;
+use tm_laid::Laid;
+use tm_lattice::NoMemory;
+use tm_terms::Place;
+use tm_typed::{CType, ObjectNumber, Qualified, Rvalue};
+
+/// An expression, for its value or as a branch; and what it gives. Whether its value is used counts for calls alone.
+pub(crate) fn walk_value(
+    here: &Here<'_>,
+    to: &mut Notes,
+    rvalue: &Rvalue,
+    wanted: Wanted,
+    used: bool,
+) -> Result<Given, NoMemory>
+    ensures noted { IfOk result (λ g. IsBehind to.old to.new (by_wanted wanted
+        (walked (laid_tree here.now.laid.now) (is_among here.now.opens.now) (sizes_in here.now.sizes.now) here.now.path
+        used (rvalue_tree rvalue.now)))) }
+    ensures given { IfOk result (λ g. g ≡ given (laid_tree here.now.laid.now) (is_among here.now.opens.now)
+        here.now.path (rvalue_tree rvalue.now)) }
+{
+    walk_rvalue(here, to, rvalue, wanted, used)
+}
+
+/// The same, within the walk.
+#[cycle(walk)]
+pub(crate) fn walk_rvalue(
+    here: &Here<'_>,
+    to: &mut Notes,
+    rvalue: &Rvalue,
+    wanted: Wanted,
+    used: bool,
+) -> Result<Given, NoMemory>
+    ensures noted { IfOk result (λ g. IsRead here.now.laid.now here.now.opens.now here.now.sizes.now
+        here.now.path wanted used rvalue.now to.old to.new) }
+    ensures given { IfOk result (λ g. IsGiven here.now.laid.now here.now.opens.now here.now.path rvalue.now
+        g) }
+{
+    match rvalue {
+        Rvalue::Constant { place, .. } => {
+            note(to, *place, Form::Constant)?;
+            note_end(to, wanted, false, *place)?;
+            Ok(Given::Number)
+        }
+        Rvalue::Folded { form, .. } => match wanted {
+            Wanted::Branch => {
+                let _given = walk_rvalue(here, to, form, Wanted::Branch, true)?;
+                Ok(Given::Number)
+            }
+            Wanted::Value | Wanted::Bare => {
+                note(to, rvalue_place(form), Form::Constant)?;
+                Ok(Given::Number)
+            }
+        },
+        Rvalue::Null { place } => {
+            note(to, *place, Form::Constant)?;
+            note_end(to, wanted, true, *place)?;
+            Ok(Given::Null)
+        }
+        Rvalue::Load { scalar, lvalue, .. } => {
+            let place = lvalue.place();
+            let of = walk_address(here, to, lvalue)?;
+            note(to, place, Form::Load)?;
+            note_end(to, wanted, is_pointer_scalar(*scalar), place)?;
+            Ok(held_by(here.laid, *scalar, of))
+        }
+        Rvalue::Address { lvalue, place } => {
+            let is_bare = is_same_place(*place, lvalue.place());
+            let of = walk_address(here, to, lvalue)?;
+            note_end(to, wanted, true, *place)?;
+            Ok(pointer_to(here.laid, is_bare, of))
+        }
+        Rvalue::Structure { lvalue } => {
+            let place = lvalue.place();
+            let _of = walk_address(here, to, lvalue)?;
+            note_end(to, wanted, false, place)?;
+            Ok(Given::Nothing)
+        }
+        Rvalue::Same { value, place } => {
+            let given = walk_rvalue(here, to, value, Wanted::Value, true)?;
+            note_end(to, wanted, given.is_pointer(), *place)?;
+            Ok(given.cast_if(here.opens.has(*place)))
+        }
+        Rvalue::Call {
+            site,
+            arguments,
+            place,
+            ..
+        } => {
+            let path = callee(here.laid, here.path, *site);
+            walk_arguments(here, to, path, arguments, *place)?;
+            note_call(here, to, path, arguments.len(), *place, used)?;
+            let given = given_of_call(here.laid, path);
+            note_end(to, wanted, given.is_pointer(), *place)?;
+            Ok(given)
+        }
+        Rvalue::Input { place, .. } => {
+            note(to, *place, Form::Any)?;
+            note_end(to, wanted, false, *place)?;
+            Ok(Given::Number)
+        }
+        Rvalue::Probe { place, .. } => {
+            note(to, *place, Form::Probe)?;
+            note_end(to, wanted, false, *place)?;
+            Ok(Given::Number)
+        }
+        Rvalue::Comma { left, right, place } => {
+            let pending = to.pending.len();
+            let _first = walk_rvalue(here, to, left, Wanted::Value, false)?;
+            sequence(to, pending);
+            let given = walk_rvalue(here, to, right, Wanted::Value, used)?;
+            note_end(to, wanted, given.is_pointer(), *place)?;
+            Ok(given)
+        }
+        Rvalue::Convert {
+            from,
+            to: of,
+            value,
+            place,
+        } => {
+            let is_same = is_same_place(*place, rvalue_place(value));
+            let _given = walk_rvalue(here, to, value, Wanted::Value, true)?;
+            conversion_ends(to, wanted, is_same, *place, is_conversion(*from, *of))?;
+            Ok(Given::Number)
+        }
+        Rvalue::Discard { value, place } => {
+            let _given = walk_rvalue(here, to, value, Wanted::Value, false)?;
+            note_end(to, wanted, false, *place)?;
+            Ok(Given::Nothing)
+        }
+        Rvalue::Not { value, place } => {
+            let _given = walk_rvalue(here, to, value, Wanted::Branch, true)?;
+            note_fork_end(to, wanted, *place)?;
+            Ok(Given::Number)
+        }
+        Rvalue::And { left, right, place } => {
+            walk_tested(here, to, left)?;
+            let _second = walk_rvalue(here, to, right, Wanted::Branch, true)?;
+            note_both_end(to, wanted, *place)?;
+            Ok(Given::Number)
+        }
+        Rvalue::Or { left, right, place } => {
+            walk_tested(here, to, left)?;
+            let _second = walk_rvalue(here, to, right, Wanted::Branch, true)?;
+            note_both_end(to, wanted, *place)?;
+            Ok(Given::Number)
+        }
+        Rvalue::Conditional {
+            condition,
+            first,
+            second,
+            place,
+        } => {
+            let pending = to.pending.len();
+            let _given = walk_rvalue(here, to, condition, Wanted::Branch, true)?;
+            sequence(to, pending);
+            let one = walk_rvalue(here, to, first, Wanted::Value, used)?;
+            note_copy(to, one.has_value(), *place)?;
+            let other = walk_rvalue(here, to, second, Wanted::Value, used)?;
+            note_copy(to, one.has_value(), *place)?;
+            note_skips(to, *place, 2)?;
+            note_end(to, wanted, one.is_pointer(), *place)?;
+            Ok(one.or(other))
+        }
+        _ => walk_operator(here, to, rvalue, wanted, used),
+    }
+}
+
+// A condition, and the sequence point behind it (C99 6.5.13p4, 6.5.14p4).
+#[cycle(walk)]
+fn walk_tested(here: &Here<'_>, to: &mut Notes, rvalue: &Rvalue) -> Result<(), NoMemory>
+    ensures { OnOk result (IsTested here.now.laid.now here.now.opens.now here.now.sizes.now here.now.path rvalue.now
+        to.old to.new) }
+{
+    let pending = to.pending.len();
+    let _given = walk_rvalue(here, to, rvalue, Wanted::Branch, true)?;
+    sequence(to, pending);
+    Ok(())
+}
+
+// The end of `&&` or `||`, where its ways meet.
+fn note_both_end(to: &mut Notes, wanted: Wanted, place: Place) -> Result<(), NoMemory>
+    ensures { OnOk result (IsBehind to.old to.new (behind (skips place 2) (decided_by wanted place))) }
+{
+    note_skips(to, place, 2)?;
+    note_fork_end(to, wanted, place)?;
+    Ok(())
+}
+
+// One part of a choice is copied, where it has a value.
+fn note_copy(to: &mut Notes, has: bool, place: Place) -> Result<(), NoMemory>
+    ensures { OnOk result (IsBehind to.old to.new (one_if has place Form.Copy)) }
+{
+    if has {
+        note(to, place, Form::Copy)?;
+    }
+    Ok(())
+}
+
+// A conversion, which an operator makes itself where it stands at the place of its operand.
+fn conversion_ends(
+    to: &mut Notes,
+    wanted: Wanted,
+    is_same: bool,
+    place: Place,
+    is: bool,
+) -> Result<(), NoMemory>
+    ensures { OnOk result (IsBehind to.old to.new (converted_end wanted is_same place is)) }
+{
+    match wanted {
+        Wanted::Bare => {
+            if is_same {
+                return Ok(());
+            }
+            note_conversion(to, place, is)
+        }
+        Wanted::Value | Wanted::Branch => {
+            note_conversion(to, place, is)?;
+            note_end(to, wanted, false, place)
+        }
+    }
+}
+
+/// What is walked of an operand: what it gives, and its edges.
+#[derive(Clone, Copy)]
+pub(crate) struct Walked {
+    pub(crate) given: Given,
+    pub(crate) edges: Span,
+}
+
+/// An operand.
+#[cycle(walk)]
+pub(crate) fn walk_part(
+    here: &Here<'_>,
+    to: &mut Notes,
+    rvalue: &Rvalue,
+    wanted: Wanted,
+) -> Result<Walked, NoMemory>
+    ensures noted { IfOk result (λ w. IsRead here.now.laid.now here.now.opens.now here.now.sizes.now
+        here.now.path wanted true rvalue.now to.old to.new) }
+    ensures given { IfOk result (λ w. IsGiven here.now.laid.now here.now.opens.now here.now.path rvalue.now
+        w.given) }
+    ensures edges { IfOk result (λ w. (w.edges.first ≡ to.old.size) × (w.edges.end ≡ to.new.size)) }
+{
+    let first = to.size;
+    let given = walk_rvalue(here, to, rvalue, wanted, true)?;
+    Ok(Walked {
+        given,
+        edges: since(to, first),
+    })
+}
+
+/// The implied conversion of an operand.
+pub(crate) fn note_implied(to: &mut Notes, value: &Rvalue) -> Result<(), NoMemory>
+    ensures { OnOk result (IsBehind to.old to.new (one_if (is_some (implied (rvalue_tree value.now)))
+        (rvalue_place (rvalue_tree value.now)) Form.Conversion)) }
+{
+    note_conversion(to, rvalue_place(value), is_implied(value))
+}
+
+// The pointer to an lvalue; or to the first element of an array, where no `&` stands (C99 6.3.2.1p3).
+fn pointer_to(laid: &Laid, is_bare: bool, of: Qualified) -> Given
+    ensures { (o : APlace → Bool) (p : ℕ)
+        → result ≡ pointer_to (laid_tree laid.now) o p is_bare (entry_of (laid_tree laid.now).file of.number).ctype of }
+{
+    match type_at(laid, of.number) {
+        CType::Array { element, .. } => {
+            if is_bare {
+                return Given::Pointer(Qualified {
+                    number: element,
+                    constant: of.constant,
+                    volatile: of.volatile,
+                });
+            }
+            Given::Pointer(of)
+        }
+        CType::Void | CType::Int(_) | CType::Pointer(_) | CType::Struct(_) => Given::Pointer(of),
+    }
+}
+
+// ## Calls
+
+// What the call of a path gives.
+fn given_of_call(laid: &Laid, path: u32) -> Given
+    ensures { result ≡ given_by (result_type (laid_tree laid.now) (function_at (laid_tree laid.now) path)) }
+{
+    given_by(result_type(laid, path))
+}
+
+// The number of the type of a parameter of the function of a path.
+#[tactic(auto, using(body_builder::proofs::FileTables::reads))]
+fn parameter_number(laid: &Laid, path: u32, number: usize) -> u32
+    ensures { result ≡ get_or (function_at (laid_tree laid.now) path).parameters number 0 }
+{
+    match laid.file.functions.get(function_on(laid, path) as usize) {
+        Some(function) => match function.parameters.get(number) {
+            Some(of) => *of,
+            None => 0,
+        },
+        None => 0,
+    }
+}
+
+// The type of a parameter of the function of a path.
+fn parameter_type(laid: &Laid, path: u32, number: usize) -> CType
+    ensures { result ≡ (entry_of (laid_tree laid.now).file
+        (get_or (function_at (laid_tree laid.now) path).parameters number 0)).ctype }
+{
+    type_at(laid, parameter_number(laid, path, number))
+}
+
+// How many edges the body of a path has.
+fn size_of(sizes: &[u32], path: u32) -> u32
+    ensures { result ≡ sizes_in sizes.now path }
+{
+    match sizes.get(path as usize) {
+        Some(size) => *size,
+        None => 0,
+    }
+}
+
+// An argument that is not the first one stands against those before it.
+fn note_argument(
+    to: &mut Notes,
+    place: Place,
+    number: usize,
+    before: Span,
+    edges: Span,
+) -> Result<(), NoMemory>
+    ensures { OnOk result (shown to.new ≡ against_before number place before edges (shown to.old)) }
+{
+    if number == 0 {
+        return Ok(());
+    }
+    note_operands(to, place, before, edges)
+}
+
+// The arguments of a call (C99 6.5.2.2p10): each stands against those before it, and a sequence point behind all.
+#[cycle(walk)]
+fn walk_arguments(
+    here: &Here<'_>,
+    to: &mut Notes,
+    path: u32,
+    arguments: &[Rvalue],
+    place: Place,
+) -> Result<(), NoMemory>
+    ensures { OnOk result (AreRead here.now.laid.now here.now.opens.now here.now.sizes.now here.now.path path
+        arguments.now place to.old to.new) }
+{
+    let pending = to.pending.len();
+    let first = to.size;
+    for number in 0..arguments.len() {
+        let argument = &arguments[number];
+        let before = since(to, first);
+        let walked = walk_part(here, to, argument, Wanted::Value)?;
+        let ctype = parameter_type(here.laid, path, number);
+        note_passing(to, rvalue_place(argument), walked.given, ctype)?;
+        note_argument(to, place, number, before, walked.edges)?;
+    }
+    sequence(to, pending);
+    Ok(())
+}
+
+// The life of a parameter, which begins with the store of its argument. Its scope ends later.
+fn life_of(laid: &Laid, path: u32, number: u32, first: u32, begins: u32) -> Result<Life, NoMemory>
+    ensures { IfOk result (λ l. l ≡ life_from (laid_tree laid.now) path number first begins) }
+{
+    let object = object_of(laid, path, ObjectNumber::Local(number))?;
+    Ok(Life {
+        object,
+        place: object_place(laid, object),
+        begins,
+        scope: Span { first, end: first },
+        initialiser: None,
+    })
+}
+
+// So many arguments are stored to the parameters of a path, which live from then on.
+fn note_stores(
+    here: &Here<'_>,
+    to: &mut Notes,
+    path: u32,
+    count: usize,
+    place: Place,
+) -> Result<(), NoMemory>
+    ensures { OnOk result (IsBehind to.old to.new (stores (laid_tree here.now.laid.now) (is_among here.now.opens.now)
+        (sizes_in here.now.sizes.now) here.now.path path count place)) }
+{
+    let first = to.size;
+    let mut number = 0;
+    for _index in 0..count {
+        note(to, place, Form::Base)?;
+        let begins = to.size;
+        note(to, place, Form::Store)?;
+        note_life(to, life_of(here.laid, path, number, first, begins)?)?;
+        number = more(number, 1)?;
+    }
+    Ok(())
+}
+
+// The stores of so many arguments, and the body of a path, to whose end the parameters live (C99 6.2.4p5).
+fn note_call(
+    here: &Here<'_>,
+    to: &mut Notes,
+    path: u32,
+    count: usize,
+    place: Place,
+    used: bool,
+) -> Result<(), NoMemory>
+    ensures { OnOk result (IsBehind to.old to.new (scoped (stores_and_body (laid_tree here.now.laid.now)
+        (is_among here.now.opens.now) (sizes_in here.now.sizes.now) here.now.path path used count place))) }
+{
+    let outer = to.unended.len();
+    note_stores(here, to, path, count, place)?;
+    note_body(to, path, size_of(here.sizes, path), used)?;
+    end_scopes(to, outer)?;
+    Ok(())
+}

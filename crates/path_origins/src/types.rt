@@ -1,0 +1,233 @@
+//! The types of expressions, bottom-up from those of declarations.
+ghost use Rattle.std.specs.Prelude.{◌≡◌, ℕ, Bool, IfOk};
+ghost use Rattle.tm_terms.specs.declared.places.Place.{Place as APlace};
+ghost use Rattle.tm_laid.specs.TypeCells.{entry_of};
+ghost use Rattle.tm_laid.specs.Layouts.{laid_tree, object_at};
+ghost use Rattle.path_origins.specs.Types.{given_by, followed, target_or, chosen, cast_if, differs, has_value, is_pointer};
+ghost use Rattle.path_origins.specs.Types.{plain, pointer_as, held_by, element_of, member_at, object_type};
+ghost use Rattle.path_origins.specs.Expressions.{pointed_by};
+
+use crate::lookups::{NOWHERE, object_of, type_at};
+use source_names::{Down, Inside, step_down};
+use tm_laid::Laid;
+use tm_lattice::NoMemory;
+use tm_terms::Place;
+use tm_typed::{CType, ObjectNumber, Qualified, Scalar};
+
+/// What an expression gives.
+#[derive(Clone, Copy)]
+pub(crate) enum Given {
+    Nothing,
+    Number,
+    /// The null constant.
+    Null,
+    /// A pointer to this type.
+    Pointer(Qualified),
+    /// A pointer by a cast, to this type but for `const`.
+    Cast(Qualified),
+}
+
+impl Given {
+    /// Whether there is a value.
+    pub(crate) fn has_value(self) -> bool
+        ensures { result ≡ has_value self }
+    {
+        match self {
+            Given::Nothing => false,
+            Given::Number | Given::Null | Given::Pointer(_) | Given::Cast(_) => true,
+        }
+    }
+
+    /// Whether it is a pointer.
+    pub(crate) fn is_pointer(self) -> bool
+        ensures { result ≡ is_pointer self }
+    {
+        match self {
+            Given::Nothing | Given::Number => false,
+            Given::Null | Given::Pointer(_) | Given::Cast(_) => true,
+        }
+    }
+
+    /// The number of the type to which it points, or else another one.
+    pub(crate) fn target_or(self, other: u32) -> u32
+        ensures { result ≡ target_or self other }
+    {
+        match self {
+            Given::Nothing | Given::Number | Given::Null => other,
+            Given::Pointer(of) => of.number,
+            Given::Cast(of) => of.number,
+        }
+    }
+
+    /// What the pointer leads to: of the type with this number, where the pointer does not tell.
+    pub(crate) fn followed(self, number: u32) -> Qualified
+        ensures { result ≡ followed self number }
+    {
+        match self {
+            Given::Pointer(of) => of,
+            Given::Nothing | Given::Number | Given::Null | Given::Cast(_) => plain(number),
+        }
+    }
+
+    /// What `?:` gives of this and another value (C99 6.5.15p6): a pointer to what has the qualifiers of both.
+    pub(crate) fn or(self, other: Given) -> Given
+        ensures { result ≡ chosen self other }
+    {
+        match (self, other) {
+            (Given::Null, _) => other,
+            (Given::Pointer(one), Given::Pointer(second)) => Given::Pointer(one.qualified_as(
+                second,
+            )),
+            (Given::Pointer(one), Given::Cast(_)) => Given::Cast(one),
+            _ => self,
+        }
+    }
+
+    /// The same, if it is by a cast.
+    pub(crate) fn cast_if(self, is_cast: bool) -> Given
+        ensures { result ≡ cast_if is_cast self }
+    {
+        match self {
+            Given::Pointer(of) => { if is_cast { Given::Cast(of) } else { self } }
+            Given::Nothing | Given::Number | Given::Null | Given::Cast(_) => self,
+        }
+    }
+
+    /// Whether a type is that of pointers to another type: one without `const`, or one that differs below. A cast may
+    /// give anything.
+    pub(crate) fn differs(self, other: CType) -> bool
+        ensures { result ≡ differs self other }
+    {
+        match (self, other) {
+            (Given::Pointer(from), CType::Pointer(to)) => {
+                (from.constant && !to.constant) || from.number != to.number
+            }
+            _ => false,
+        }
+    }
+}
+
+// The type with this number, without qualifiers.
+fn plain(number: u32) -> Qualified
+    ensures { result ≡ plain number }
+{
+    Qualified {
+        number,
+        constant: false,
+        volatile: false,
+    }
+}
+
+/// What a value of a type gives.
+pub(crate) fn given_by(ctype: CType) -> Given
+    ensures { result ≡ given_by ctype }
+{
+    match ctype {
+        CType::Int(_) => Given::Number,
+        CType::Pointer(of) => Given::Pointer(of),
+        CType::Void | CType::Array { .. } | CType::Struct(_) => Given::Nothing,
+    }
+}
+
+/// What a cell gives: of its declared type where that tells more than its scalar.
+pub(crate) fn held_by(laid: &Laid, scalar: Scalar, of: Qualified) -> Given
+    ensures { (o : APlace → Bool) (p : ℕ) → result ≡ held_by (laid_tree laid.now) o p scalar of }
+{
+    match scalar {
+        Scalar::Int(_) => Given::Number,
+        Scalar::Pointer(class) => match type_at(laid, of.number) {
+            CType::Pointer(target) => Given::Pointer(target),
+            CType::Void | CType::Int(_) | CType::Array { .. } | CType::Struct(_) => {
+                cast_to(type_at(laid, class))
+            }
+        },
+    }
+}
+
+// A cast to a type of pointers.
+fn cast_to(class: CType) -> Given
+    ensures { result ≡ pointer_as class }
+{
+    match class {
+        CType::Pointer(of) => Given::Cast(plain(of.number)),
+        CType::Void | CType::Int(_) | CType::Array { .. } | CType::Struct(_) => {
+            Given::Cast(plain(0))
+        }
+    }
+}
+
+/// An element of an array; the same where it is none.
+pub(crate) fn element_of(laid: &Laid, of: Qualified) -> Qualified
+    ensures { (o : APlace → Bool) (p : ℕ) → result ≡ element_of (laid_tree laid.now) o p of }
+{
+    match type_at(laid, of.number) {
+        CType::Array { element, .. } => Qualified {
+            number: element,
+            constant: of.constant,
+            volatile: of.volatile,
+        },
+        CType::Void | CType::Int(_) | CType::Pointer(_) | CType::Struct(_) => of,
+    }
+}
+
+/// The member of a structure in which a cell stands, with the qualifiers of both (C99 6.5.2.3p3).
+pub(crate) fn member_at(laid: &Laid, of: Qualified, cell: u32) -> Qualified
+    ensures { (o : APlace → Bool) (p : ℕ) → result ≡ member_at (laid_tree laid.now) o p of cell }
+{
+    match step_down(&laid.file, Inside { of, cell }) {
+        Some(Down::Element { inside, .. }) => inside.of,
+        Some(Down::Member { inside, .. }) => inside.of,
+        None => plain(0),
+    }
+}
+
+/// The type of an object.
+pub(crate) fn type_of_object(laid: &Laid, object: u32) -> Qualified
+    ensures { result ≡ (object_at (laid_tree laid.now) object).of }
+{
+    match laid.objects.get(object as usize) {
+        Some(found) => found.of,
+        None => plain(0),
+    }
+}
+
+/// The place of the name of an object.
+pub(crate) fn object_place(laid: &Laid, object: u32) -> Place
+    ensures { result ≡ (object_at (laid_tree laid.now) object).place }
+{
+    match laid.objects.get(object as usize) {
+        Some(found) => found.place,
+        None => NOWHERE,
+    }
+}
+
+/// How many cells an object has.
+pub(crate) fn object_cells(laid: &Laid, object: u32) -> u32
+    ensures { result ≡ (object_at (laid_tree laid.now) object).cells }
+{
+    match laid.objects.get(object as usize) {
+        Some(found) => found.cells,
+        None => 0,
+    }
+}
+
+/// The type of an object that a number stands for on a path.
+pub(crate) fn object_type(
+    laid: &Laid,
+    path: u32,
+    object: ObjectNumber,
+) -> Result<Qualified, NoMemory>
+    ensures { IfOk result (λ q. (o : APlace → Bool) → q ≡ object_type (laid_tree laid.now) o path object) }
+{
+    Ok(type_of_object(laid, object_of(laid, path, object)?))
+}
+
+/// The type to which the pointers of a class point.
+pub(crate) fn class_target(laid: &Laid, class: u32) -> u32
+    ensures { result ≡ pointed_by (entry_of (laid_tree laid.now).file class).ctype }
+{
+    match type_at(laid, class) {
+        CType::Pointer(of) => of.number,
+        CType::Void | CType::Int(_) | CType::Array { .. } | CType::Struct(_) => 0,
+    }
+}
