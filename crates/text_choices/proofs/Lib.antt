@@ -1,0 +1,10 @@
+pub mod Additions
+pub mod TokenLemmas
+pub mod PragmaLemmas
+pub mod Holding
+pub mod Named
+pub mod Listed
+pub mod DeclaredLemmas
+pub mod TableLemmas
+pub mod Scalars
+pub mod AllLemmas
