@@ -1,0 +1,29 @@
+use Rattle.std.proofs.Common.{◌≤◌, length, get_or, subst, arith}
+use Rattle.std.proofs.lemmas.List.{get_or_default}
+use Rattle.path_origins.specs.declared.origins.Passing.{Passing}
+use Rattle.open_choices.specs.reading.Found.{IsPassed}
+use Rattle.text_choices.specs.Choices.{Adds}
+use Rattle.open_choices.specs.reading.Found.{IsOfSome}
+use Rattle.open_choices.proofs.ChoiceLists.{added_some, added_whole}
+use Rattle.open_choices.proofs.constants.add_passings.Goals as goal
+
+abbrev nothing : Passing
+nothing = record { place = record { line = 0; col = 0 } }
+
+pub loop-passing-preserved : goal.loop-passing-preserved
+loop-passing-preserved c =
+    let xs = c.deref-passing-items.result.now in
+    let i = c.loop-passing.passing-index in
+    let x = get_or xs i nothing in
+    added_some IsPassed xs c.args.choices.now.items c.loop-passing.choices.items
+    c.add_if.new.choices.items i x c.loop-passing-test.true (get_or_default xs i nothing x c.loop-passing-test.true)
+    c.loop-passing.invariant c.in_ok-add_if.ensures
+
+pub returns : goal.returns
+returns c =
+    let xs = c.deref-passing-items.result.now in
+    let i = c.loop-passing.passing-index in
+    let end : length xs ≤ i = omega arith in
+    subst (λ ys. Adds c.args.choices.now.items c.loop-passing.choices.items (IsOfSome IsPassed ys))
+    c.deref-passing-items.ensures.value
+    (added_whole IsPassed xs c.args.choices.now.items c.loop-passing.choices.items i end c.loop-passing.invariant)

@@ -1,0 +1,11 @@
+use Rattle.std.proofs.Common.{◌≡◌, ℕ, ◌<◌, length, get_or, false}
+use Rattle.tm_laid.specs.Layouts.{laid_tree}
+use Rattle.part_extents.specs.Parts.{is_constant, inside_of}
+use Rattle.open_choices.proofs.constants.constant_cells.Given as goal
+
+abbrev pub invariant-loop-cell : goal.invariant-loop-cell
+invariant-loop-cell l = record {
+  count : length l.marks.items ≡ l.cell-index;
+  each : (k : ℕ) → k < l.cell-index
+      → get_or l.marks.items k false ≡ is_constant (laid_tree l.laid) (inside_of (laid_tree l.laid) k);
+}

@@ -1,0 +1,6 @@
+-- What is looked for at an edge (Looks), what is found where (Found), what is left over (Left), and bodies of which
+-- something is noted (Noted).
+pub mod Looks
+pub mod Found
+pub mod Left
+pub mod Noted

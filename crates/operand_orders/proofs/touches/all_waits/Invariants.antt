@@ -1,0 +1,7 @@
+use Rattle.operand_orders.specs.reading.Touches.{WaitsAt}
+use Rattle.operand_orders.specs.reading.Views.{solved}
+use Rattle.operand_orders.proofs.Touching.{AreMarkedBelow}
+use Rattle.operand_orders.proofs.touches.all_waits.Given as goal
+
+abbrev pub invariant-loop-edge : goal.invariant-loop-edge
+invariant-loop-edge l = AreMarkedBelow (WaitsAt (solved l.view)) l.edge l.marks.items
