@@ -1,9 +1,10 @@
-//! The program `alarm_notes [large] report|rings|races|alarms|causes|notes|parts < SOURCE`: it analyses standard input,
-//! writes the report as JSON or notes to standard output, on the rings in which tasks may come to wait for each other,
-//! on the races by object, on what the other alarms stand on, advice on where their values come from, or on all of it
-//! as one line of JSON or as texts that can be cut out again, and ends with the number of the status. Behind the word
-//! `large` it takes sources of the large scale. With other words it ends with the status of words that are no command,
-//! and where the system does not give it its words, with status 7.
+//! The program `alarm_notes [large] report|rings|races|alarms|causes|notes|assumptions|parts < SOURCE`: it analyses
+//! standard input, writes the report as JSON or notes to standard output, on the rings in which tasks may come to wait
+//! for each other, on the races by object, on what the other alarms stand on, advice on where their values come from,
+//! on the places whose meaning in a compiled program depends on a choice that C99 leaves open, or on all of it as one
+//! line of JSON or as texts that can be cut out again, and ends with the number of the status. Behind the word `large`
+//! it takes sources of the large scale. With other words it ends with the status of words that are no command, and
+//! where the system does not give it its words, with status 7.
 #![tactic(auto)]
 
 use program_streams::Status;
@@ -19,7 +20,7 @@ const NO_WORDS: u8 = 7;
 
 /// The line that says how the program is used.
 const USAGE: &str =
-    "usage: alarm_notes [large] report|rings|races|alarms|causes|notes|parts < SOURCE";
+    "usage: alarm_notes [large] report|rings|races|alarms|causes|notes|assumptions|parts < SOURCE";
 
 /// The status where the words cannot be had for this reason: memory may run out while they are copied.
 fn status_without_words(reason: ErrorKind) -> u8 {
@@ -48,6 +49,9 @@ fn note_of(word: &str) -> Option<Note> {
     }
     if word == "notes" {
         return Some(Note::Whole);
+    }
+    if word == "assumptions" {
+        return Some(Note::Assumptions);
     }
     if word == "parts" {
         return Some(Note::Parts);

@@ -6,8 +6,8 @@ mod OneStand
 mod Moves
 mod Behind
 mod Passing
-mod MetStates
-mod Coming
+pub mod MetStates
+pub mod Coming
 pub mod Told
 pub mod Always
 pub mod Locked

@@ -1,6 +1,6 @@
 -- What the code tells of the least solution of a source is what the source is answered on a scale; and answers come
 -- with a whole text, which sources that are too long have already where only a front of them is known.
-use Rattle.std.proofs.Common.{◌≡◌, ◌∙◌, sym, ap, subst, ℕ, ◌<◌, ◌≤◌, ◌^◌, List, [], ◌∷◌, ◌++◌, length, map, arith}
+use Rattle.std.proofs.Common.{◌≡◌, ◌∙◌, refl, sym, ap, subst, true, ℕ, ◌<◌, ◌≤◌, ◌^◌, List, [], ◌∷◌, ◌++◌, length, map, arith}
 use Rattle.std.proofs.Common.{length-append, Vec, Option}
 use Rattle.std.specs.declared.alloc.Global.{Global}
 use Rattle.tm_terms.specs.declared.refusals.Refusal.{Refusal}
@@ -58,14 +58,20 @@ use Rattle.program_notes.specs.Operations.{operation_of}
 use Rattle.note_lines.specs.declared.names.Names.{Names}
 use Rattle.source_notes.specs.declared.answers.Note.{Note}
 use Rattle.source_notes.specs.declared.answers.Note.TheVariants.{Report, Rings, Races, Alarms as Others, Causes}
-use Rattle.source_notes.specs.declared.answers.Note.TheVariants.{Whole, Parts}
+use Rattle.source_notes.specs.declared.answers.Note.TheVariants.{Whole, Assumptions, Parts}
 use Rattle.source_notes.specs.Notes.{rings_status, races_status, alarms_status, TellsRings, TellsRaces, TellsAlarms}
 use Rattle.source_notes.specs.Notes.{FindsRings, FindsRaces, FindsAlarms, FindsReport, FindsDetails, FindsCells}
 use Rattle.source_notes.specs.Notes.{Declares, TellsCauses, TellsNotes}
 use Rattle.source_notes.specs.Notes.{report_status, TellsReport, TellsParts, Tells, HasNotes}
 use Rattle.source_notes.specs.PartTexts.{Part}
 use Rattle.source_notes.specs.reading.Told.{TellsRingsOf, TellsRacesOf, TellsAlarmsOf, TellsCausesOf, TellsNotesOf}
-use Rattle.source_notes.specs.reading.PartsTold.{TellsReportOf, TellsPartsOf, TellsOf}
+use Rattle.source_notes.specs.reading.PartsTold.{TellsReportOf, TellsPartsOf, TellsOf, is_assuming}
+use Rattle.source_assumptions.specs.declared.replies.Opened.{Opened}
+use Rattle.source_assumptions.specs.Lists.{TellsAssumptions, HaveEdges, choices_status}
+use Rattle.source_assumptions.specs.reading.Told.{IsOpened, TellsAssumptionsOf}
+use Rattle.source_assumptions.proofs.Listed.{assumptions_found}
+use Rattle.text_choices.specs.declared.kinds.Choice.{Choice}
+use Rattle.flow_graph.specs.declared.graphs.Graph.{Graph}
 use Rattle.source_findings.proofs.Told.{waits_told, ranges_told}
 
 -- a part of which more is told
@@ -168,7 +174,8 @@ module _ (scale : Scale) (bytes : List ℕ) (p : ProgramBodies) (a : IsAcceptedO
   module _ (laid : LaidTree) (of : IsLaidSourceOn scale bytes laid) (names : Names) (are_tasks : names.tasks.items
       ≡ task_names laid) (are_priorities : names.priorities.items ≡ task_priorities laid) (are_mutexes
       : names.mutexes.items ≡ mutex_names laid) (are_objects : names.objects.items ≡ object_names laid)
-      (declared : Declared) (declares : Declares laid declared) where
+      (declared : Declared) (declares : Declares laid declared) (graphs : List Graph) (edges : HaveEdges p graphs)
+      (opened : Opened) where
     rings_told : (status : Status) (text : List ℕ)
         → TellsRingsOf p bytes names.tasks.items names.mutexes.items pair status text
         → TellsRings scale bytes status text
@@ -270,10 +277,20 @@ module _ (scale : Scale) (bytes : List ℕ) (p : ProgramBodies) (a : IsAcceptedO
       is = t.is;
     }
 
-    parts_told : (status : Status) (text : List ℕ) → TellsPartsOf p bytes names declared pair status text
-        → TellsParts scale bytes status text
+    assumptions_told : IsOpened bytes laid graphs opened → (status : Status) (text : List ℕ)
+        → TellsAssumptionsOf p opened.others.items opened.origins.items pair status text
+        → TellsAssumptions scale bytes status text
+    assumptions_told read status text t = record {
+      choices = t.choices;
+      finds = assumptions_found scale bytes p a few pair least laid of graphs edges opened read status text t;
+      comes = t.comes;
+      is = t.is;
+    }
+
+    parts_told : IsOpened bytes laid graphs opened → (status : Status) (text : List ℕ)
+        → TellsPartsOf p bytes names declared opened pair status text → TellsParts scale bytes status text
     unfolding of_part
-    parts_told status text t = record {
+    parts_told read status text t = record {
       report = of_part report_told t.report;
       waits = of_part (waits_told scale bytes p a few pair least) t.waits;
       ranges = of_part (ranges_told scale bytes p a few pair least) t.ranges;
@@ -282,6 +299,7 @@ module _ (scale : Scale) (bytes : List ℕ) (p : ProgramBodies) (a : IsAcceptedO
       alarms = of_part alarms_told t.alarms;
       causes = of_part causes_told t.causes;
       notes = of_part notes_told t.notes;
+      assumptions = of_part (assumptions_told read) t.assumptions;
       comes = t.comes;
       is = t.is;
     }
@@ -329,6 +347,13 @@ module _ (scale : Scale) (bytes : List ℕ) (p : ProgramBodies) (a : IsAcceptedO
     notes_by (alarm ∷ report) status text e t =
         subst (λ s. TellsNotes scale bytes s text → HasNotes scale Whole bytes s text) (sym e) (λ u. u) t
 
+    assumptions_by : (choices : List Choice) (status : Status) (text : List ℕ) → status ≡ choices_status choices
+        → TellsAssumptions scale bytes status text → HasNotes scale Assumptions bytes status text
+    assumptions_by [] status text e t =
+        subst (λ s. TellsAssumptions scale bytes s text → HasNotes scale Assumptions bytes s text) (sym e) (λ u. u) t
+    assumptions_by (choice ∷ choices) status text e t =
+        subst (λ s. TellsAssumptions scale bytes s text → HasNotes scale Assumptions bytes s text) (sym e) (λ u. u) t
+
     parts_by : (report : List Alarm) (status : Status) (text : List ℕ) → status ≡ report_status report
         → TellsParts scale bytes status text → HasNotes scale Parts bytes status text
     parts_by [] status text e t =
@@ -336,19 +361,21 @@ module _ (scale : Scale) (bytes : List ℕ) (p : ProgramBodies) (a : IsAcceptedO
     parts_by (alarm ∷ report) status text e t =
         subst (λ s. TellsParts scale bytes s text → HasNotes scale Parts bytes s text) (sym e) (λ u. u) t
 
-    pub told : (n : Note) (status : Status) (text : List ℕ) → TellsOf n p bytes names declared pair status text
-        → HasNotes scale n bytes status text
-    told Report status text t = report_by t.report status text t.comes (report_told status text t)
-    told Rings status text t = rings_by t.rings status text t.comes (rings_told status text t)
-    told Races status text t = races_by t.groups status text t.comes (races_told status text t)
-    told Others status text t = alarms_by t.alarms status text t.comes (alarms_told status text t)
-    told Causes status text t = causes_by t.alarms status text t.comes (causes_told status text t)
-    told Whole status text t =
+    pub told : (n : Note) → (is_assuming n ≡ true → IsOpened bytes laid graphs opened) → (status : Status)
+        (text : List ℕ) → TellsOf n p bytes names declared opened pair status text → HasNotes scale n bytes status text
+    told Report read status text t = report_by t.report status text t.comes (report_told status text t)
+    told Rings read status text t = rings_by t.rings status text t.comes (rings_told status text t)
+    told Races read status text t = races_by t.groups status text t.comes (races_told status text t)
+    told Others read status text t = alarms_by t.alarms status text t.comes (alarms_told status text t)
+    told Causes read status text t = causes_by t.alarms status text t.comes (causes_told status text t)
+    told Whole read status text t =
         let c = t.contents in let r = c.report in notes_by r.alarms.items status text t.comes (notes_told status text t)
-    told Parts status text t =
+    told Assumptions read status text t =
+        assumptions_by t.choices status text t.comes (assumptions_told (read refl) status text t)
+    told Parts read status text t =
         let q = t.report in
         let r = q.told in
-        parts_by r.report status text (t.comes ∙ r.comes) (parts_told status text t)
+        parts_by r.report status text (t.comes ∙ r.comes) (parts_told (read refl) status text t)
 
 -- ## Whole texts
 
@@ -389,6 +416,7 @@ solved_by scale Races bytes status text t = (let f = t.finds in f.solves)
 solved_by scale Others bytes status text t = (let f = t.finds in f.solves)
 solved_by scale Causes bytes status text t = (let f = t.finds in f.solves)
 solved_by scale Whole bytes status text t = (let f = t.finds in let r = f.report in r.solves)
+solved_by scale Assumptions bytes status text t = (let f = t.finds in f.solves)
 solved_by scale Parts bytes status text t = (let q = t.report in let r = q.told in let f = r.finds in f.solves)
 
 pub longer_notes : (scale : Scale) (n : Note) (bytes more : List ℕ) → longest_source < length bytes

@@ -1,7 +1,7 @@
 -- What is answered to a source on a scale: its report, the rings in which its tasks may come to wait for each other,
--- its races by object, its other alarms and what they stand on, advice on these, the whole notes on all alarms, or each
--- as a text of its own.
-use Rattle.std.specs.Prelude.{◌≡◌, ◌↔◌, ℕ, ℤ, List, [], ◌∷◌, ◌++◌, map, length, Contains, Option, codes}
+-- its races by object, its other alarms and what they stand on, advice on these, the whole notes on all alarms, the
+-- list of its assumptions, or each as a text of its own.
+use Rattle.std.specs.Prelude.{◌≡◌, ◌↔◌, ℕ, List, [], ◌∷◌, ◌++◌, map, length, Contains, Option, codes}
 use Rattle.std.specs.declared.vec.Vec.{Vec}
 use Rattle.std.specs.declared.alloc.Global.{Global}
 use Rattle.tm_cint.specs.declared.Class.{Class}
@@ -40,6 +40,7 @@ use Rattle.sound_notes.specs.Passes.{ListsOperands, EndsAlways, StopsThere}
 use Rattle.report_json.specs.JsonReports.{json_text}
 use Rattle.source_findings.specs.Findings.{SolvesOn, ListsRings, FindsRangesOn, TellsWaitsOn, TellsRangesOn}
 use Rattle.source_findings.specs.RefusalTexts.{refusal_text_on}
+use Rattle.source_assumptions.specs.Lists.{TellsAssumptions}
 use Rattle.program_notes.specs.Declarations.{runners_of, mutexes_of, objects_of}
 use Rattle.program_notes.specs.AlarmTexts.{other_alarms}
 use Rattle.program_notes.specs.NotesTexts.{notes_text}
@@ -56,7 +57,7 @@ use Rattle.source_notes.specs.PartTexts.{Part, shown}
 use Rattle.program_notes.specs.Operations.{operation_of}
 use Rattle.source_notes.specs.declared.answers.Note.{Note}
 use Rattle.source_notes.specs.declared.answers.Note.TheVariants.{Report, Rings, Races, Alarms as Others, Causes}
-use Rattle.source_notes.specs.declared.answers.Note.TheVariants.{Whole, Parts}
+use Rattle.source_notes.specs.declared.answers.Note.TheVariants.{Whole, Assumptions, Parts}
 
 -- ## Rings
 
@@ -231,9 +232,9 @@ pub record TellsReport (scale : Scale) (bytes : List ℕ) (status : Status) (tex
   pub comes : status ≡ report_status report
   pub is : text ≡ json_text report
 
--- The report as JSON, the waits, the ranges, the notes on rings, races and other alarms, the advice, and the whole
--- notes, each as it is answered alone, behind a line with its name, its status and its length; the status is that of
--- the report.
+-- The report as JSON, the waits, the ranges, the notes on rings, races and other alarms, the advice, the whole notes,
+-- and the list of assumptions, each as it is answered alone, behind a line with its name, its status and its length; the
+-- status is that of the report.
 pub record TellsParts (scale : Scale) (bytes : List ℕ) (status : Status) (text : List ℕ) : Type 0 where
   pub report : Part (TellsReport scale bytes)
   pub waits : Part (TellsWaitsOn scale bytes)
@@ -243,11 +244,12 @@ pub record TellsParts (scale : Scale) (bytes : List ℕ) (status : Status) (text
   pub alarms : Part (TellsAlarms scale bytes)
   pub causes : Part (TellsCauses scale bytes)
   pub notes : Part (TellsNotes scale bytes)
+  pub assumptions : Part (TellsAssumptions scale bytes)
   pub comes : status ≡ report.status
-  pub is : text ≡ ((((((shown (codes "report") report ++ shown (codes "waits") waits)
+  pub is : text ≡ (((((((shown (codes "report") report ++ shown (codes "waits") waits)
       ++ shown (codes "ranges") ranges) ++ shown (codes "rings") rings)
       ++ shown (codes "races") races) ++ shown (codes "alarms") alarms) ++ shown (codes "causes") causes)
-      ++ shown (codes "notes") notes
+      ++ shown (codes "notes") notes) ++ shown (codes "assumptions") assumptions
 
 -- ## All
 
@@ -258,6 +260,7 @@ Tells scale Races = TellsRaces scale
 Tells scale Others = TellsAlarms scale
 Tells scale Causes = TellsCauses scale
 Tells scale Whole = TellsNotes scale
+Tells scale Assumptions = TellsAssumptions scale
 Tells scale Parts = TellsParts scale
 
 -- The status and the text that these bytes are answered with.

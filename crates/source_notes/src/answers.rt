@@ -1,17 +1,24 @@
 //! The answer to the bytes of a source, on a scale.
-ghost use Rattle.std.specs.Prelude.{◌≡◌, IfOk};
+ghost use Rattle.std.specs.Prelude.{◌≡◌, ◌≤◌, true, length, IfOk};
+ghost use Rattle.tm_terms.specs.Limits.{limit_number};
+ghost use Rattle.tm_terms.specs.declared.refusals.Limit.TheVariants as Limits;
+ghost use Rattle.tm_laid.specs.tm_typed.TypedFiles.{typed_file_tree};
+ghost use Rattle.tm_laid.specs.Layable.{IsLayable};
+ghost use Rattle.tm_laid.specs.Layouts.{laid_tree};
 ghost use Rattle.program_solutions.specs.program_systems.ReadPrograms.{program_of};
 ghost use Rattle.program_solutions.specs.LeastReports.{IsLeastPair};
+ghost use Rattle.source_assumptions.specs.reading.Told.{IsOpened, TellsAssumptionsOf};
 ghost use Rattle.source_notes.specs.Notes.{HasNotes, rings_status, races_status, alarms_status, report_status};
 ghost use Rattle.source_notes.specs.reading.Told.{TellsRingsOf, TellsRacesOf, TellsAlarmsOf, TellsCausesOf};
 ghost use Rattle.source_notes.specs.reading.Told.{TellsNotesOf, AreContents};
-ghost use Rattle.source_notes.specs.reading.PartsTold.{TellsReportOf, TellsOf};
+ghost use Rattle.source_notes.specs.reading.PartsTold.{TellsReportOf, TellsOf, is_assuming};
 
 use crate::parts::parts_reply;
 use access_groups::{AccessGroup, groups};
 use access_partners::access_details;
 use alarm_causes::{advice_on_alarms, objects_named};
 use alarm_contexts::{AlarmContexts, alarm_contexts};
+use flow_graph::Graph;
 use lock_waits::rings;
 use note_details::report_details;
 use note_lines::{Names, alarms_text, causes_text, groups_text, names_of, rings_text};
@@ -21,10 +28,11 @@ use program_solutions::{Analysis, Solution, solution};
 use program_streams::Status;
 use report_json::report_json;
 use request_circles::Ring;
+use source_assumptions::{AssumptionReply, Opened, assumptions_reply, opened_of};
 use source_findings::refusal_line_on;
 use source_programs::source_program_on;
 use std::alloc::Global as Heap;
-use tm_laid::Scale;
+use tm_laid::{Laid, Scale};
 use tm_lattice::NoMemory;
 use tm_terms::{Alarm, Fail};
 use value_ranges::{cell_ranges, ranges_by_cells};
@@ -42,10 +50,13 @@ pub enum Note {
     Alarms,
     /// Advice on these alarms: where the values come from.
     Causes,
-    /// All of it but the rings and the advice, with ranges, dead places and details, as one line of JSON.
+    /// All of this but the rings and the advice, with ranges, dead places and details, as one line of JSON.
     Whole,
-    /// The report as JSON, the waits, the ranges, the notes on rings, races and other alarms, the advice and the whole
-    /// notes, each as it is answered alone, behind a line with its name, its status and its length in bytes.
+    /// The places whose meaning in a compiled program depends on a choice that C99 leaves open.
+    Assumptions,
+    /// The report as JSON, the waits, the ranges, the notes on rings, races and other alarms, the advice, the whole
+    /// notes and the assumptions, each as it is answered alone, behind a line with its name, its status and its length
+    /// in bytes.
     Parts,
 }
 
@@ -302,6 +313,57 @@ pub(crate) fn whole_reply(
     })
 }
 
+/// What a least solution tells of assumptions, where so much is read off the source.
+pub(crate) fn assumed_reply(
+    alloc: Heap,
+    opened: &Opened,
+    analysis: &Analysis,
+    found: &Solution,
+) -> Result<NoteReply, NoMemory>
+    requires { IsLeastPair (program_of analysis.now) found.now }
+    ensures { IfOk result (λ reply. TellsAssumptionsOf (program_of analysis.now) opened.now.others.items
+        opened.now.origins.items found.now reply.status reply.text.items) }
+{
+    let reply = assumptions_reply(alloc, opened, analysis, found)?;
+    let AssumptionReply { status, text } = reply;
+    Ok(NoteReply { status, text })
+}
+
+/// Whether assumptions are told.
+fn is_assuming(note: Note) -> bool
+    ensures { result ≡ is_assuming note }
+{
+    match note {
+        Note::Assumptions | Note::Parts => true,
+        Note::Report | Note::Rings | Note::Races | Note::Alarms | Note::Causes | Note::Whole => {
+            false
+        }
+    }
+}
+
+/// What is read off a source of this layout and these graphs, where assumptions are told.
+fn opened_for(
+    alloc: Heap,
+    note: Note,
+    bytes: &[u8],
+    laid: &Laid,
+    graphs: &[Graph],
+) -> Result<Opened, NoMemory>
+    requires short { length bytes.now ≤ limit_number Limits.Source }
+    requires layable { IsLayable (typed_file_tree laid.now.file) laid.now.file.order.items }
+    requires few { length laid.now.cells.items ≤ 65536 }
+    ensures { IfOk result (λ o. is_assuming note ≡ true → IsOpened bytes.now (laid_tree laid.now) graphs.now o) }
+{
+    if is_assuming(note) {
+        let opened = opened_of(alloc, bytes, laid, graphs)?;
+        return Ok(opened);
+    }
+    Ok(Opened {
+        others: Vec::new(alloc),
+        origins: Vec::new(alloc),
+    })
+}
+
 /// What a least solution tells.
 fn reply_of(
     alloc: Heap,
@@ -309,12 +371,13 @@ fn reply_of(
     bytes: &[u8],
     names: &Names,
     declared: &Declared,
+    opened: &Opened,
     analysis: &Analysis,
     found: &Solution,
 ) -> Result<NoteReply, NoMemory>
     requires { IsLeastPair (program_of analysis.now) found.now }
     ensures { IfOk result (λ reply. TellsOf note (program_of analysis.now) bytes.now names.now declared.now
-        found.now reply.status reply.text.items) }
+        opened.now found.now reply.status reply.text.items) }
 {
     match note {
         Note::Report => report_reply(alloc, analysis, found),
@@ -323,7 +386,8 @@ fn reply_of(
         Note::Alarms => alarms_reply(alloc, bytes, names, analysis, found),
         Note::Causes => causes_reply(alloc, bytes, names, analysis, found),
         Note::Whole => whole_reply(alloc, bytes, declared, analysis, found),
-        Note::Parts => parts_reply(alloc, bytes, names, declared, analysis, found),
+        Note::Assumptions => assumed_reply(alloc, opened, analysis, found),
+        Note::Parts => parts_reply(alloc, bytes, names, declared, opened, analysis, found),
     }
 }
 
@@ -336,9 +400,12 @@ pub fn notes_of(alloc: Heap, scale: Scale, note: Note, bytes: &[u8]) -> Result<N
         Ok(program) => {
             let names = names_of(alloc, &program.laid)?;
             let declared = declared_of(alloc, &program.laid)?;
+            let opened = opened_for(alloc, note, bytes, &program.laid, &program.graphs.graphs)?;
             let analysis = Analysis::new(alloc, program)?;
             let found = solution(alloc, &analysis)?;
-            reply_of(alloc, note, bytes, &names, &declared, &analysis, &found)
+            reply_of(
+                alloc, note, bytes, &names, &declared, &opened, &analysis, &found,
+            )
         }
         Err(Fail::Refused(refusal)) => {
             let text = refusal_line_on(alloc, scale, &refusal)?;

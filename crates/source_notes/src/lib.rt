@@ -3,9 +3,10 @@
 //! with what each task of it holds and asks for; or its races by object, with all accesses to each object that has one,
 //! the mutexes that are held there and those that were found free; or its other alarms, with the operation of each, the
 //! values that its operands may have there, and the tasks; or advice on these, where their values come from; or the
-//! whole report with the races and alarms, the bounds of objects and the dead places, as one line of JSON; or all of
-//! these as texts behind one another. How a solution is found, how rings, races, contexts and advice are read off it,
-//! and how they stand in lines and in JSON, the crates below know.
+//! places that depend on a choice which C99 leaves open; or the whole report with the races and alarms, the bounds of
+//! objects and the dead places, as one line of JSON; or all of these as texts behind one another. How a solution is
+//! found, how rings, races, contexts, advice and assumptions are read off it, and how they stand in lines and in JSON,
+//! the crates below know.
 //!
 //! Where one task `a` locks `m` and then `n`, at 3:34, and another one `b` `n` and then `m`, at 4:34, the notes on
 //! rings are `3:34 RING 2`, `3:34 a holds m asks n`, `4:34 b holds n asks m`, then `4:34 RING 2` with the same lines in

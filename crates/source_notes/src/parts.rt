@@ -3,19 +3,22 @@ ghost use Rattle.std.specs.Prelude.{◌≡◌, ◌++◌, IfOk, OnOk, codes};
 ghost use Rattle.program_solutions.specs.program_systems.ReadPrograms.{program_of};
 ghost use Rattle.program_solutions.specs.LeastReports.{IsLeastPair};
 ghost use Rattle.source_findings.specs.Tellings.{TellsOf as FindingTellsOf};
+ghost use Rattle.source_assumptions.specs.reading.Told.{TellsAssumptionsOf};
 ghost use Rattle.source_notes.specs.PartTexts.{part_text};
 ghost use Rattle.source_notes.specs.reading.Told.{TellsRingsOf, TellsRacesOf, TellsAlarmsOf};
 ghost use Rattle.source_notes.specs.reading.Told.{TellsCausesOf, TellsNotesOf};
 ghost use Rattle.source_notes.specs.reading.PartsTold.{TellsReportOf, TellsPartsOf, Adds, AddsFirst};
 
 use crate::answers::{
-    NoteReply, alarms_reply, causes_reply, races_reply, report_reply, rings_reply, whole_reply,
+    NoteReply, alarms_reply, assumed_reply, causes_reply, races_reply, report_reply, rings_reply,
+    whole_reply,
 };
 use note_lines::Names;
 use notes_json::{push_bytes, push_number};
 use program_notes::Declared;
 use program_solutions::{Analysis, Solution};
 use program_streams::Status;
+use source_assumptions::Opened;
 use source_findings::{Finding, told_of};
 use std::alloc::Global as Heap;
 use tm_lattice::NoMemory;
@@ -156,18 +159,35 @@ fn push_notes(
     push_part(alloc, text, b"notes", reply.status, &reply.text)
 }
 
+/// Appends the list of assumptions.
+fn push_assumptions(
+    alloc: Heap,
+    text: &mut Vec<u8>,
+    opened: &Opened,
+    analysis: &Analysis,
+    found: &Solution,
+) -> Result<(), NoMemory>
+    requires { IsLeastPair (program_of analysis.now) found.now }
+    ensures { OnOk result (Adds (TellsAssumptionsOf (program_of analysis.now) opened.now.others.items
+        opened.now.origins.items found.now) (codes "assumptions") text.old.items text.new.items) }
+{
+    let reply = assumed_reply(alloc, opened, analysis, found)?;
+    push_part(alloc, text, b"assumptions", reply.status, &reply.text)
+}
+
 /// All texts on a least solution, with the status of the report. Each is made and let go before the next one.
 pub(crate) fn parts_reply(
     alloc: Heap,
     bytes: &[u8],
     names: &Names,
     declared: &Declared,
+    opened: &Opened,
     analysis: &Analysis,
     found: &Solution,
 ) -> Result<NoteReply, NoMemory>
     requires { IsLeastPair (program_of analysis.now) found.now }
-    ensures { IfOk result (λ reply. TellsPartsOf (program_of analysis.now) bytes.now names.now declared.now found.now
-        reply.status reply.text.items) }
+    ensures { IfOk result (λ reply. TellsPartsOf (program_of analysis.now) bytes.now names.now declared.now opened.now
+        found.now reply.status reply.text.items) }
 {
     let mut text = Vec::new(alloc);
     let status = push_report(alloc, &mut text, analysis, found)?;
@@ -194,5 +214,6 @@ pub(crate) fn parts_reply(
     push_alarms(alloc, &mut text, bytes, names, analysis, found)?;
     push_causes(alloc, &mut text, bytes, names, analysis, found)?;
     push_notes(alloc, &mut text, bytes, declared, analysis, found)?;
+    push_assumptions(alloc, &mut text, opened, analysis, found)?;
     Ok(NoteReply { status, text })
 }

@@ -13,6 +13,7 @@ returns c =
     let alarms = c.in_ok-push_alarms.ensures in
     let causes = c.in_ok-push_causes.ensures in
     let notes = c.in_ok-push_notes.ensures in
+    let assumptions = c.in_ok-push_assumptions.ensures in
     record {
       report = report.part;
       waits = waits.part;
@@ -22,8 +23,10 @@ returns c =
       alarms = alarms.part;
       causes = causes.part;
       notes = notes.part;
+      assumptions = assumptions.part;
       comes = report.comes;
-      is = notes.is
+      is = assumptions.is
+          ∙ ap (λ (z : List ℕ). z ++ shown (codes "assumptions") assumptions.part) (notes.is
           ∙ ap (λ (z : List ℕ). z ++ shown (codes "notes") notes.part) (causes.is
           ∙ ap (λ (z : List ℕ). z ++ shown (codes "causes") causes.part) (alarms.is
           ∙ ap (λ (z : List ℕ). z ++ shown (codes "alarms") alarms.part) (races.is
@@ -31,5 +34,5 @@ returns c =
           ∙ ap (λ (z : List ℕ). z ++ shown (codes "rings") rings.part) (ranges.is
           ∙ ap (λ (z : List ℕ). z ++ shown (codes "ranges") ranges.part) (waits.is
           ∙ ap (λ (z : List ℕ). z ++ shown (codes "waits") waits.part) (report.is
-          ∙ ap (λ (z : List ℕ). z ++ shown (codes "report") report.part) c.new-text.ensures.items)))))));
+          ∙ ap (λ (z : List ℕ). z ++ shown (codes "report") report.part) c.new-text.ensures.items))))))));
     }

@@ -1,0 +1,2 @@
+-- What the list of assumptions promises holds (Kept).
+pub mod Kept

@@ -1,0 +1,2 @@
+-- What the code tells of a solution (Told).
+pub mod Told

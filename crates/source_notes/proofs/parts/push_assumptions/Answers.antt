@@ -1,0 +1,13 @@
+use Rattle.std.specs.Prelude.{codes}
+use Rattle.program_solutions.specs.program_systems.ReadPrograms.{program_of}
+use Rattle.source_assumptions.specs.reading.Told.{TellsAssumptionsOf}
+use Rattle.source_notes.proofs.PartsAdded.{added}
+use Rattle.source_notes.proofs.parts.push_assumptions.Goals as goal
+
+pub returns : goal.returns
+returns c =
+    let reply = c.in_ok-reply.reply in
+    let o = c.args.opened.now in
+    added (TellsAssumptionsOf (program_of c.args.analysis.now) o.others.items o.origins.items c.args.found.now)
+    c.push_part.result (codes "assumptions") c.args.text.now.items c.push_part.new.text.items c.deref.result.now
+    reply.text.items reply.status c.push_part.ensures c.deref.ensures.value c.in_ok-reply.ensures
