@@ -1,6 +1,6 @@
 #!/usr/bin/env bash
 # Compares the texts of `alarm_notes parts` with those that come alone: benches/parts.sh ANALYSER NOTER [SOURCE..],
-# where no SOURCE is given of all of examples/ and of two generated ones. It says of each source whether all eight texts
+# where no SOURCE is given of all of examples/ and of two generated ones. It says of each source whether all nine texts
 # and their statuses are the same, and at the end the processor time of one analysis for all and of one for each.
 set -eu
 
@@ -45,7 +45,8 @@ for source; do
     cut_apart "$work/parts"
     compare report "$analyser" analyse --json && compare waits "$analyser" waits &&
         compare ranges "$analyser" ranges && compare rings "$noter" rings && compare races "$noter" races &&
-        compare alarms "$noter" alarms && compare causes "$noter" causes && compare notes "$noter" notes ||
+        compare alarms "$noter" alarms && compare causes "$noter" causes && compare notes "$noter" notes &&
+        compare assumptions "$noter" assumptions ||
         { failed=1 && printf '%s: another text\n' "$source"; }
 done
 
@@ -58,7 +59,7 @@ command=("$noter" parts)
 all=$(seconds "$@")
 each=0
 for words in "$analyser analyse --json" "$analyser waits" "$analyser ranges" "$noter rings" "$noter races" "$noter alarms" \
-    "$noter causes" "$noter notes"; do
+    "$noter causes" "$noter notes" "$noter assumptions"; do
     read -ra command <<<"$words"
     each=$(awk "BEGIN { print $each + $(seconds "$@") }")
 done

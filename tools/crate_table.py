@@ -43,8 +43,9 @@ STATIONS = {
     "Workers": "store_core thread_workers shared_programs shared_analyses worker_solutions history_lines",
     "Reports": "place_lists access_races request_circles program_reports value_ranges lock_waits access_groups"
     " access_partners alarm_contexts value_origins alarm_causes source_names note_details notes_json program_notes note_lines report_json solution_lines"
-    " source_findings source_notes",
-    "Soundness": "tm_soundness program_shape sound_foundations sound_runs sound_tables sound_addresses sound_core sound_notes",
+    " source_findings part_extents path_origins edge_origins text_choices operand_orders open_choices source_assumptions"
+    " source_notes",
+    "Soundness": "tm_soundness program_shape sound_foundations sound_runs sound_tables sound_addresses sound_core sound_notes sound_choices",
     "Certificates": "certificate_words certificate_parts certificate_texts certificate_reading certificate_check"
     " check_main",
     "Replays": "replay_lines replay_runs source_replays",
