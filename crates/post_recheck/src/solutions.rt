@@ -11,8 +11,8 @@ use std::sync::Arc;
 /// A table of a body: for each node of its configured graph a state, none where it is not reached.
 pub type Table = Vec<Option<BodyState>>;
 
-/// Tables and a store that a check has found to be a solution: those of the tasks by their numbers, then that of the
-/// initial section, where there is one.
+/// Tables and a store that are to be a solution, as a check has found them, or as what made them promises: those of the
+/// tasks by their numbers, then that of the initial section, where there is one.
 pub struct Solution {
     tables: Vec<Table>,
     store: Arc<Store>,
@@ -41,8 +41,8 @@ impl Model for Solution {
 }
 
 impl Solution {
-    // The solution of these tables and this store.
-    pub(crate) fn new(tables: Vec<Table>, store: Arc<Store>) -> Solution
+    /// These tables and this store. That they are a solution, the contract of whoever made them says, or a check.
+    pub fn new(tables: Vec<Table>, store: Arc<Store>) -> Solution
         ensures { result ≡ pair_of tables.items (arc_value store) }
     {
         Solution { tables, store }
