@@ -26,11 +26,7 @@ use Rattle.store_limits.specs.program_equations.laws.WholeTables.{whole_is_one}
 use Rattle.store_limits.proofs.Climbing.{quiet_is_closed}
 use Rattle.thread_pass.specs.Analyses.{IsSectionTable}
 use Rattle.program_reports.specs.post_recheck.Pairs.{Pair, FitsPair}
-use Rattle.program_reports.specs.post_recheck.Checks.{IsAnswer}
-use Rattle.program_reports.specs.post_recheck.declared.solutions.Checked.{Checked}
-use Rattle.program_reports.specs.post_recheck.declared.solutions.Checked.TheVariants as Answers
 use Rattle.program_reports.proofs.low.post_recheck.LeastPairs.{least_pair}
-use Rattle.program_reports.proofs.low.post_recheck.One.{answer_is_one}
 use Rattle.program_solutions.specs.LeastReports.{IsLeastPair}
 use Rattle.program_solutions.specs.Tables.{AreCompleted, AreLeastTables}
 use Rattle.program_solutions.specs.reading.Turns.{HasEnded}
@@ -153,9 +149,3 @@ module _ (p : ProgramBodies) (is : IsProgram p) where
       least = whole_is_one p is (table_at pair.tables p.tasks) are.section pair.store (tables_of pair.tables) are.least
           (closed_is_least pair.store are.earlier are.history are.closed);
     }
-
-    -- the check of the pair finds that it is a solution, whatever it answers
-    pub answer_is : (answer : Checked) → IsAnswer p pair answer → answer ≡ Answers.Solution pair
-    answer_is answer answers =
-        answer_is_one p is pair are.fits answer (Answers.Solution pair) answers
-        (least_pair p is pair are.fits are.closed are.section are.least, refl)

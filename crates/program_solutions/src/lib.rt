@@ -14,8 +14,8 @@ mod tables;
 mod turns;
 
 pub use laws::least_reports_are_one;
-pub use program_reports::{Checked, Solution, Table, recheck};
+pub use program_reports::{Solution, Table};
 pub use reports::{least_report, solution_report};
-pub use solutions::solution;
+pub use solutions::{least_pair, solution};
 pub use tables::{completed, copied_table};
 pub use thread_pass::Analysis;

@@ -1,5 +1,5 @@
 -- A history of an analysis is one of its program.
-use Rattle.std.specs.Prelude.{◌≡◌, ℕ, ℤ, List, [], ◌∷◌}
+use Rattle.std.specs.Prelude.{ℕ, ℤ, List, [], ◌∷◌}
 use Rattle.tm_lattice.specs.declared.passers.Passer as passer
 use Rattle.store_core.specs.Histories.{Event, Read, Publish, Past, May, IsLegal}
 use Rattle.interfere_set.specs.Stores.{Interferences, no_interference}

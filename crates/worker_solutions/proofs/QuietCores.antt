@@ -2,8 +2,8 @@
 use Rattle.std.specs.Prelude.{◌≡◌, ℕ, ◌<◌, List, length, Option}
 use Rattle.std.proofs.Common.{sym, ap, subst, ◌∙◌}
 use Rattle.tm_lattice.specs.Rounds.{IsClosed}
-use Rattle.store_core.specs.Histories.{Past, store_of, IsLegal, IsQuiet}
-use Rattle.store_core.proofs.Pasts.{IsLawful, all_fit, earlier, history_of, quiet_closed}
+use Rattle.store_core.specs.Histories.{Past, IsLegal, IsQuiet}
+use Rattle.store_core.proofs.Pasts.{IsLawful, earlier, history_of, quiet_closed}
 use Rattle.interfere_set.specs.Stores.{Interferences, IsStoreBelow, joined_store}
 use Rattle.interfere_set.specs.laws.StoreLaws.{store_order, store_join, store_closure}
 use Rattle.program_solutions.specs.transfer_rows.StateForms.{State}
@@ -15,7 +15,6 @@ use Rattle.program_solutions.specs.program_equations.laws.Passing.{fitting}
 use Rattle.program_solutions.specs.store_limits.Limits.{published}
 use Rattle.program_solutions.specs.thread_pass.Analyses.{IsLeastTable}
 use Rattle.program_solutions.specs.thread_pass.Kept.{KeptTable, IsKeptOf}
-use Rattle.program_solutions.specs.post_recheck.Pairs.{Pair}
 use Rattle.program_solutions.specs.Tables.{AreCompleted, AreLeastTables}
 use Rattle.program_solutions.specs.reading.Turns.{HasEnded}
 use Rattle.program_solutions.proofs.Completing.{least_tables}

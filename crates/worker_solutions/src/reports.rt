@@ -1,16 +1,13 @@
 //! The report that workers find.
 ghost use Rattle.std.specs.Prelude.{◌≡◌, ◌≤◌, IfOk};
-ghost use Rattle.std.specs.Arc.{arc_value};
 ghost use Rattle.store_core.specs.Histories.{IsQuiet};
 ghost use Rattle.program_solutions.specs.program_systems.ReadPrograms.{program_of};
-ghost use Rattle.program_solutions.specs.post_recheck.Pairs.{pair_of};
-ghost use Rattle.program_solutions.specs.LeastReports.{IsLeastPair, IsLeastReport};
-ghost use Rattle.program_solutions.specs.Tables.{AreLeastTables};
+ghost use Rattle.program_solutions.specs.LeastReports.{IsLeastReport};
 ghost use Rattle.worker_solutions.specs.QuietHistories.{IsQuietHistory};
 
 use crate::tables::kept_tables;
 use interfere_set::Store;
-use program_solutions::{Analysis, Checked, Solution, Table, completed, recheck, solution_report};
+use program_solutions::{Analysis, completed, least_pair, solution_report};
 use shared_analyses::solved_by;
 use std::alloc::Global;
 use std::sync::{Arc, Wait};
@@ -29,31 +26,8 @@ pub struct WorkedOut {
     pub core: StoreCore<Analysis>,
 }
 
-// The check of least tables and their store: it finds that they are a solution.
-fn checked<R: Threads + Sync>(
-    rt: &R,
-    alloc: Global,
-    analysis: &Analysis,
-    tables: Vec<Table>,
-    store: Arc<Store>,
-) -> Result<Solution, NoMemory>
-    requires { AreLeastTables (program_of analysis.now) (pair_of tables.items (arc_value store)) }
-    ensures { IfOk result (IsLeastPair (program_of analysis.now)) }
-{
-    let (program, facts) = analysis.parts();
-    match recheck(rt, alloc, program, facts, tables, store)? {
-        Checked::Solution(found) => Ok(found),
-        Checked::Uncovered { body: _, edge: _ } => unreachable!(),
-        Checked::UncoveredStore => unreachable!(),
-    }
-}
-
 // The report of a quiet core: that of its store, with the tables that the last passes of its tasks kept.
-fn core_report<R: Threads + Sync>(
-    rt: &R,
-    alloc: Global,
-    core: &StoreCore<Analysis>,
-) -> Result<Report, NoMemory>
+fn core_report(alloc: Global, core: &StoreCore<Analysis>) -> Result<Report, NoMemory>
     requires { IsQuiet core.now.program.tasks core.now.past }
     ensures { IfOk result (λ report. IsLeastReport (program_of core.now.program) report.alarms.items) }
 {
@@ -62,7 +36,7 @@ fn core_report<R: Threads + Sync>(
     let tables = kept_tables(alloc, core)?;
     let all = completed(alloc, analysis, tables)?;
     let store = Arc::new(alloc, core.store().copied(alloc)?)?;
-    let found = checked(rt, alloc, analysis, all, store)?;
+    let found = least_pair(analysis, all, store);
     solution_report(alloc, analysis, &found)
 }
 
@@ -86,6 +60,6 @@ pub fn report_by_workers<R: Threads + Wait + Sync, G: Gate>(
 {
     let core = solved_by(rt, alloc, Arc::new(alloc, analysis)?, workers, gate)?;
     let _history = core.history();
-    let report = core_report(rt, alloc, &core)?;
+    let report = core_report(alloc, &core)?;
     Ok(WorkedOut { report, core })
 }

@@ -1,5 +1,5 @@
 use Rattle.program_reports.specs.post_recheck.Pairs.{lists_of}
-use Rattle.program_solutions.proofs.Checking.{report_least}
+use Rattle.program_solutions.proofs.Reporting.{report_least}
 use Rattle.program_solutions.proofs.reports.solution_report.Goals as goal
 
 pub returns : goal.returns

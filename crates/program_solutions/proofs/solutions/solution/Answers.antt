@@ -5,8 +5,8 @@ use Rattle.program_solutions.specs.Tables.{AreLeastTables}
 use Rattle.program_solutions.proofs.Completing.{least_tables}
 use Rattle.program_solutions.proofs.solutions.solution.Goals as goal
 
-pub checked-requires : goal.checked-requires
-checked-requires c =
+pub least_pair-requires : goal.least_pair-requires
+least_pair-requires c =
     let p = program_of c.args.analysis.now in
     let all = lists_of c.in_ok-all.all.items in
     let turns = c.in_ok-store.field-0 in

@@ -10,8 +10,8 @@ use Rattle.worker_solutions.proofs.Legal.{legal_of}
 use Rattle.worker_solutions.proofs.QuietCores.{least_over}
 use Rattle.worker_solutions.proofs.reports.core_report.Goals as goal
 
-pub checked-requires : goal.checked-requires
-checked-requires g c =
+pub least_pair-found-requires : goal.least_pair-found-requires
+least_pair-found-requires c =
     let core = c.args.core.now in
     let same = c.deref.ensures ∙ c.program-analysis.ensures.value in
     let count = length-map c.in_ok-tables.tables.items _ ∙ c.in_ok-tables.ensures.count in
@@ -23,26 +23,24 @@ checked-requires g c =
     let least = least_over (program_of core.program) is core.workers core.past
     (legal_of core.program core.workers core.past c.history-history.ensures.legal) c.requires
     (lists_of c.in_ok-tables.tables.items) (lists_of c.in_ok-all.all.items) count c.in_ok-tables.ensures.least
-    all (arc_value c.in_ok-store.store) store in (
-      search (sendable) depth 20,
-      subst (λ r. AreLeastTables (program_of r) (pair_of c.in_ok-all.all.items (arc_value c.in_ok-store.store)))
-          (sym again) least,
-    )
+    all (arc_value c.in_ok-store.store) store in
+    subst (λ r. AreLeastTables (program_of r) (pair_of c.in_ok-all.all.items (arc_value c.in_ok-store.store)))
+    (sym again) least
 
 pub history-history-requires-send-P : goal.history-history-requires-send-P
-history-history-requires-send-P g c κs = search (analysis_send, sendable) depth 20
+history-history-requires-send-P c κs = search (analysis_send, sendable) depth 20
 
 pub history-history-requires-sync-P : goal.history-history-requires-sync-P
-history-history-requires-sync-P g c κs = search (analysis_sync, sendable) depth 20
+history-history-requires-sync-P c κs = search (analysis_sync, sendable) depth 20
 
 pub program-analysis-requires-send-P : goal.program-analysis-requires-send-P
-program-analysis-requires-send-P g c κs = search (analysis_send, sendable) depth 20
+program-analysis-requires-send-P c κs = search (analysis_send, sendable) depth 20
 
 pub program-analysis-requires-sync-P : goal.program-analysis-requires-sync-P
-program-analysis-requires-sync-P g c κs = search (analysis_sync, sendable) depth 20
+program-analysis-requires-sync-P c κs = search (analysis_sync, sendable) depth 20
 
 pub store-requires-send-P : goal.store-requires-send-P
-store-requires-send-P g c κs = search (analysis_send, sendable) depth 20
+store-requires-send-P c κs = search (analysis_send, sendable) depth 20
 
 pub store-requires-sync-P : goal.store-requires-sync-P
-store-requires-sync-P g c κs = search (analysis_sync, sendable) depth 20
+store-requires-sync-P c κs = search (analysis_sync, sendable) depth 20

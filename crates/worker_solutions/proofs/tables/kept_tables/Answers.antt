@@ -1,6 +1,6 @@
 use denote.Param.Send.{sendable}
 use Rattle.shared_analyses.proofs.Analyses.{analysis_send, analysis_sync}
-use Rattle.std.proofs.Common.{◌<◌, ◌+◌, ◌∙◌, ap, length}
+use Rattle.std.proofs.Common.{◌+◌, ◌∙◌, ap, length}
 use Rattle.std.proofs.lemmas.List.{length-append}
 use Rattle.program_solutions.specs.program_systems.ReadPrograms.{program_of}
 use Rattle.program_solutions.specs.thread_pass.Analyses.{IsLeastTable}

@@ -1,5 +1,5 @@
--- What the check of least tables answers, and what the report of a least solution is, for a program and its facts.
-use Rattle.std.specs.Prelude.{◌≡◌, ℕ, List, Option}
+-- What the report of a least solution is, for a program and its facts.
+use Rattle.std.specs.Prelude.{◌≡◌, List, Option}
 use Rattle.std.proofs.Common.{sym, subst}
 use Rattle.tm_terms.specs.declared.alarms.Alarm.{Alarm}
 use Rattle.interfere_set.specs.Stores.{Interferences}
@@ -12,42 +12,13 @@ use Rattle.thread_pass.specs.program_systems.ReadPrograms.{ReadProgram, program_
 use Rattle.thread_pass.specs.program_systems.ProgramFacts.{AllFacts, AreProgramFacts, read_with, program_with}
 use Rattle.thread_pass.proofs.low.program_systems.Bodies.{is_program}
 use Rattle.program_reports.specs.post_recheck.Pairs.{Pair, FitsPair}
-use Rattle.program_reports.specs.post_recheck.Checks.{IsAnswer}
-use Rattle.program_reports.specs.post_recheck.declared.solutions.Checked.TheVariants as Answers
 use Rattle.program_reports.specs.Reports.{IsReport}
 use Rattle.program_solutions.specs.LeastReports.{IsLeastPair, IsLeastReport}
-use Rattle.program_solutions.specs.Tables.{AreLeastTables}
-use Rattle.program_solutions.proofs.Completing.{least_pair_is, answer_is}
 
 module _ (r : ReadProgram) (program : Program) (facts : AllFacts) (analysable : IsAnalysable program)
     (are-facts : AreProgramFacts program facts) (same : r ≡ read_with program facts) where
   pub is_read : IsProgram (program_of r)
   is_read = subst (λ x. IsProgram (program_of x)) (sym same) (is_program program facts analysable are-facts)
-
-  -- ## The check
-
-  module _ (pair : Pair) (are : AreLeastTables (program_of r) pair) where
-    pub fits_with : FitsPair (program_with program facts) pair
-    fits_with = subst (λ x. FitsPair (program_of x) pair) same are.fits
-
-    pub found_least : (found : Pair) → IsAnswer (program_with program facts) pair (Answers.Solution found)
-        → IsLeastPair (program_of r) found
-    found_least found h =
-        subst (IsLeastPair (program_of r)) (sym h.1) (least_pair_is (program_of r) is_read pair are)
-
-    pub none_uncovered : (body edge : ℕ) → IsAnswer (program_with program facts) pair (Answers.Uncovered body edge) → ⊥
-    none_uncovered body edge h =
-        let e : Answers.Uncovered body edge ≡ Answers.Solution pair =
-        answer_is (program_of r) is_read pair are (Answers.Uncovered body edge)
-        (subst (λ x. IsAnswer (program_of x) pair (Answers.Uncovered body edge)) (sym same) h) in
-        cc
-
-    pub store_covered : IsAnswer (program_with program facts) pair Answers.UncoveredStore → ⊥
-    store_covered h =
-        let e : Answers.UncoveredStore ≡ Answers.Solution pair =
-        answer_is (program_of r) is_read pair are Answers.UncoveredStore
-        (subst (λ x. IsAnswer (program_of x) pair Answers.UncoveredStore) (sym same) h) in
-        cc
 
   -- ## The report
 
