@@ -71,7 +71,7 @@ uses_pointer op pointer place compares = inl refl
 module _ (laid seen : LaidTree) (p : ProgramBodies) (from : IsProgramFrom laid p) (is : IsProgram p)
     (few : length laid.objects ≤ 2 ^ 32) (tables : List (List (Option State))) (store : Interferences)
     (pair : IsPair p tables store) (origins : List BodyOrigins) where
-  abbrev solved : ℕ → BodyOrigins → SolvedBody
+  abbrev pub solved : ℕ → BodyOrigins → SolvedBody
   solved t noted = body_of laid seen p (lists_of tables) store origins [] t noted
 
   -- ## Where a run comes before a copy of an edge
@@ -83,57 +83,57 @@ module _ (laid seen : LaidTree) (p : ProgramBodies) (from : IsProgramFrom laid p
     abbrev copy : EdgeCopy
     copy = copy_in p t k
 
-    abbrev edge : Edge
+    abbrev pub edge : Edge
     edge = edge_of b copy
 
-    abbrev place : ℕ
+    abbrev pub place : ℕ
     place = (let h = c.comes in h.place)
 
-    met : IsMetAt laid p is (lists_of tables) w t place m.temps
+    pub met : IsMetAt laid p is (lists_of tables) w t place m.temps
     met = all_met laid p from is few tables store pair w c.reached t c.may place m (let h = c.comes in h.comes)
 
-    abbrev state : State
+    abbrev pub state : State
     state = (let h = met in h.state)
 
-    stands : lists_of tables t copy.from ≡ Some state
+    pub stands : lists_of tables t copy.from ≡ Some state
     stands =
         let h = met in
         ap (found_at (lists_of tables t)) (sym (let x = c.comes in x.leaves)) ∙ h.at
 
-    copied : IsCopyOf b copy
+    pub copied : IsCopyOf b copy
     copied = (is.each t c.body).body.copies k c.copy
 
-    edge_among : Among edge b.edges
+    pub edge_among : Among edge b.edges
     edge_among = (let o = copied in among_numbered b.edges copy.edge no_edge o.edge)
 
-    edge_from : edge.from ≡ place
+    pub edge_from : edge.from ≡ place
     edge_from =
         let o = copied in
         let node = numbered b.nodes (node_now laid w t place) copy.from (let x = c.comes in x.leaves) in
         sym o.leaves ∙ ap (λ (q : ConfiguredNode). q.place) node.1
 
-    graph : IsGraphOf p t
+    pub graph : IsGraphOf p t
     graph = (let g : IsFounded p is = good laid p from is few tables store pair w c.reached in g.graphs t c.body)
 
-    lives : (u : ℕ) → Among u (used op) → HasTemp state u
+    pub lives : (u : ℕ) → Among u (used op) → HasTemp state u
     lives u among =
         let h = met in
         live_has p.laid t (types_of (is.sorts t)) (live_at b place) h.state h.fits u
         (subst (λ v. is_among (live_at b v) u ≡ true) edge_from
         (let g = graph in g.uses edge u edge_among (subst (λ o. Among u (used o)) (sym c.operation) among)))
 
-    covered : (u : ℕ) → Among u (used op) → IsValueIn (value_of state u) (scalar_as (m.temps u))
+    pub covered : (u : ℕ) → Among u (used op) → IsValueIn (value_of state u) (scalar_as (m.temps u))
     covered u among =
         let h = met in
         let e : HasTemp h.state u = lives u among in
         subst (λ o. IsValueIn (temp_value o) (scalar_as (m.temps u))) (sym e.stands)
         (h.ins.in_value u e.entry e.stands)
 
-    covered_as : (u : ℕ) (v : Value) → Among u (used op) → m.temps u ≡ v
+    pub covered_as : (u : ℕ) (v : Value) → Among u (used op) → m.temps u ≡ v
         → IsValueIn (value_of state u) (scalar_as v)
     covered_as u v among same = subst (λ x. IsValueIn (value_of state u) (scalar_as x)) same (covered u among)
 
-    has : (noted : BodyOrigins) → HasState (solved t noted) copy.edge op state
+    pub has : (noted : BodyOrigins) → HasState (solved t noted) copy.edge op state
     has noted = record {
       number = k;
       copy = copy;
@@ -147,7 +147,7 @@ module _ (laid seen : LaidTree) (p : ProgramBodies) (from : IsProgramFrom laid p
 
   module _ (others : Choice → Type 0) (choices : List Choice)
       (are : AreChoices seen p (lists_of tables) store origins others choices) where
-    listed : (t : ℕ) → t < length p.bodies → (noted : BodyOrigins) → slice_get origins t ≡ Some noted
+    pub listed : (t : ℕ) → t < length p.bodies → (noted : BodyOrigins) → slice_get origins t ≡ Some noted
         → (choice : Choice) → IsOfBody (solved t noted) choice → Contains choices choice
     listed t lt noted there choice opens =
         let e = are.exact choice in

@@ -8,9 +8,9 @@
 //! the list has LIFETIME at the `*`, for the runs that come there follow a pointer to `v` outside of its block. Had it
 //! none there, each object to which the pointer leads in a run would be open.
 //!
-//! It knows no code: its law is of definitions alone, over every solution.
+//! It knows no code: its laws are of definitions alone, over every solution.
 #![tactic(auto)]
 
 mod laws;
 
-pub use laws::choices_are_listed;
+pub use laws::{access_choices_are_listed, choices_are_listed};
