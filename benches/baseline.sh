@@ -107,7 +107,10 @@ paged() { # FROM TO WORDS..
 wanted=$'State, Number\nnew, 1\nunchanged, 3\nabsent, 1\nsuppressed, 0\nnew: 1\nClass, Place\nDIV, pump.c:3:17->3'
 same "$wanted" "$(paged State DIV --baseline "$work/old" pump.c)" "the page of a comparison"
 wanted=$'pump.c:3:17->3, DIV, the divisor may be zero; new\n; the divisor is -1 to 3 here, and the dividend is 100\n'
-wanted+=$'; in main_loop (priority 1)\npump.c:4:15->4, DIV, the divisor may be zero; unchanged'
+wanted+=$'; in main_loop (priority 1)\n; pump.c:3:20->3: main_loop reads 0 to 4 from n here\n'
+wanted+=$'; pump.c:13:9->13: main_loop stores 0 to 4 to n here\n'
+wanted+=$'; pump.c:13:9->13: an input, or a function that may end without return, gives 0 to 4 here\n'
+wanted+=$'; pump.c:13:9->13: main_loop comes here by this call\npump.c:4:15->4, DIV, the divisor may be zero; unchanged'
 same "$wanted" "$(paged pump.c:3:17-\>3,\ DIV,\ the pump.c:4 --baseline "$work/old" pump.c)" "how its alarms stand"
 same "; DIV at column 17, new: the divisor may be zero" "$(paged '; DIV at' ''  --baseline "$work/old" pump.c | head -n 1)" \
     "how an alarm stands at its line"

@@ -1,7 +1,7 @@
 #!/usr/bin/env bash
 # Opens pages in a browser: benches/page.sh FOLDER [CHROMIUM]. It makes with ./analyse the pages of three examples, one
-# of which has circular waits, and of a source that is full of tags, in its comments, its name and the reasons for which
-# alarms are suppressed; and FOLDER then has them and a picture of each in light and dark. Of each it sees that the
+# of which has circular waits, of a source with an assumption of each kind, and of one that is full of tags, in its
+# comments, its name and the reasons for which alarms are suppressed; and FOLDER then has them and a picture of each in light and dark. Of each it sees that the
 # browser's console says nothing, that the page as the browser has read it has no script and no image, that nothing was
 # loaded, and that each link leads to a line that is there. Then it times a page of some 5,000 lines and 500 alarms and
 # one of 10,000 alarms, by the clock: how long each takes to make, with its lines and its log, beside the lines alone, and
@@ -42,6 +42,30 @@ make_page() { # NAME WORDS..
 make_page tank "$top/examples/tank.c"
 make_page uart_driver "$top/examples/uart_driver.c"
 make_page lock_order "$top/examples/lock_order.c"
+cat >"$work/open.c" <<'SOURCE'
+#pragma speed
+int x, r, c;
+struct S { int a[2]; int b[2]; } s;
+const int limit = 3;
+int *restrict q;
+int abs(int v) { return 5; }
+int f(void) { x = 5; return 1; }
+__task(1) void t(void) {
+    int n; if (__input(0, 1)) n = 1; r = n;
+    x += f();
+    int *p = s.a; p = p + 2; *p = 1;
+    { int v = 1; p = &v; } r = *p;
+    p = (int *)&limit; *p = 4;
+    r = (signed char)__input(0, 300);
+    r = 1 / __input(0, 3);
+}
+SOURCE
+make_page open --all-assumptions "$work/open.c"
+for kind in CONST IMPLEMENTATION LIFETIME MEMBER ORDER PRAGMA RESERVED RESTRICT UNSET; do
+    grep -q "^<p class='open'>$kind at column [0-9]*: " "$folder/open.html" || { echo "open: no $kind is marked" && exit 1; }
+done
+make_page some "$work/open.c"
+! grep -q '>IMPLEMENTATION at column' "$folder/some.html" || { echo "open: IMPLEMENTATION is marked" && exit 1; }
 hostile="$work/a<b>&\"'<img src=x onerror=alert(1)>.c"
 cat >"$hostile" <<'SOURCE'
 /* </code></div><script>alert(1)</script><img src=x onerror="alert(1)"> */
@@ -61,7 +85,7 @@ log["runs"][0]["results"][0]["suppressions"] = [{"kind": "external", "justificat
 print(json.dumps(log))
 PYTHON
 make_page hostile --baseline "$work/old<script>alert(7)<.sarif" "$hostile"
-for name in tank uart_driver lock_order hostile; do look "$name"; done
+for name in tank uart_driver lock_order open hostile; do look "$name"; done
 for number in 1 2 3 5 7 8 9; do
     grep -aqF "alert($number)" "$work/dom" || grep -aqF "alert('$number')" "$work/dom" ||
         { echo "hostile: the text with the number $number is not there" && exit 1; }

@@ -130,6 +130,8 @@ done
 # Each project of units has the answers that stand beside them.
 cd "$top/examples/units"
 same "$(cat units.report)" "$(told "$top/analyse" setup.c drive.c share.c | sed '$d')" "the report of units"
+# (the lines that part them are in no file)
+same $'assumptions 0\nstatus 0' "$(told "$top/analyse" --assumptions setup.c drive.c share.c)" "the assumptions of units"
 for project in boiler gateway motor; do
     cd "$top/examples/$project"
     same "$(cat "$project.report")" "$(told "$top/analyse" -- *.c | sed '$d')" "the report of $project"
@@ -262,11 +264,16 @@ for run in json.load(open(sys.argv[1]))["runs"]:
               sep=":")' "$1"
 }
 
+# How many notes on assumptions stand behind the lines of a page.
+opened() { # PAGE
+    grep -oE "<p class='open'>[A-Z]+ at column " "$1" | wc -l
+}
+
 # The logs and summaries of the examples: each log has the places and words of the lines, then those of the waits, then
 # those of the dead places, and its status is 1 where there is an alarm or a wait. A line that a macro changed is whole.
 for source in "$top"/examples/*.c "$top/examples/project/project.c"; do
     told "$top/analyse" --sarif "$source" >"$work/log"
-    for form in --summary --waits --ranges; do told "$top/analyse" "$form" "$source" >"$work/form$form"; done
+    for form in --summary --waits --ranges --assumptions; do told "$top/analyse" "$form" "$source" >"$work/form$form"; done
     same "$(cat "$work/form--summary" "$work/form--waits" | grep '^status' | sort | tail -n 1)" "$(tail -n 1 "$work/log")" \
         "the status of the log of ${source##*/}"
     sed -i '$d' "$work/log"
@@ -281,6 +288,12 @@ for source in "$top"/examples/*.c "$top/examples/project/project.c"; do
     told "$top/analyse" --baseline "$work/log" --sarif="$work/again" --html="$work/page" "$source" >"$work/out"
     same "$(sed -n 's/^alarms //p' "$work/out")" "$(grep -c '</a></td><td><b>' "$work/page")" "the page of ${source##*/}"
     same 'status 0' "$(tail -n 1 "$work/out")" "nothing is new in ${source##*/}"
+    # (the page has a note of its own for each assumption, behind its line, but for IMPLEMENTATION)
+    same "$(grep ': note: ' "$work/form--assumptions" | grep -vc ' \[IMPLEMENTATION\]$')" "$(opened "$work/page")" \
+        "the assumptions on the page of ${source##*/}"
+    told "$top/analyse" --all-assumptions --html="$work/page" "$source" >"$work/out"
+    same "$(grep -c ': note: ' "$work/form--assumptions")" "$(opened "$work/page")" \
+        "all assumptions on the page of ${source##*/}"
     python3 "$here/sarif.py" "$work/again"
 done
 

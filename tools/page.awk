@@ -1,19 +1,20 @@
 # Composes the texts that a page shows beside the report: tables, notes, and for each line of the text one that shows it
-# and one of remarks. It reads twelve parts: the places of the text, `LINE:COL`, in a line each; these places in their
+# and one of remarks. It reads fourteen parts: the places of the text, `LINE:COL`, in a line each; these places in their
 # files, line by line; how the results of the report stand, as `report_baseline` writes it, and the reasons for which
 # they are suppressed, both empty where nothing is compared; the report, a line `LINE:COL CLASS` for each alarm; the
 # same with its notes, as reasons.awk writes it; the notes on races, on other alarms and on rings, as `alarm_notes`
-# writes them; the answer of `ranges`; the text; and for each of its lines the line of the file that it comes from.
-# `name` of the environment is the name of the file, `spelled` the same as a line mark spells it; `folder` is where the
-# four texts go; `baseline` is the name of the old log, or nothing.
+# writes them; the answer of `ranges`; the text; for each of its lines the line of the file that it comes from; the list
+# of assumptions; and those of it that are marked, in the same order. `name` of the environment is the name of the file,
+# `spelled` the same as a line mark spells it; `folder` is where the four texts go; `baseline` is the name of the old log,
+# or nothing. It is read behind openings.awk.
 #
-# In a composed text each byte from 14 to 31 stands for markup (docs/PROGRAM.md, "The program `report_page`").
+# In a composed text each byte from 13 to 31 stands for markup (docs/PROGRAM.md, "The program `report_page`").
 
 BEGIN {
     HEADING = "\016"; HEADING_END = "\017"; DEAD = "\020"; GROUP = "\021"; SUMMARY_END = "\022"; GROUP_END = "\023"
     TABLE = "\024"; COLUMN = "\025"; HEAD_END = "\026"; ROW = "\027"; CELL = "\030"; ROW_END = "\031"
     TABLE_END = "\032"
-    LINK = "\033"; LINKED = "\034"; LINK_END = "\035"; NOTE = "\036"; NOTE_END = "\037"
+    LINK = "\033"; LINKED = "\034"; LINK_END = "\035"; NOTE = "\036"; NOTE_END = "\037"; OPEN = "\015"
     WAIT = "tasks may come to wait for each other for ever"
     FOLDER = ENVIRON["folder"]
     BASELINE = plain(ENVIRON["baseline"])
@@ -232,6 +233,8 @@ part == 10 && NF == 2 && $2 == "DEAD" {
 part == 10 && NF == 4 { read_range(); next }
 part == 11 { read_text(); next }
 part == 12 { line[FNR] = $0; next }
+part == 13 && NF == 2 && ($2 in opening) { open_count[$2]++; next }
+part == 14 && NF == 2 && ($2 in opening) { open_place[++opened] = $1; open_kind[opened] = $2; next }
 
 # The head of a table under a heading.
 function begin_table(heading, columns) {
@@ -301,6 +304,24 @@ function tell_ranges(to,    it) {
     printf "%s", TABLE_END GROUP_END > to
 }
 
+# Puts the assumptions that are marked behind their lines.
+function place_openings(    it) {
+    for (it = 1; it <= opened; it++) {
+        remark(open_place[it], OPEN open_kind[it] " at column " column_at(open_place[it]) ": " \
+            opening[open_kind[it]] NOTE_END)
+        open_row[open_kind[it]] = open_row[open_kind[it]] (open_row[open_kind[it]] == "" ? "" : ", ") linked(open_place[it])
+    }
+}
+
+# Tells how many assumptions each kind has, and the places of those that are marked.
+function tell_openings(to,    it, kinds, kind, told) {
+    split("CONST LIFETIME MEMBER ORDER PRAGMA RESERVED RESTRICT UNSET IMPLEMENTATION", kinds, " ")
+    for (it = 1; it in kinds; it++) if ((kind = kinds[it]) in open_count)
+        told = told GROUP kind ", " counted(open_count[kind], "place") ": " opening[kind] SUMMARY_END OPEN \
+            (kind in open_row ? open_row[kind] : "--all-assumptions has these places shown") NOTE_END GROUP_END
+    if (told != "") printf "%s", HEADING "Assumptions: what C leaves open" HEADING_END told > to
+}
+
 # Counts the alarms of each class in each file, and puts each behind its line.
 function place_alarms(    it, file) {
     for (it = 1; it <= alarms; it++) {
@@ -325,6 +346,7 @@ function write_tables(to,    it, at, classes, by_class, task_rows, mutex_rows) {
     printf "%s", table("Tasks with alarms or waits", "Task|Priority", task_rows) > to
     printf "%s", table("Mutexes at accesses to objects with races", "Mutex|Accesses under it", mutex_rows) > to
     if (dead) printf "%s", HEADING "Places that no run reaches" HEADING_END NOTE dead_row NOTE_END > to
+    tell_openings(to)
     tell_ranges(to)
     close(to)
 }
@@ -342,8 +364,8 @@ function write_lines(to,    it) {
     close(to)
 }
 
-# Behind a line stands first what marks it: a dead place, or an alarm or a wait. A range marks none, so where it stands
-# alone a blank does before it.
+# Behind a line stands first what marks it: a dead place, or an alarm or a wait, or an assumption. A range marks none, so
+# where it stands alone a blank does before it.
 function write_remarks(to,    it, at) {
     for (it = 1; it <= texts; it++) {
         if (it in dead_at) printf "%s", dead_at[it] NOTE_END > to
@@ -362,6 +384,7 @@ function begun(name) {
 
 END {
     place_alarms()
+    place_openings()
     write_tables(begun("tables"))
     write_notes(begun("notes"))
     write_lines(begun("lines"))

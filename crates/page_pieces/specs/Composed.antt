@@ -1,4 +1,4 @@
--- Composed texts: a byte from 14 to 31 stands for markup, each other byte for itself.
+-- Composed texts: a byte from 13 to 31 stands for markup, each other byte for itself.
 use Rattle.std.specs.Prelude.{ℕ, List, [], ◌∷◌, map, Option, Some, None}
 use Rattle.page_pieces.specs.Markup.{markup_of}
 use Rattle.page_pieces.specs.Pieces.{Piece, fixed, said}

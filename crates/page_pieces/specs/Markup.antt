@@ -5,8 +5,8 @@ use Rattle.tm_terms.specs.Texts.{line_of}
 use Rattle.page_pieces.specs.declared.markup.Markup.{Markup}
 use Rattle.page_pieces.specs.declared.markup.Markup.TheVariants.{Head, Title, Count, Navigation, Alarms, Alarm}
 use Rattle.page_pieces.specs.declared.markup.Markup.TheVariants.{Rule, Sentence, AlarmEnd, Sources, Line, Noted}
-use Rattle.page_pieces.specs.declared.markup.Markup.TheVariants.{Unreached, Number, Code, LineEnd, Hidden, HiddenEnd, End, Heading}
-use Rattle.page_pieces.specs.declared.markup.Markup.TheVariants.{HeadingEnd, Dead, Group, SummaryEnd, GroupEnd}
+use Rattle.page_pieces.specs.declared.markup.Markup.TheVariants.{Opened, Unreached, Number, Code, LineEnd, Hidden, HiddenEnd, End}
+use Rattle.page_pieces.specs.declared.markup.Markup.TheVariants.{Open, Heading, HeadingEnd, Dead, Group, SummaryEnd, GroupEnd}
 use Rattle.page_pieces.specs.declared.markup.Markup.TheVariants.{Table, Column, HeadEnd, Row, Cell, RowEnd}
 use Rattle.page_pieces.specs.declared.markup.Markup.TheVariants.{TableEnd, Link, Linked, LinkEnd, Note, NoteEnd}
 
@@ -17,10 +17,10 @@ head_text =
     ++ (codes "<meta name='viewport' content='width=device-width,initial-scale=1'><style>"
     ++ (codes ":root{color-scheme:light dark;--ground:#fff;--ink:#1b2026;--quiet:#56606a;--rule:#d5dae0;"
     ++ (codes "--soft:#f3f5f8;--link:#0a58a8;"
-    ++ (codes "--alarm:#a8201a;--dead:#676f78;--mark:#fdf1cc}"
+    ++ (codes "--alarm:#a8201a;--dead:#676f78;--open:#6a3d9e;--mark:#fdf1cc}"
     ++ (codes "@media (prefers-color-scheme:dark){:root{--ground:#15191d;--ink:#e4e8eb;--quiet:#9ba6b0;"
     ++ (codes "--rule:#343c44;--soft:#1e242a;"
-    ++ (codes "--link:#74b6ff;--alarm:#ff9189;--dead:#8b96a1;--mark:#3b3315}}"
+    ++ (codes "--link:#74b6ff;--alarm:#ff9189;--dead:#8b96a1;--open:#c8a8f2;--mark:#3b3315}}"
     ++ (codes "*{box-sizing:border-box}body{margin:0;background:var(--ground);color:var(--ink);"
     ++ (codes "font:15px/1.5 system-ui,sans-serif}"
     ++ (codes "header,main{max-width:76rem;margin:0 auto;padding:0 1.2rem}main{padding-bottom:3rem}"
@@ -42,14 +42,17 @@ head_text =
     ++ (codes ".line code,.number{font:13px/1.5 ui-monospace,Menlo,Consolas,monospace;white-space:pre;"
     ++ (codes "tab-size:4}"
     ++ (codes ".unreached code{color:var(--dead)}.unreached .number{border-right:3px double var(--dead)}"
-    ++ (codes ".note,.dead{margin:.1rem 0;color:var(--quiet);font-size:13.5px}"
-    ++ (codes ".scroll .note,.scroll .dead{padding:.05rem .6rem .05rem 5.2em;background:var(--soft)}"
+    ++ (codes ".opened .number{border-right:3px dotted var(--open)}.open{color:var(--open)}"
+    ++ (codes ".note,.dead,.open{margin:.1rem 0;font-size:13.5px}.note,.dead{color:var(--quiet)}"
+    ++ (codes ".scroll .note,.scroll .dead,.scroll .open{padding:.05rem .6rem .05rem 5.2em;"
+    ++ (codes "background:var(--soft)}"
     ++ (codes ".scroll .note+.note{border:0}.dead{font-style:italic}"
     ++ (codes "@media print{nav{display:none}section{content-visibility:visible}a{color:inherit}"
     ++ (codes ".line{min-width:0}.line code{"
     ++ (codes "white-space:pre-wrap}summary{list-style:none}}"
-    ++ (codes "@media (max-width:40rem){.number{width:3em}.scroll .note,.scroll .dead{padding-left:1rem}}"
-    ++ (codes "</style><title>"))))))))))))))))))))))))))))))))))))
+    ++ (codes "@media (max-width:40rem){.number{width:3em}"
+    ++ (codes ".scroll .note,.scroll .dead,.scroll .open{padding-left:1rem}}"
+    ++ (codes "</style><title>")))))))))))))))))))))))))))))))))))))))
 
 unfoldable pub markup_text : Markup → List ℕ
 markup_text Head = head_text
@@ -73,6 +76,7 @@ markup_text Sources =
     ++ (codes "<details open><summary>"))
 markup_text Line = codes "<div class='line' id='L"
 markup_text Noted = codes "<div class='line noted' id='L"
+markup_text Opened = codes "<div class='line opened' id='L"
 markup_text Unreached = codes "<div class='line unreached' id='L"
 markup_text Number = codes "'><span class='number'>"
 markup_text Code = codes "</span><code>"
@@ -80,6 +84,7 @@ markup_text LineEnd = line_of (codes "</code></div>")
 markup_text Hidden = codes "<span id='L"
 markup_text HiddenEnd = codes "'></span>"
 markup_text End = line_of (codes "</details></div></section></main></body></html>")
+markup_text Open = codes "<p class='open'>"
 markup_text Heading = codes "<h2>"
 markup_text HeadingEnd = line_of (codes "</h2>")
 markup_text Dead = codes "<p class='dead'>"
@@ -99,12 +104,12 @@ markup_text LinkEnd = codes "</a>"
 markup_text Note = codes "<p class='note'>"
 markup_text NoteEnd = line_of (codes "</p>")
 
--- the markup for which the bytes from 14 to 31 stand in texts that are composed
+-- the markup for which the bytes from 13 to 31 stand in texts that are composed
 unfoldable pub composed_markup : List Markup
 composed_markup =
-    Heading ∷ HeadingEnd ∷ Dead ∷ Group ∷ SummaryEnd ∷ GroupEnd ∷ Table ∷ Column ∷ HeadEnd ∷ Row ∷ Cell ∷ RowEnd
-    ∷ TableEnd ∷ Link ∷ Linked ∷ LinkEnd ∷ Note ∷ NoteEnd ∷ []
+    Open ∷ Heading ∷ HeadingEnd ∷ Dead ∷ Group ∷ SummaryEnd ∷ GroupEnd ∷ Table ∷ Column ∷ HeadEnd ∷ Row ∷ Cell
+    ∷ RowEnd ∷ TableEnd ∷ Link ∷ Linked ∷ LinkEnd ∷ Note ∷ NoteEnd ∷ []
 
 -- the markup for which a byte stands, if it stands for one
 abbrev pub markup_of : ℕ → Option Markup
-markup_of b = if nat_lt b 14 then None else slice_get composed_markup (b - 14)
+markup_of b = if nat_lt b 13 then None else slice_get composed_markup (b - 13)

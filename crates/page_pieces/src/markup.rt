@@ -30,6 +30,8 @@ pub enum Markup {
     Line,
     /// The same, of a line that has a note.
     Noted,
+    /// The same, of a line with a place whose meaning C leaves open.
+    Opened,
     /// The same, of a line with a place that no run reaches.
     Unreached,
     /// From there to the number of the line of the file.
@@ -44,6 +46,8 @@ pub enum Markup {
     HiddenEnd,
     /// Behind the last line of the text.
     End,
+    /// Before a note on a place whose meaning C leaves open.
+    Open,
     /// Before a heading.
     Heading,
     /// Behind a heading.
@@ -82,8 +86,9 @@ pub enum Markup {
     NoteEnd,
 }
 
-/// The markup for which the bytes from 14 to 31 stand in texts that are composed.
-static COMPOSED: [Markup; 18] = [
+/// The markup for which the bytes from 13 to 31 stand in texts that are composed.
+static COMPOSED: [Markup; 19] = [
+    Markup::Open,
     Markup::Heading,
     Markup::HeadingEnd,
     Markup::Dead,
@@ -104,7 +109,7 @@ static COMPOSED: [Markup; 18] = [
     Markup::NoteEnd,
 ];
 
-/// The markup for which the bytes from 14 to 31 stand.
+/// The markup for which the bytes from 13 to 31 stand.
 #[tactic(auto, unfolding(crate::specs::Markup::composed_markup))]
 fn composed() -> &'static [Markup]
     ensures { result.now ≡ composed_markup }
@@ -116,10 +121,10 @@ fn composed() -> &'static [Markup]
 pub fn markup_of(byte: u8) -> Option<Markup>
     ensures { result ≡ markup_of byte }
 {
-    if byte < 14 {
+    if byte < 13 {
         return None;
     }
-    composed().get(byte as usize - 14).copied()
+    composed().get(byte as usize - 13).copied()
 }
 
 /// What stands before the title.
@@ -131,10 +136,10 @@ fn head() -> &'static str
             <meta name='viewport' content='width=device-width,initial-scale=1'><style>\
             :root{color-scheme:light dark;--ground:#fff;--ink:#1b2026;--quiet:#56606a;--rule:#d5dae0;\
             --soft:#f3f5f8;--link:#0a58a8;\
-            --alarm:#a8201a;--dead:#676f78;--mark:#fdf1cc}\
+            --alarm:#a8201a;--dead:#676f78;--open:#6a3d9e;--mark:#fdf1cc}\
             @media (prefers-color-scheme:dark){:root{--ground:#15191d;--ink:#e4e8eb;--quiet:#9ba6b0;\
             --rule:#343c44;--soft:#1e242a;\
-            --link:#74b6ff;--alarm:#ff9189;--dead:#8b96a1;--mark:#3b3315}}\
+            --link:#74b6ff;--alarm:#ff9189;--dead:#8b96a1;--open:#c8a8f2;--mark:#3b3315}}\
             *{box-sizing:border-box}body{margin:0;background:var(--ground);color:var(--ink);\
             font:15px/1.5 system-ui,sans-serif}\
             header,main{max-width:76rem;margin:0 auto;padding:0 1.2rem}main{padding-bottom:3rem}\
@@ -156,13 +161,16 @@ fn head() -> &'static str
             .line code,.number{font:13px/1.5 ui-monospace,Menlo,Consolas,monospace;white-space:pre;\
             tab-size:4}\
             .unreached code{color:var(--dead)}.unreached .number{border-right:3px double var(--dead)}\
-            .note,.dead{margin:.1rem 0;color:var(--quiet);font-size:13.5px}\
-            .scroll .note,.scroll .dead{padding:.05rem .6rem .05rem 5.2em;background:var(--soft)}\
+            .opened .number{border-right:3px dotted var(--open)}.open{color:var(--open)}\
+            .note,.dead,.open{margin:.1rem 0;font-size:13.5px}.note,.dead{color:var(--quiet)}\
+            .scroll .note,.scroll .dead,.scroll .open{padding:.05rem .6rem .05rem 5.2em;\
+            background:var(--soft)}\
             .scroll .note+.note{border:0}.dead{font-style:italic}\
             @media print{nav{display:none}section{content-visibility:visible}a{color:inherit}\
             .line{min-width:0}.line code{\
             white-space:pre-wrap}summary{list-style:none}}\
-            @media (max-width:40rem){.number{width:3em}.scroll .note,.scroll .dead{padding-left:1rem}}\
+            @media (max-width:40rem){.number{width:3em}\
+            .scroll .note,.scroll .dead,.scroll .open{padding-left:1rem}}\
             </style><title>"
 }
 
@@ -193,6 +201,7 @@ pub fn markup_text(markup: Markup) -> &'static str
             <details open><summary>",
         Markup::Line => "<div class='line' id='L",
         Markup::Noted => "<div class='line noted' id='L",
+        Markup::Opened => "<div class='line opened' id='L",
         Markup::Unreached => "<div class='line unreached' id='L",
         Markup::Number => "'><span class='number'>",
         Markup::Code => "</span><code>",
@@ -200,6 +209,7 @@ pub fn markup_text(markup: Markup) -> &'static str
         Markup::Hidden => "<span id='L",
         Markup::HiddenEnd => "'></span>",
         Markup::End => "</details></div></section></main></body></html>\n",
+        Markup::Open => "<p class='open'>",
         Markup::Heading => "<h2>",
         Markup::HeadingEnd => "</h2>\n",
         Markup::Dead => "<p class='dead'>",

@@ -6,7 +6,7 @@ use Rattle.page_pieces.specs.Composed.{composed, composed_piece, piece_for}
 use Rattle.page_pieces.specs.Markup.{composed_markup}
 use Rattle.page_pieces.specs.Pieces.{Piece, fixed, said}
 use Rattle.page_pieces.specs.declared.markup.Markup.{Markup}
-use Rattle.page_pieces.specs.declared.markup.Markup.TheVariants.{AlarmEnd, Line, Noted, Unreached}
+use Rattle.page_pieces.specs.declared.markup.Markup.TheVariants.{AlarmEnd, Line, Noted, Opened, Unreached}
 use Rattle.page_pieces.specs.declared.markup.Markup.TheVariants.{Number, Code, LineEnd, Hidden, HiddenEnd, End}
 use Rattle.source_marks.specs.Marks.{Origin, lines_of}
 use Rattle.report_views.specs.Spots.{Spot}
@@ -47,7 +47,7 @@ none_for b k true = refl
 none_for b k false = none_at b composed_markup k composed_without
 
 byte_none : (b : ℕ) → is_row (composed_piece b) ≡ false
-byte_none b = none_for b (b - 14) (nat_lt b 14)
+byte_none b = none_for b (b - 13) (nat_lt b 13)
 
 composed_none : (text : List ℕ) (rest : List Piece) → rows_in (composed text ++ rest) ≡ rows_in rest
 composed_none [] rest = refl
@@ -69,14 +69,16 @@ rows_all (finding ∷ findings) (spot ∷ spots) notes rest same =
     ap rows_in (append_assoc (alarm_row finding.place.line spot (first_of notes))
     (alarm_rows findings spots (rest_of notes)) rest) ∙ one ∙ (omega arith)
 
-line_none : (number line : ℕ) (shown : List ℕ) (unreached noted is_shown : Bool) (rest : List Piece)
+line_none : (number line : ℕ) (shown : List ℕ) (unreached noted opened is_shown : Bool) (rest : List Piece)
     → rows_in (cond is_shown
-    (fixed (cond unreached Unreached (cond noted Noted Line)) ∷ said (decimal number) ∷ fixed Number ∷ said (decimal line)
-    ∷ fixed Code ∷ said (drop 1 shown) ∷ fixed LineEnd ∷ []) (fixed Hidden ∷ said (decimal number) ∷ fixed HiddenEnd ∷ []) ++ rest) ≡ rows_in rest
-line_none number line shown true noted true rest = refl
-line_none number line shown false true true rest = refl
-line_none number line shown false false true rest = refl
-line_none number line shown unreached noted false rest = refl
+    (fixed (cond unreached Unreached (cond noted Noted (cond opened Opened Line))) ∷ said (decimal number) ∷ fixed Number
+    ∷ said (decimal line) ∷ fixed Code ∷ said (drop 1 shown) ∷ fixed LineEnd ∷ [])
+    (fixed Hidden ∷ said (decimal number) ∷ fixed HiddenEnd ∷ []) ++ rest) ≡ rows_in rest
+line_none number line shown true noted opened true rest = refl
+line_none number line shown false true opened true rest = refl
+line_none number line shown false false true true rest = refl
+line_none number line shown false false false true rest = refl
+line_none number line shown unreached noted opened false rest = refl
 
 lines_none : (number : ℕ) (origins : List Origin) (lines remarks : List (List ℕ)) (rest : List Piece)
     → rows_in (line_rows number origins lines remarks ++ rest) ≡ rows_in rest
@@ -88,7 +90,7 @@ lines_none number (origin ∷ origins) lines remarks rest =
     ap rows_in (append_assoc (shown ++ composed remark) behind rest
     ∙ append_assoc shown (composed remark) (behind ++ rest))
     ∙ line_none number origin.line (first_of lines) (slice_index remark 0 == 16) (slice_index remark 0 == 30)
-    (slice_index (first_of lines) 0 == 43) (composed remark ++ (behind ++ rest))
+    (slice_index remark 0 == 13) (slice_index (first_of lines) 0 == 43) (composed remark ++ (behind ++ rest))
     ∙ composed_none remark (behind ++ rest)
     ∙ lines_none (number + 1) origins (rest_of lines) (rest_of remarks) rest
 

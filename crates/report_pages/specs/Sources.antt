@@ -4,16 +4,17 @@ use Rattle.source_marks.specs.Marks.{Origin}
 use Rattle.page_pieces.specs.Composed.{composed}
 use Rattle.page_pieces.specs.Pieces.{Piece, fixed, said}
 use Rattle.page_pieces.specs.declared.markup.Markup.{Markup}
-use Rattle.page_pieces.specs.declared.markup.Markup.TheVariants.{Line, Noted, Unreached, Number, Code}
+use Rattle.page_pieces.specs.declared.markup.Markup.TheVariants.{Line, Noted, Opened, Unreached, Number, Code}
 use Rattle.page_pieces.specs.declared.markup.Markup.TheVariants.{LineEnd, Hidden, HiddenEnd}
 use Rattle.report_pages.specs.Rows.{first_of, rest_of}
 
--- how a line begins whose remarks are these: marked where the first of them says that no run reaches a place, byte 16, or
--- is a note, byte 30
+-- how a line begins whose remarks are these: marked where the first of them says that no run reaches a place, byte 16,
+-- is a note, byte 30, or one on a place whose meaning C leaves open, byte 13
 abbrev pub line_start : List ℕ → Markup
 line_start remark =
     if slice_index remark 0 == 16 then Unreached
-    else (if slice_index remark 0 == 30 then Noted else Line)
+    else (if slice_index remark 0 == 30 then Noted
+    else (if slice_index remark 0 == 13 then Opened else Line))
 
 -- a line of the text whose line of the file is shown behind `+`, byte 43, or that is not shown, as a line mark is not;
 -- either is there to be led to

@@ -18,6 +18,9 @@ const UNREACHED: u8 = 16;
 /// The byte that stands for the begin of a note.
 const NOTE: u8 = 30;
 
+/// The byte that stands for the begin of a note on a place whose meaning C leaves open.
+const OPEN: u8 = 13;
+
 /// How a line begins whose remarks are these.
 fn line_start(remark: &[u8]) -> Markup
     ensures { result ≡ line_start remark.now }
@@ -29,7 +32,10 @@ fn line_start(remark: &[u8]) -> Markup
         return Markup::Unreached;
     }
     if remark[0] == NOTE {
-        Markup::Noted
+        return Markup::Noted;
+    }
+    if remark[0] == OPEN {
+        Markup::Opened
     } else {
         Markup::Line
     }
