@@ -44,8 +44,9 @@ fn push_of_lvalue(lvalue: &Lvalue, constants: &mut Vec<i128>) -> Result<(), NoMe
             push_of_value(pointer, constants)?;
             push_of_value(index, constants)
         }
-        Lvalue::Pointed { pointer, .. } => push_of_value(pointer, constants),
-        Lvalue::Arrow { pointer, .. } => push_of_value(pointer, constants),
+        Lvalue::Pointed { pointer, .. } | Lvalue::Arrow { pointer, .. } => {
+            push_of_value(pointer, constants)
+        }
         Lvalue::Member { structure, .. } => push_of_lvalue(structure, constants),
     }
 }
@@ -57,32 +58,28 @@ fn push_of_value(value: &Rvalue, constants: &mut Vec<i128>) -> Result<(), NoMemo
     ensures { OnOk result (constants.new.items ≡ constants.old.items ++ constants_of (rvalue_tree value.now)) }
 {
     match value {
-        Rvalue::Constant { value, .. } => push(constants, *value),
-        Rvalue::Folded { value, .. } => push(constants, *value),
-        Rvalue::Null { .. } => Ok(()),
-        Rvalue::Load { lvalue, .. } => push_of_lvalue(lvalue, constants),
-        Rvalue::Address { lvalue, .. } => push_of_lvalue(lvalue, constants),
-        Rvalue::Structure { lvalue } => push_of_lvalue(lvalue, constants),
-        Rvalue::Same { value, .. } => push_of_value(value, constants),
-        Rvalue::Unary { value, .. } => push_of_value(value, constants),
-        Rvalue::Binary { left, right, .. } => {
-            push_of_value(left, constants)?;
-            push_of_value(right, constants)
-        }
-        Rvalue::Pointers { left, right, .. } => {
-            push_of_value(left, constants)?;
-            push_of_value(right, constants)
-        }
-        Rvalue::Move { pointer, index, .. } => {
-            push_of_value(pointer, constants)?;
-            push_of_value(index, constants)
-        }
-        Rvalue::Not { value, .. } => push_of_value(value, constants),
-        Rvalue::And { left, right, .. } => {
-            push_of_value(left, constants)?;
-            push_of_value(right, constants)
-        }
-        Rvalue::Or { left, right, .. } => {
+        Rvalue::Constant { value, .. } | Rvalue::Folded { value, .. } => push(constants, *value),
+        Rvalue::Null { .. } | Rvalue::Probe { .. } => Ok(()),
+        Rvalue::Load { lvalue, .. }
+        | Rvalue::Address { lvalue, .. }
+        | Rvalue::Structure { lvalue }
+        | Rvalue::Step { target: lvalue, .. }
+        | Rvalue::StepMove { target: lvalue, .. } => push_of_lvalue(lvalue, constants),
+        Rvalue::Same { value, .. }
+        | Rvalue::Unary { value, .. }
+        | Rvalue::Not { value, .. }
+        | Rvalue::Convert { value, .. }
+        | Rvalue::Discard { value, .. } => push_of_value(value, constants),
+        Rvalue::Binary { left, right, .. }
+        | Rvalue::Pointers { left, right, .. }
+        | Rvalue::And { left, right, .. }
+        | Rvalue::Or { left, right, .. }
+        | Rvalue::Comma { left, right, .. }
+        | Rvalue::Move {
+            pointer: left,
+            index: right,
+            ..
+        } => {
             push_of_value(left, constants)?;
             push_of_value(right, constants)
         }
@@ -96,32 +93,17 @@ fn push_of_value(value: &Rvalue, constants: &mut Vec<i128>) -> Result<(), NoMemo
             push_of_value(first, constants)?;
             push_of_value(second, constants)
         }
-        Rvalue::Assign { target, value, .. } => {
+        Rvalue::Assign { target, value, .. }
+        | Rvalue::Compound { target, value, .. }
+        | Rvalue::CompoundMove { target, value, .. } => {
             push_of_lvalue(target, constants)?;
             push_of_value(value, constants)
         }
-        Rvalue::Compound { target, value, .. } => {
-            push_of_lvalue(target, constants)?;
-            push_of_value(value, constants)
-        }
-        Rvalue::CompoundMove { target, value, .. } => {
-            push_of_lvalue(target, constants)?;
-            push_of_value(value, constants)
-        }
-        Rvalue::Step { target, .. } => push_of_lvalue(target, constants),
-        Rvalue::StepMove { target, .. } => push_of_lvalue(target, constants),
         Rvalue::Call { arguments, .. } => push_all(arguments, constants),
         Rvalue::Input { low, high, .. } => {
             push(constants, *low)?;
             push(constants, *high)
         }
-        Rvalue::Probe { .. } => Ok(()),
-        Rvalue::Comma { left, right, .. } => {
-            push_of_value(left, constants)?;
-            push_of_value(right, constants)
-        }
-        Rvalue::Convert { value, .. } => push_of_value(value, constants),
-        Rvalue::Discard { value, .. } => push_of_value(value, constants),
     }
 }
 

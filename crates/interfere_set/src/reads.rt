@@ -3,6 +3,7 @@ ghost use Rattle.std.specs.Prelude.{◌≡◌, ◌<◌, ℕ, length, IfOk};
 ghost use Rattle.std.specs.Option.{option_copied};
 ghost use Rattle.interfere_set.specs.Stores.{HavePriorities, is_visible, seen_of_task, reader_of, visible, handed};
 ghost use Rattle.interfere_set.specs.Stores.{left_at, value_or_none};
+ghost use Rattle.pointer_dom.specs.Values.{joined_values};
 
 use crate::stores::Store;
 use pointer_dom::AbsValue;
@@ -32,12 +33,35 @@ pub fn seen_at_read(
     let _known = Lattice::is_nothing(weak);
     let mut seen = AbsValue::from_numbers(Strided::empty());
     for (writer, written) in weak.entries() {
-        let more = seen_of_task(
-            alloc, written, *writer, task, held, found, cell, fresh, priorities,
+        seen = seen_with_task(
+            alloc, &seen, written, *writer, task, held, found, cell, fresh, priorities,
         )?;
-        seen = seen.join(alloc, &more)?;
     }
     Ok(seen)
+}
+
+// A value joined with what a task sees in a cell of the weak entries of one task.
+fn seen_with_task(
+    alloc: Global,
+    seen: &AbsValue,
+    written: &Keyed<Keyed<AbsValue>>,
+    writer: u32,
+    task: u32,
+    held: u16,
+    found: u16,
+    cell: u32,
+    fresh: bool,
+    priorities: &[u8],
+) -> Result<AbsValue, NoMemory>
+    requires task { task < length priorities.now }
+    requires writer { writer < length priorities.now }
+    ensures { IfOk result (λ both. both ≡ joined_values seen.now
+        (seen_of_task (reader_of task held found priorities.now) fresh cell writer written.now)) }
+{
+    let more = seen_of_task(
+        alloc, written, writer, task, held, found, cell, fresh, priorities,
+    )?;
+    seen.join(alloc, &more)
 }
 
 // What a task sees in a cell of the weak entries of one task, by held set and cell.

@@ -1,5 +1,6 @@
 //! The store that the tasks share.
 ghost use Rattle.std.specs.Prelude.{◌≡◌, IfOk};
+ghost use Rattle.std.specs.FinMap as map;
 ghost use Rattle.interfere_set.specs.Stores.{Interferences, no_interference, nested_entry};
 ghost use Rattle.pointer_dom.specs.Values.{no_value};
 
@@ -46,8 +47,8 @@ impl Store {
         ensures { result ≡ no_interference }
     {
         Store {
-            weak: Keyed::new(alloc),
-            sync: Keyed::new(alloc),
+            weak: no_entry(alloc),
+            sync: no_entry(alloc),
         }
     }
 
@@ -88,7 +89,7 @@ impl Store {
         let weak = one_entry(alloc, task, u32::from(held), cell, value)?;
         Ok(Store {
             weak,
-            sync: Keyed::new(alloc),
+            sync: no_entry(alloc),
         })
     }
 
@@ -107,10 +108,17 @@ impl Store {
     {
         let sync = one_entry(alloc, task, mutex, cell, value)?;
         Ok(Store {
-            weak: Keyed::new(alloc),
+            weak: no_entry(alloc),
             sync,
         })
     }
+}
+
+// No entry.
+fn no_entry(alloc: Global) -> Nested
+    ensures { result ≡ map.empty }
+{
+    Keyed::new(alloc)
 }
 
 // One entry, none where the value is none.
@@ -124,15 +132,19 @@ fn one_entry(
     ensures none { IfOk result (λ nested. value ≡ no_value → nested ≡ no_interference.weak) }
     ensures some { IfOk result (λ nested. (value ≡ no_value → ⊥) → nested ≡ nested_entry task set cell value) }
 {
-    let mut nested = Keyed::new(alloc);
-    if !value.is_nothing() {
-        let mut cells = Keyed::new(alloc);
-        cells.put(cell, value)?;
-        let mut sets = Keyed::new(alloc);
-        sets.put(set, cells)?;
-        nested.put(task, sets)?;
-    }
-    Ok(nested)
+    let cells = table_of(alloc, cell, value)?;
+    let sets = table_of(alloc, set, cells)?;
+    table_of(alloc, task, sets)
+}
+
+// The table with this entry, and with none where the value is nothing.
+fn table_of<V: Lattice>(alloc: Global, key: u32, value: V) -> Result<Keyed<V>, NoMemory>
+    ensures none { IfOk result (λ table. V.nothing value → table ≡ map.empty) }
+    ensures some { IfOk result (λ table. (V.nothing value → ⊥) → table ≡ map.insert map.empty key value) }
+{
+    let mut table = Keyed::new(alloc);
+    table.put(key, value)?;
+    Ok(table)
 }
 
 impl Lattice for Store {

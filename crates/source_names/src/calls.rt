@@ -7,7 +7,7 @@ use tm_typed::{
     LocalObject, Lvalue, Place, Rvalue, TypedBody, TypedFile, TypedStatement, TypedSwitchPart,
 };
 
-// A call of a function, by its number among the calls there, with its place.
+// A call of a function, by its number among the calls there, with its place. They are found in any order, and sorted.
 #[derive(Clone, Copy, PartialEq, Eq, PartialOrd, Ord)]
 struct Site {
     site: u32,
@@ -36,8 +36,9 @@ fn push_of_lvalue(lvalue: &Lvalue, sites: &mut Vec<Site>) -> Result<(), NoMemory
             push_of_value(pointer, sites)?;
             push_of_value(index, sites)
         }
-        Lvalue::Pointed { pointer, .. } => push_of_value(pointer, sites),
-        Lvalue::Arrow { pointer, .. } => push_of_value(pointer, sites),
+        Lvalue::Pointed { pointer, .. } | Lvalue::Arrow { pointer, .. } => {
+            push_of_value(pointer, sites)
+        }
         Lvalue::Member { structure, .. } => push_of_lvalue(structure, sites),
     }
 }
@@ -51,37 +52,28 @@ fn push_of_value(value: &Rvalue, sites: &mut Vec<Site>) -> Result<(), NoMemory> 
         | Rvalue::Null { .. }
         | Rvalue::Input { .. }
         | Rvalue::Probe { .. } => Ok(()),
-        Rvalue::Load { lvalue, .. } => push_of_lvalue(lvalue, sites),
-        Rvalue::Address { lvalue, .. } => push_of_lvalue(lvalue, sites),
-        Rvalue::Structure { lvalue } => push_of_lvalue(lvalue, sites),
-        Rvalue::Same { value, .. } => push_of_value(value, sites),
-        Rvalue::Unary { value, .. } => push_of_value(value, sites),
-        Rvalue::Not { value, .. } => push_of_value(value, sites),
-        Rvalue::Convert { value, .. } => push_of_value(value, sites),
-        Rvalue::Discard { value, .. } => push_of_value(value, sites),
-        Rvalue::Binary { left, right, .. } => {
+        Rvalue::Load { lvalue, .. }
+        | Rvalue::Address { lvalue, .. }
+        | Rvalue::Structure { lvalue }
+        | Rvalue::Step { target: lvalue, .. }
+        | Rvalue::StepMove { target: lvalue, .. } => push_of_lvalue(lvalue, sites),
+        Rvalue::Same { value, .. }
+        | Rvalue::Unary { value, .. }
+        | Rvalue::Not { value, .. }
+        | Rvalue::Convert { value, .. }
+        | Rvalue::Discard { value, .. } => push_of_value(value, sites),
+        Rvalue::Binary { left, right, .. }
+        | Rvalue::Pointers { left, right, .. }
+        | Rvalue::And { left, right, .. }
+        | Rvalue::Or { left, right, .. }
+        | Rvalue::Comma { left, right, .. }
+        | Rvalue::Move {
+            pointer: left,
+            index: right,
+            ..
+        } => {
             push_of_value(left, sites)?;
             push_of_value(right, sites)
-        }
-        Rvalue::Pointers { left, right, .. } => {
-            push_of_value(left, sites)?;
-            push_of_value(right, sites)
-        }
-        Rvalue::And { left, right, .. } => {
-            push_of_value(left, sites)?;
-            push_of_value(right, sites)
-        }
-        Rvalue::Or { left, right, .. } => {
-            push_of_value(left, sites)?;
-            push_of_value(right, sites)
-        }
-        Rvalue::Comma { left, right, .. } => {
-            push_of_value(left, sites)?;
-            push_of_value(right, sites)
-        }
-        Rvalue::Move { pointer, index, .. } => {
-            push_of_value(pointer, sites)?;
-            push_of_value(index, sites)
         }
         Rvalue::Conditional {
             condition,
@@ -93,20 +85,12 @@ fn push_of_value(value: &Rvalue, sites: &mut Vec<Site>) -> Result<(), NoMemory> 
             push_of_value(first, sites)?;
             push_of_value(second, sites)
         }
-        Rvalue::Assign { target, value, .. } => {
+        Rvalue::Assign { target, value, .. }
+        | Rvalue::Compound { target, value, .. }
+        | Rvalue::CompoundMove { target, value, .. } => {
             push_of_lvalue(target, sites)?;
             push_of_value(value, sites)
         }
-        Rvalue::Compound { target, value, .. } => {
-            push_of_lvalue(target, sites)?;
-            push_of_value(value, sites)
-        }
-        Rvalue::CompoundMove { target, value, .. } => {
-            push_of_lvalue(target, sites)?;
-            push_of_value(value, sites)
-        }
-        Rvalue::Step { target, .. } => push_of_lvalue(target, sites),
-        Rvalue::StepMove { target, .. } => push_of_lvalue(target, sites),
         Rvalue::Call {
             site,
             arguments,
@@ -128,6 +112,16 @@ fn push_of_optional(value: &Option<Box<Rvalue>>, sites: &mut Vec<Site>) -> Resul
         None => Ok(()),
         Some(value) => push_of_value(value, sites),
     }
+}
+
+// Those of the condition and the step of a `for`.
+fn push_of_header(
+    condition: &Option<Box<Rvalue>>,
+    step: &Option<Box<Rvalue>>,
+    sites: &mut Vec<Site>,
+) -> Result<(), NoMemory> {
+    push_of_optional(condition, sites)?;
+    push_of_optional(step, sites)
 }
 
 // Those of an initialiser.
@@ -185,8 +179,9 @@ fn push_of_statements(
 #[cycle(statement_sites)]
 fn push_of_statement(statement: &TypedStatement, sites: &mut Vec<Site>) -> Result<(), NoMemory> {
     match statement {
-        TypedStatement::Evaluate(value) => push_of_optional(value, sites),
-        TypedStatement::Return(value) => push_of_optional(value, sites),
+        TypedStatement::Evaluate(value) | TypedStatement::Return(value) => {
+            push_of_optional(value, sites)
+        }
         TypedStatement::Declare(locals) => push_of_locals(locals, sites),
         TypedStatement::Block(statements) => push_of_statements(statements, sites),
         TypedStatement::If {
@@ -201,13 +196,9 @@ fn push_of_statement(statement: &TypedStatement, sites: &mut Vec<Site>) -> Resul
                 Some(statement) => push_of_statement(statement, sites),
             }
         }
-        TypedStatement::While { condition, body } => {
+        TypedStatement::While { condition, body } | TypedStatement::Do { body, condition } => {
             push_of_value(condition, sites)?;
             push_of_statement(body, sites)
-        }
-        TypedStatement::Do { body, condition } => {
-            push_of_statement(body, sites)?;
-            push_of_value(condition, sites)
         }
         TypedStatement::For {
             first,
@@ -215,9 +206,8 @@ fn push_of_statement(statement: &TypedStatement, sites: &mut Vec<Site>) -> Resul
             step,
             body,
         } => {
+            push_of_header(condition, step, sites)?;
             push_of_statement(first, sites)?;
-            push_of_optional(condition, sites)?;
-            push_of_optional(step, sites)?;
             push_of_statement(body, sites)
         }
         TypedStatement::Switch { value, parts, .. } => {

@@ -1,1 +1,2 @@
 pub mod Rechecks
+pub mod AlongEdges

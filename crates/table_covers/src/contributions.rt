@@ -2,7 +2,7 @@
 ghost use Rattle.std.specs.Prelude.{◌≡◌, ◌<◌, ℕ, length, IfOk};
 ghost use Rattle.table_covers.specs.Systems.{from_of};
 ghost use Rattle.table_covers.specs.Solutions.{at, AreFitting};
-ghost use Rattle.table_covers.specs.Passes.{added_below};
+ghost use Rattle.table_covers.specs.Passes.{added_below, with_added};
 
 use crate::equations::Equations;
 use std::alloc::Global;
@@ -49,11 +49,33 @@ pub fn joined_contributions<C: Contributions>(
 {
     let mut added = system.none(alloc)?;
     for edge in 0..system.links().len() {
-        let from = system.links()[edge].from;
-        if let Some(state) = &table[from] {
-            let more = system.contribution(alloc, edge, state)?;
-            added = added.join(alloc, &more)?;
-        }
+        added = with_contribution(alloc, system, table, edge, added)?;
     }
     Ok(added)
+}
+
+// What was contributed, and what one edge contributes, joined.
+fn with_contribution<C: Contributions>(
+    alloc: Global,
+    system: &C,
+    table: &[Option<C::State>],
+    edge: usize,
+    added: C::Added,
+) -> Result<C::Added, NoMemory>
+    requires system { C.is_system system.now }
+    requires nodes { length table.now ≡ (C.system_of system.now).node_count }
+    requires fits { AreFitting C.State.Lattice (C.fits system.now) (C.system_of system.now) (at table.now) }
+    requires edge { edge < length (C.system_of system.now).links }
+    ensures { IfOk result (λ all. all ≡ with_added (C.system_of system.now).links (C.nothing_added system.now)
+        (C.contributed system.now) C.Added.joined edge added
+        (at table.now (from_of (C.system_of system.now).links edge))) }
+{
+    let from = system.links()[edge].from;
+    match &table[from] {
+        None => Ok(added),
+        Some(state) => {
+            let more = system.contribution(alloc, edge, state)?;
+            added.join(alloc, &more)
+        }
+    }
 }

@@ -3,7 +3,7 @@ ghost use Rattle.std.specs.Prelude.{◌≡◌, ◌<◌, ◌↔◌, ℕ, suc, len
 ghost use Rattle.std.specs.Prelude.{false};
 ghost use Rattle.tm_lattice.specs.Tables.{IsBelow, joined_at};
 ghost use Rattle.table_covers.specs.Solutions.{at, along, gathered, AreFitting, IsCovered, IsEdgeCovered, IsSolution};
-ghost use Rattle.table_covers.specs.Solutions.{IsFirstUncovered};
+ghost use Rattle.table_covers.specs.Solutions.{IsFirstUncovered, IsEntryCovered, entry_at};
 
 use crate::equations::Equations;
 use crate::tables::no_states;
@@ -36,18 +36,50 @@ pub fn first_uncovered<E: Equations>(
     ensures first { IfOk result (λ first. IfSome first
         (IsFirstUncovered E.State.Lattice (E.fits system.now) (E.system_of system.now) (at table.now))) }
 {
-    let entry = system.first(alloc)?;
-    if !is_below(&entry, &table[0]) {
+    if !is_entry_covered(alloc, system, table)? {
         return Ok(Some(Uncovered::Entry));
     }
-    let arrived = arrivals(alloc, system, table)?;
-    let covered = covered_heads(alloc, system, table, &arrived)?;
+    let covered = covered_nodes(alloc, system, table)?;
     for edge in 0..system.links().len() {
         if !is_edge_covered(alloc, system, table, &covered, edge)? {
             return Ok(Some(Uncovered::Edge(edge)));
         }
     }
     Ok(None)
+}
+
+// Whether the table is at least what stands at node 0 besides what its edges bring.
+fn is_entry_covered<E: Equations>(
+    alloc: Global,
+    system: &E,
+    table: &[Option<E::State>],
+) -> Result<bool, NoMemory>
+    requires system { E.is_system system.now }
+    requires nodes { length table.now ≡ (E.system_of system.now).node_count }
+    ensures { IfOk result (λ yes. IsTrue yes
+        ↔ IsEntryCovered E.State.Lattice (E.fits system.now) (E.system_of system.now) (at table.now)) }
+{
+    let entry = system.first(alloc)?;
+    Ok(is_below(&entry, &table[0]))
+}
+
+// Whether each head is covered, from the join of what arrives there.
+fn covered_nodes<E: Equations>(
+    alloc: Global,
+    system: &E,
+    table: &[Option<E::State>],
+) -> Result<Vec<bool>, NoMemory>
+    requires system { E.is_system system.now }
+    requires nodes { length table.now ≡ (E.system_of system.now).node_count }
+    requires fits { AreFitting E.State.Lattice (E.fits system.now) (E.system_of system.now) (at table.now) }
+    ensures nodes { IfOk result (λ covered. length covered.items ≡ (E.system_of system.now).node_count) }
+    ensures covered { IfOk result (λ covered.
+        (n : ℕ) → n < (E.system_of system.now).node_count → (E.system_of system.now).heads n ≡ true
+        → (IsTrue (slice_index_or covered.items n false)
+        ↔ IsCovered E.State.Lattice (E.fits system.now) (E.system_of system.now) (at table.now) n)) }
+{
+    let arrived = arrivals(alloc, system, table)?;
+    covered_heads(alloc, system, table, &arrived)
 }
 
 // Whether the one state is below the other, where None is bottom.
@@ -77,11 +109,23 @@ fn arrivals<E: Equations>(
         ≡ gathered E.State.Lattice (E.fits system.now) (E.system_of system.now)
         (length (E.system_of system.now).links) n (at table.now)) }
 {
-    let mut arrived = no_states(alloc, system.nodes())?;
-    arrived[0] = system.first(alloc)?;
+    let mut arrived = entered(alloc, system)?;
     for edge in 0..system.links().len() {
         arrive(alloc, system, table, &mut arrived, edge)?;
     }
+    Ok(arrived)
+}
+
+// What the entry brings to each node.
+fn entered<E: Equations>(alloc: Global, system: &E) -> Result<Vec<Option<E::State>>, NoMemory>
+    requires { E.is_system system.now }
+    ensures nodes { IfOk result (λ arrived. length arrived.items ≡ (E.system_of system.now).node_count) }
+    ensures all { IfOk result (λ arrived. (n : ℕ) → slice_index_or arrived.items n None
+        ≡ entry_at (E.system_of system.now).entry n) }
+{
+    let first = system.first(alloc)?;
+    let mut arrived = no_states(alloc, system.nodes())?;
+    arrived[0] = first;
     Ok(arrived)
 }
 
@@ -148,7 +192,7 @@ fn along_edge<E: Equations>(
     let from = system.links()[edge].from;
     match &table[from] {
         None => Ok(None),
-        Some(state) => Ok(system.apply(alloc, edge, state)?),
+        Some(state) => system.apply(alloc, edge, state),
     }
 }
 

@@ -1,5 +1,5 @@
 -- The list that the merge of two lists of entries makes, step by step, and what it has at each key.
-use Rattle.std.proofs.Common.{◌≡◌, ℕ, zero, suc, ◌+◌, ◌<◌, List, [], ◌∷◌, ◌++◌, length, get_or, drop, Option, Some, None, T, refl, sym, ap, ◌∙◌, ◌⊎◌, inl, inr, arith, append_assoc, append-nil, add-one, length-drop, get_or-drop}
+use Rattle.std.proofs.Common.{◌≡◌, ℕ, zero, suc, ◌+◌, ◌-◌, ◌<◌, ◌≤◌, List, [], ◌∷◌, ◌++◌, length, get_or, drop, Option, Some, None, Result, Ok, IfOk, T, refl, sym, ap, subst, ◌∙◌, ◌⊎◌, inl, inr, arith, append_assoc, append-nil, add-one, length-drop, get_or-drop}
 use Rattle.std.specs.Ordering.{nat_cmp}
 use Rattle.std.specs.declared.cmp.Ordering.TheVariants.{Less, Equal, Greater}
 use Rattle.std.proofs.lemmas.Bool.{cases_eq, cases_order}
@@ -19,6 +19,10 @@ cmp_equal k l same = grind (arith, nat_tests)
 
 pub cmp_greater : (k l : ℕ) → l < k → nat_cmp k l ≡ Greater
 cmp_greater k l gt = grind (arith, nat_tests)
+
+-- the value that has come is the one that was asked for
+pub came : {V E : Type 0} (value : Result V E) (v w : V) → value ≡ Ok v → IfOk value (λ x. x ≡ w) → v ≡ w
+came value v w is asked = subst (λ r. IfOk r (λ x. x ≡ w)) is asked
 
 module _ {V : Type 0} (join : V → V → V) where
   -- the entries from a on, merged with other, where rest merges those after a
@@ -90,6 +94,28 @@ module _ {V : Type 0} (join : V → V → V) where
 
     pub greater_within : order_of_first (drop i one) (drop j other) ≡ Some Greater → j < length other
     greater_within order = there j other (other_there (drop i one) (drop j other) (inl order))
+
+    pub less_at : order_of_first (drop i one) (drop j other) ≡ Some Less → i ≤ length one
+    less_at order = omega (arith, less_within order)
+
+    pub equal_at : order_of_first (drop i one) (drop j other) ≡ Some Equal → (i ≤ length one) × (j ≤ length other)
+    equal_at order = let within = equal_within order in (omega (arith, within.0), omega (arith, within.1))
+
+    pub greater_at : order_of_first (drop i one) (drop j other) ≡ Some Greater → j ≤ length other
+    greater_at order = omega (arith, greater_within order)
+
+    -- fewer entries are left
+    pub less_left : order_of_first (drop i one) (drop j other) ≡ Some Less
+        → (length one - (i + 1)) + (length other - j) < (length one - i) + (length other - j)
+    less_left order = omega (arith, less_within order)
+
+    pub equal_left : order_of_first (drop i one) (drop j other) ≡ Some Equal
+        → (length one - (i + 1)) + (length other - (j + 1)) < (length one - i) + (length other - j)
+    equal_left order = let within = equal_within order in omega (arith, within.0, within.1)
+
+    pub greater_left : order_of_first (drop i one) (drop j other) ≡ Some Greater
+        → (length one - i) + (length other - (j + 1)) < (length one - i) + (length other - j)
+    greater_left order = omega (arith, greater_within order)
 
     pub step_less : (a : ℕ × V) → order_of_first (drop i one) (drop j other) ≡ Some Less → a ≡ get_or one i a
         → merged (drop i one) (drop j other) ≡ a ∷ merged (drop (i + 1) one) (drop j other)

@@ -5,7 +5,7 @@ ghost use Rattle.std.specs.Option.{option_copied};
 ghost use Rattle.std.specs.Ordering.{nat_cmp};
 ghost use Rattle.std.specs.FinMap as map;
 ghost use Rattle.tm_lattice.specs.Tables.{IsTableBelow, IsPast, IsNext, with_entry, selected_table};
-ghost use Rattle.tm_lattice.specs.reading.Listed.{IsAt, IsGapFor, IsFirstFrom, order_of_first};
+ghost use Rattle.tm_lattice.specs.reading.Listed.{IsAt, IsGapFor, IsFirstFrom, IsPushed, order_of_first};
 
 use crate::lattices::Lattice;
 use crate::memory::NoMemory;
@@ -228,16 +228,16 @@ impl<V: Lattice> Lattice for Keyed<V> {
         while let Some(order) = first_of(one, i, other, j) {
             match order {
                 Ordering::Less => {
-                    both.push((one[i].0, one[i].1.copied(alloc)?))?;
+                    push_entry(&mut both, one[i].0, one[i].1.copied(alloc))?;
                     i += 1;
                 }
                 Ordering::Equal => {
-                    both.push((one[i].0, one[i].1.join(alloc, &other[j].1)?))?;
+                    push_entry(&mut both, one[i].0, one[i].1.join(alloc, &other[j].1))?;
                     i += 1;
                     j += 1;
                 }
                 Ordering::Greater => {
-                    both.push((other[j].0, other[j].1.copied(alloc)?))?;
+                    push_entry(&mut both, other[j].0, other[j].1.copied(alloc))?;
                     j += 1;
                 }
             }
@@ -303,5 +303,22 @@ fn first_of<V>(one: &[(u32, V)], i: usize, other: &[(u32, V)], j: usize) -> Opti
         (Some(_), None) => Some(Ordering::Less),
         (None, Some(_)) => Some(Ordering::Greater),
         (Some(a), Some(b)) => Some(a.0.cmp(&b.0)),
+    }
+}
+
+// Adds an entry, if its value has come.
+fn push_entry<V: Drop>(
+    entries: &mut Vec<(u32, V)>,
+    key: u32,
+    value: Result<V, NoMemory>,
+) -> Result<(), NoMemory>
+    ensures { OnOk result (IsPushed entries.old.items key value entries.new.items) }
+{
+    match value {
+        Ok(value) => {
+            entries.push((key, value))?;
+            Ok(())
+        }
+        Err(refused) => Err(refused),
     }
 }

@@ -200,143 +200,140 @@ impl Drop for Rvalue {
     fn drop(self) {
         match self {
             Rvalue::Constant {
-                of: _of,
-                value: _value,
-                place: _place,
-            } => {}
+                of: _,
+                value: _,
+                place: _,
+            }
+            | Rvalue::Null { place: _ }
+            | Rvalue::Input {
+                low: _,
+                high: _,
+                place: _,
+            }
+            | Rvalue::Probe { mutex: _, place: _ } => {}
             Rvalue::Folded {
+                value: _,
+                form: _value,
+            }
+            | Rvalue::Same {
                 value: _value,
-                form: _form,
+                place: _,
+            }
+            | Rvalue::Unary {
+                operator: _,
+                of: _,
+                value: _value,
+                place: _,
+            }
+            | Rvalue::Not {
+                value: _value,
+                place: _,
+            }
+            | Rvalue::Convert {
+                from: _,
+                to: _,
+                value: _value,
+                place: _,
+            }
+            | Rvalue::Discard {
+                value: _value,
+                place: _,
             } => {}
-            Rvalue::Null { place: _place } => {}
             Rvalue::Load {
-                scalar: _scalar,
-                volatile: _volatile,
+                scalar: _,
+                volatile: _,
                 lvalue: _lvalue,
-            } => {}
-            Rvalue::Address {
+            }
+            | Rvalue::Address {
                 lvalue: _lvalue,
-                place: _place,
-            } => {}
-            Rvalue::Structure { lvalue: _lvalue } => {}
-            Rvalue::Same {
-                value: _value,
-                place: _place,
-            } => {}
-            Rvalue::Unary {
-                operator: _operator,
-                of: _of,
-                value: _value,
-                place: _place,
+                place: _,
+            }
+            | Rvalue::Structure { lvalue: _lvalue }
+            | Rvalue::Step {
+                step: _,
+                cell: _,
+                of: _,
+                volatile: _,
+                target: _lvalue,
+                place: _,
+            }
+            | Rvalue::StepMove {
+                step: _,
+                cells: _,
+                class: _,
+                target: _lvalue,
+                place: _,
             } => {}
             Rvalue::Binary {
-                operator: _operator,
-                of: _of,
+                operator: _,
+                of: _,
                 left: _left,
                 right: _right,
-                place: _place,
-            } => {}
-            Rvalue::Pointers {
-                equal: _equal,
+                place: _,
+            }
+            | Rvalue::Pointers {
+                equal: _,
                 left: _left,
                 right: _right,
-                place: _place,
-            } => {}
-            Rvalue::Move {
-                minus: _minus,
-                cells: _cells,
-                index_first: _index_first,
-                pointer: _pointer,
-                index: _index,
-                place: _place,
-            } => {}
-            Rvalue::Not {
-                value: _value,
-                place: _place,
-            } => {}
-            Rvalue::And {
+                place: _,
+            }
+            | Rvalue::Move {
+                minus: _,
+                cells: _,
+                index_first: _,
+                pointer: _left,
+                index: _right,
+                place: _,
+            }
+            | Rvalue::And {
                 left: _left,
                 right: _right,
-                place: _place,
-            } => {}
-            Rvalue::Or {
+                place: _,
+            }
+            | Rvalue::Or {
                 left: _left,
                 right: _right,
-                place: _place,
+                place: _,
+            }
+            | Rvalue::Comma {
+                left: _left,
+                right: _right,
+                place: _,
             } => {}
             Rvalue::Conditional {
                 condition: _condition,
                 first: _first,
                 second: _second,
-                place: _place,
+                place: _,
             } => {}
             Rvalue::Assign {
-                scalar: _scalar,
+                scalar: _,
                 target: _target,
                 value: _value,
-                place: _place,
-            } => {}
-            Rvalue::Compound {
-                operator: _operator,
-                cell: _cell,
-                of: _of,
-                volatile: _volatile,
+                place: _,
+            }
+            | Rvalue::Compound {
+                operator: _,
+                cell: _,
+                of: _,
+                volatile: _,
                 target: _target,
                 value: _value,
-                place: _place,
-            } => {}
-            Rvalue::CompoundMove {
-                minus: _minus,
-                cells: _cells,
-                class: _class,
+                place: _,
+            }
+            | Rvalue::CompoundMove {
+                minus: _,
+                cells: _,
+                class: _,
                 target: _target,
                 value: _value,
-                place: _place,
-            } => {}
-            Rvalue::Step {
-                step: _step,
-                cell: _cell,
-                of: _of,
-                volatile: _volatile,
-                target: _target,
-                place: _place,
-            } => {}
-            Rvalue::StepMove {
-                step: _step,
-                cells: _cells,
-                class: _class,
-                target: _target,
-                place: _place,
+                place: _,
             } => {}
             Rvalue::Call {
-                function: _function,
-                site: _site,
+                function: _,
+                site: _,
                 arguments: _arguments,
-                place: _place,
-            } => {}
-            Rvalue::Input {
-                low: _low,
-                high: _high,
-                place: _place,
-            } => {}
-            Rvalue::Probe {
-                mutex: _mutex,
-                place: _place,
-            } => {}
-            Rvalue::Comma {
-                left: _left,
-                right: _right,
-                place: _place,
-            } => {}
-            Rvalue::Convert {
-                from: _from,
-                to: _to,
-                value: _value,
-                place: _place,
-            } => {}
-            Rvalue::Discard {
-                value: _value,
-                place: _place,
+                place: _,
             } => {}
         }
     }

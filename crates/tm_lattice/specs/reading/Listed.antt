@@ -1,6 +1,6 @@
 -- The list of entries that a keyed table keeps, for its invariant and for the private searches in it. No public
 -- contract cites this.
-use Rattle.std.specs.Prelude.{◌≡◌, ℕ, ◌<◌, ◌≤◌, List, [], ◌∷◌, length, slice_index_or, Option, Some, None, T}
+use Rattle.std.specs.Prelude.{◌≡◌, ℕ, ◌<◌, ◌≤◌, List, [], ◌∷◌, ◌++◌, length, slice_index_or, Option, Some, None, Result, Ok, T}
 use Rattle.std.specs.Ordering.{nat_cmp}
 use Rattle.std.specs.declared.cmp.Ordering.{Ordering}
 use Rattle.std.specs.declared.cmp.Ordering.TheVariants.{Less, Greater}
@@ -39,3 +39,9 @@ module _ {V : Type 0} where
   order_of_first (a ∷ one) [] = Some Less
   order_of_first [] (b ∷ other) = Some Greater
   order_of_first (a ∷ one) (b ∷ other) = Some (nat_cmp a.0 b.0)
+
+  -- an entry with this key is added, whose value has come
+  pub record IsPushed {E : Type 0} (es : List (ℕ × V)) (key : ℕ) (value : Result V E) (es' : List (ℕ × V)) : Type 0 where
+    pub entry : V
+    pub came : value ≡ Ok entry
+    pub added : es' ≡ es ++ (key, entry) ∷ []

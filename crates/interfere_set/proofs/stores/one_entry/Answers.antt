@@ -1,18 +1,17 @@
-use Rattle.std.proofs.Common.{◌≡◌, ◌∙◌, ap}
+use Rattle.std.proofs.Common.{◌≡◌}
+use Rattle.std.proofs.lemmas.Result.{IfOk-weaker}
 use Rattle.std.specs.FinMap.{insert, empty}
-use Rattle.interfere_set.proofs.Entries.{one_entry}
+use Rattle.pointer_dom.specs.Values.{no_value}
+use Rattle.interfere_set.specs.Stores.{nested_entry}
+use Rattle.interfere_set.proofs.Entries.{three_entries}
 use Rattle.interfere_set.proofs.stores.one_entry.Goals as goal
-use Rattle.interfere_set.proofs.stores.one_entry.Goals.{then-not-is_nothing+in_ok-put+in_ok-put-2+in_ok-put-3, else-not-is_nothing}
+
+pub returns-clause-none : goal.returns-clause-none
+returns-clause-none c = IfOk-weaker c.table_of-3.result (λ t. c.in_ok-sets.sets ≡ empty → t ≡ empty) (λ t. c.args.value ≡ no_value → t ≡ empty)
+    (λ t most none. most (c.in_ok-sets.ensures.none (c.in_ok-cells.ensures.none none))) c.table_of-3.ensures.none
 
 pub returns-clause-some : goal.returns-clause-some
-returns-clause-some c = λ some. elim c.if-not-is_nothing.branch [
-  | then-not-is_nothing+in_ok-put+in_ok-put-2+in_ok-put-3 w ↦
-      let value = c.args.value in
-      let cells = w.put.new.self in
-      let sets = w.put-then-not-is_nothing.new.self in
-      let one : cells ≡ insert empty c.args.cell value = w.in_ok-put.ensures.written some ∙ ap (λ t. insert t c.args.cell value) w.new-cells.ensures in
-      let two : sets ≡ insert empty c.args.set cells = w.in_ok-put-2.ensures.written (one_entry c.args.cell value cells one) ∙ ap (λ t. insert t c.args.set cells) w.new-sets.ensures in
-      let three = w.in_ok-put-3.ensures.written (one_entry c.args.set cells sets two) ∙ ap (λ t. insert t c.args.task sets) c.new-nested.ensures in
-      w.nested-is ∙ three ∙ ap (insert empty c.args.task) (two ∙ ap (insert empty c.args.set) one)
-  | else-not-is_nothing w ↦ absurd (some (c.is_nothing.ensures.nothing.0 w.if-not-is_nothing.false))
-]
+returns-clause-some c = IfOk-weaker c.table_of-3.result (λ t. (c.in_ok-sets.sets ≡ empty → ⊥) → t ≡ insert empty c.args.task c.in_ok-sets.sets)
+    (λ t. (c.args.value ≡ no_value → ⊥) → t ≡ nested_entry c.args.task c.args.set c.args.cell c.args.value)
+    (λ t most some. three_entries c.args.task c.args.set c.args.cell c.args.value c.in_ok-cells.cells c.in_ok-sets.sets t (c.in_ok-cells.ensures.some some) c.in_ok-sets.ensures.some most)
+    c.table_of-3.ensures.some

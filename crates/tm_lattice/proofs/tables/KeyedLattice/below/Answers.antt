@@ -1,7 +1,8 @@
-use Rattle.std.proofs.Common.{◌≡◌, ◌∙◌, Some, None, ap, sym, drop}
+use Rattle.std.proofs.Common.{◌≡◌, ◌∙◌, Some, None, ap, sym, drop, arith}
 use Rattle.std.specs.declared.cmp.Ordering.TheVariants.{Less, Equal, Greater}
 use Rattle.std.proofs.lemmas.Bool.{false≢true}
 use Rattle.tm_lattice.specs.reading.Listed.{order_of_first}
+use Rattle.tm_lattice.proofs.Merging.{equal_within, greater_within, equal_at, equal_left, greater_left}
 use Rattle.tm_lattice.proofs.Comparing.{stop_less, stop_equal, go_equal, go_greater, all_compared, read_leq, told_no, told_yes}
 use Rattle.tm_lattice.proofs.tables.KeyedLattice.below.Goals as goal
 
@@ -52,3 +53,31 @@ returns g c =
     told_yes leq one other c.self.inside.entries.items c.other.inside.entries.items c.args.self.now c.args.other.now c.as_slice-one.ensures.value c.as_slice-other.ensures.value
     c.self.invariant.sorted c.other.invariant.sorted c.self.view_is c.other.view_is
     (all_compared leq one other c.loop-order.i c.loop-order.j (rw c.as_slice-one.ensures.value c.self.invariant.sorted) (rw c.as_slice-other.ensures.value c.other.invariant.sorted) order c.loop-order.invariant)
+
+-- the entries that are compared are there, and fewer are left
+pub bounds-one-i : goal.bounds-one-i
+bounds-one-i g c = (equal_within g.V.Lattice.joined c.as_slice-one.result.now c.as_slice-other.result.now c.loop-order.i c.loop-order.j (sym c.first_of.ensures ∙ c.in-Some.is ∙ ap Some c.in-Equal.is)).0
+
+pub offset_bounds-one-i : goal.offset_bounds-one-i
+offset_bounds-one-i g c = (equal_at g.V.Lattice.joined c.as_slice-one.result.now c.as_slice-other.result.now c.loop-order.i c.loop-order.j (sym c.first_of.ensures ∙ c.in-Some.is ∙ ap Some c.in-Equal.is)).0
+
+pub bounds-other-j : goal.bounds-other-j
+bounds-other-j g c = (equal_within g.V.Lattice.joined c.as_slice-one.result.now c.as_slice-other.result.now c.loop-order.i c.loop-order.j (sym c.first_of.ensures ∙ c.in-Some.is ∙ ap Some c.in-Equal.is)).1
+
+pub offset_bounds-other-j : goal.offset_bounds-other-j
+offset_bounds-other-j g c = (equal_at g.V.Lattice.joined c.as_slice-one.result.now c.as_slice-other.result.now c.loop-order.i c.loop-order.j (sym c.first_of.ensures ∙ c.in-Some.is ∙ ap Some c.in-Equal.is)).1
+
+pub overflow_add-i : goal.overflow_add-i
+overflow_add-i g c = omega (arith, c.as_slice-one.type_inv.0, (equal_within g.V.Lattice.joined c.as_slice-one.result.now c.as_slice-other.result.now c.loop-order.i c.loop-order.j (sym c.first_of.ensures ∙ c.in-Some.is ∙ ap Some c.in-Equal.is)).0)
+
+pub overflow_add-j : goal.overflow_add-j
+overflow_add-j g c = omega (arith, c.as_slice-other.type_inv.0, (equal_within g.V.Lattice.joined c.as_slice-one.result.now c.as_slice-other.result.now c.loop-order.i c.loop-order.j (sym c.first_of.ensures ∙ c.in-Some.is ∙ ap Some c.in-Equal.is)).1)
+
+pub overflow_add-j-in-Greater : goal.overflow_add-j-in-Greater
+overflow_add-j-in-Greater g c = omega (arith, c.as_slice-other.type_inv.0, greater_within g.V.Lattice.joined c.as_slice-one.result.now c.as_slice-other.result.now c.loop-order.i c.loop-order.j (sym c.first_of.ensures ∙ c.in-Some.is ∙ ap Some c.in-Greater.is))
+
+pub loop-order-smaller-in-Equal : goal.loop-order-smaller-in-Equal
+loop-order-smaller-in-Equal g c = equal_left g.V.Lattice.joined c.as_slice-one.result.now c.as_slice-other.result.now c.loop-order.i c.loop-order.j (sym c.first_of.ensures ∙ c.in-Some.is ∙ ap Some c.in-Equal.is)
+
+pub loop-order-smaller : goal.loop-order-smaller
+loop-order-smaller g c = greater_left g.V.Lattice.joined c.as_slice-one.result.now c.as_slice-other.result.now c.loop-order.i c.loop-order.j (sym c.first_of.ensures ∙ c.in-Some.is ∙ ap Some c.in-Greater.is)
