@@ -3,7 +3,7 @@ ghost use Rattle.std.specs.Prelude.{◌≡◌, ◌+◌, IfOk, OnOk, option_map};
 ghost use Rattle.flow_graph.specs.declared.operations.Operation.TheVariants as Op;
 ghost use Rattle.lowering.specs.Built.{stores_piece, path_piece, function_end};
 ghost use Rattle.body_builder.specs.Fragments.{tree_in, so_far, IsSize, IsPart, with_call, calls_on};
-ghost use Rattle.body_builder.specs.reading.Expressions.{call_ends, argument_stored};
+ghost use Rattle.body_builder.specs.reading.Expressions.{call_ends, argument_stored, pointed_element, pointed_part};
 ghost use Rattle.body_builder.specs.Placing.{new_value, Gives, Finds};
 
 use crate::forms::{temp_if, temp_of};
@@ -35,6 +35,52 @@ impl Here<'_> {
             target,
             path: self.path,
             place,
+        };
+        self.new_value(to, op)
+    }
+
+    /// The element behind a pointer, so many times the cells of its type away.
+    pub(crate) fn pointed_element(
+        &self,
+        to: &mut Fragment,
+        from: u32,
+        cells: u32,
+        by: u32,
+        target: u32,
+        place: Place,
+    ) -> Result<u32, NoMemory>
+        ensures { IfOk result (λ t. Gives (pointed_element self.now.path from cells by target place
+            (so_far (tree_in self.now.laid.now) to.old)) (so_far (tree_in self.now.laid.now) to.new) t) }
+    {
+        let op = Operation::Move {
+            to: self.temps(to),
+            from,
+            cells,
+            minus: false,
+            by,
+            place,
+        };
+        let moved = self.new_value(to, op)?;
+        self.followed(to, moved, target, place)
+    }
+
+    /// The member at a cell of the structure behind a pointer.
+    pub(crate) fn pointed_part(
+        &self,
+        to: &mut Fragment,
+        from: u32,
+        target: u32,
+        cell: u32,
+        place: Place,
+    ) -> Result<u32, NoMemory>
+        ensures { IfOk result (λ t. Gives (pointed_part self.now.path from target cell place
+            (so_far (tree_in self.now.laid.now) to.old)) (so_far (tree_in self.now.laid.now) to.new) t) }
+    {
+        let followed = self.followed(to, from, target, place)?;
+        let op = Operation::Offset {
+            to: self.temps(to),
+            from: followed,
+            cells: cell,
         };
         self.new_value(to, op)
     }

@@ -2,18 +2,18 @@
 ghost use Rattle.std.specs.Prelude.{◌≡◌, IfOk};
 ghost use Rattle.tm_typed.specs.TypedTrees.{rvalue_tree, lvalue_tree, as_rvalues};
 ghost use Rattle.body_builder.specs.Fragments.{tree_in, so_far};
-ghost use Rattle.body_builder.specs.reading.Expressions.{value_at, address_at, values_at, Lists};
+ghost use Rattle.body_builder.specs.reading.Expressions.{value_at, address_at, values_at, Lists, Holds};
 ghost use Rattle.body_builder.specs.Placing.{Finds, Gives};
 
 use crate::forms::{Change, Moved, temp_if, temp_of};
 use crate::fragments::{Found, Fragment, Wanted};
 use crate::here::Here;
 use crate::lookups::{
-    call_gives_pointer, call_has_value, conversion, gives_pointer, has_value, implied, into,
-    is_pointer_scalar, is_same_place, object_of, rvalue_place, step_operator,
+    call_gives_pointer, conversion, gives_pointer, has_value, implied, into, is_same_place,
+    object_of, rvalue_place, step_operator,
 };
 use concrete_values::{Pointer, Value};
-use flow_graph::Operation;
+use flow_graph::{Into, Operation};
 use tm_lattice::NoMemory;
 use tm_typed::{Lvalue, Rvalue, Scalar};
 
@@ -30,43 +30,13 @@ pub(crate) fn build_value(
         (so_far (tree_in here.now.laid.now) to.new) x) }
 {
     match rvalue {
-        Rvalue::Constant {
-            value: number,
-            place,
-            ..
-        } => {
-            let op = Operation::Const {
-                to: here.temps(to),
-                value: Value::Number(*number),
-            };
-            let temp = here.new_value(to, op)?;
-            here.ends(to, wanted, false, *place, Some(temp))
-        }
         Rvalue::Folded {
             value: number,
             form,
         } => match wanted {
             Wanted::Branch => build_value(here, to, form, Wanted::Branch),
-            Wanted::Value | Wanted::Bare => {
-                let op = Operation::Const {
-                    to: here.temps(to),
-                    value: Value::Number(*number),
-                };
-                let temp = here.new_value(to, op)?;
-                Ok(Found {
-                    temp: Some(temp),
-                    other: 0,
-                })
-            }
+            Wanted::Value | Wanted::Bare => here.number(to, *number),
         },
-        Rvalue::Null { place } => {
-            let op = Operation::Const {
-                to: here.temps(to),
-                value: Value::Pointer(Pointer::Null),
-            };
-            let temp = here.new_value(to, op)?;
-            here.ends(to, wanted, true, *place, Some(temp))
-        }
         Rvalue::Load {
             scalar,
             volatile,
@@ -74,9 +44,7 @@ pub(crate) fn build_value(
         } => {
             let place = lvalue.place();
             let address = build_address(here, to, lvalue)?;
-            let temp = here.loaded(to, *volatile, *scalar, place, address)?;
-            let pointer = is_pointer_scalar(*scalar);
-            here.ends(to, wanted, pointer, place, Some(temp))
+            here.load_ends(to, wanted, *volatile, *scalar, place, address)
         }
         Rvalue::Address { lvalue, place } => {
             let address = build_address(here, to, lvalue)?;
@@ -100,24 +68,6 @@ pub(crate) fn build_value(
             let pointer = call_gives_pointer(here.laid, *function);
             let temps = build_values(here, to, arguments)?;
             here.call_ends(to, wanted, pointer, *site, *place, &temps)
-        }
-        Rvalue::Input { low, high, place } => {
-            let op = Operation::Any {
-                to: here.temps(to),
-                low: *low,
-                high: *high,
-            };
-            let temp = here.new_value(to, op)?;
-            here.ends(to, wanted, false, *place, Some(temp))
-        }
-        Rvalue::Probe { mutex, place } => {
-            let op = Operation::Probe {
-                to: here.temps(to),
-                mutex: *mutex,
-                place: *place,
-            };
-            let temp = here.new_value(to, op)?;
-            here.ends(to, wanted, false, *place, Some(temp))
         }
         Rvalue::Comma { left, right, place } => {
             let has = has_value(here.laid, here.path, right);
@@ -173,8 +123,7 @@ fn build_operator(
                 from: temp_of(found.temp),
                 place: *place,
             };
-            let temp = here.new_value(to, op)?;
-            here.ends(to, wanted, false, *place, Some(temp))
+            here.ends_new(to, wanted, false, *place, op)
         }
         Rvalue::Binary {
             operator,
@@ -217,29 +166,13 @@ fn build_operator(
             if *index_first {
                 let by = build_value(here, to, index, Wanted::Value)?;
                 let from = build_value(here, to, pointer, Wanted::Value)?;
-                let op = Operation::Move {
-                    to: here.temps(to),
-                    from: temp_of(from.temp),
-                    cells: *cells,
-                    minus: *minus,
-                    by: temp_of(by.temp),
-                    place: *place,
-                };
-                let temp = here.new_value(to, op)?;
-                here.ends(to, wanted, true, *place, Some(temp))
+                let (from, by) = (temp_of(from.temp), temp_of(by.temp));
+                here.moved_ends(to, wanted, *minus, *cells, *place, from, by)
             } else {
                 let from = build_value(here, to, pointer, Wanted::Value)?;
                 let by = build_value(here, to, index, Wanted::Value)?;
-                let op = Operation::Move {
-                    to: here.temps(to),
-                    from: temp_of(from.temp),
-                    cells: *cells,
-                    minus: *minus,
-                    by: temp_of(by.temp),
-                    place: *place,
-                };
-                let temp = here.new_value(to, op)?;
-                here.ends(to, wanted, true, *place, Some(temp))
+                let (from, by) = (temp_of(from.temp), temp_of(by.temp));
+                here.moved_ends(to, wanted, *minus, *cells, *place, from, by)
             }
         }
         _ => build_choice(here, to, rvalue, wanted),
@@ -308,7 +241,7 @@ fn build_choice(
     }
 }
 
-// What changes an object. The other forms never come here.
+// What changes an object, or else what has no parts.
 #[cycle(value)]
 fn build_change(
     here: &Here<'_>,
@@ -349,19 +282,17 @@ fn build_change(
             value,
             place,
         } => {
+            let held = build_held(here, to, *volatile, Scalar::Int(*cell), target)?;
+            let found = build_value(here, to, value, Wanted::Bare)?;
             let change = Change {
                 operator: *operator,
                 cell: *cell,
                 of: *of,
-                into: into(here.laid, here.path, target)?,
+                into: held.into,
                 place: *place,
             };
-            let scalar = Scalar::Int(*cell);
-            let address = build_address(here, to, target)?;
-            let held = here.loaded(to, *volatile, scalar, target.place(), address)?;
-            let found = build_value(here, to, value, Wanted::Bare)?;
             let right = (implied(value), temp_of(found.temp));
-            here.compound_ends(to, wanted, change, address, held, right)
+            here.compound_ends(to, wanted, change, held.address, held.value, right)
         }
         Rvalue::CompoundMove {
             minus,
@@ -371,19 +302,35 @@ fn build_change(
             value,
             place,
         } => {
+            let held = build_held(here, to, false, Scalar::Pointer(*class), target)?;
+            let found = build_value(here, to, value, Wanted::Value)?;
             let moved = Moved {
                 minus: *minus,
                 cells: *cells,
                 class: *class,
-                into: into(here.laid, here.path, target)?,
+                into: held.into,
                 place: *place,
             };
-            let scalar = Scalar::Pointer(*class);
-            let address = build_address(here, to, target)?;
-            let held = here.loaded(to, false, scalar, target.place(), address)?;
-            let found = build_value(here, to, value, Wanted::Value)?;
-            here.compound_move_ends(to, wanted, moved, address, held, temp_of(found.temp))
+            let by = temp_of(found.temp);
+            here.compound_move_ends(to, wanted, moved, held.address, held.value, by)
         }
+        _ => build_step(here, to, rvalue, wanted),
+    }
+}
+
+// `++` and `--`, or else what has no parts.
+#[cycle(value)]
+fn build_step(
+    here: &Here<'_>,
+    to: &mut Fragment,
+    rvalue: &Rvalue,
+    wanted: Wanted,
+) -> Result<Found, NoMemory>
+    ensures { IfOk result (λ x. Finds (value_at (tree_in here.now.laid.now) here.now.depth here.now.path
+        (rvalue_tree rvalue.now) wanted (so_far (tree_in here.now.laid.now) to.old))
+        (so_far (tree_in here.now.laid.now) to.new) x) }
+{
+    match rvalue {
         Rvalue::Step {
             step,
             cell,
@@ -392,17 +339,15 @@ fn build_change(
             target,
             place,
         } => {
+            let held = build_held(here, to, *volatile, Scalar::Int(*cell), target)?;
             let change = Change {
                 operator: step_operator(*step),
                 cell: *cell,
                 of: *of,
-                into: into(here.laid, here.path, target)?,
+                into: held.into,
                 place: *place,
             };
-            let scalar = Scalar::Int(*cell);
-            let address = build_address(here, to, target)?;
-            let held = here.loaded(to, *volatile, scalar, target.place(), address)?;
-            here.unit_step_ends(to, wanted, step.postfix, change, address, held)
+            here.unit_step_ends(to, wanted, step.postfix, change, held.address, held.value)
         }
         Rvalue::StepMove {
             step,
@@ -411,20 +356,99 @@ fn build_change(
             target,
             place,
         } => {
+            let held = build_held(here, to, false, Scalar::Pointer(*class), target)?;
             let moved = Moved {
                 minus: step.minus,
                 cells: *cells,
                 class: *class,
-                into: into(here.laid, here.path, target)?,
+                into: held.into,
                 place: *place,
             };
-            let scalar = Scalar::Pointer(*class);
-            let address = build_address(here, to, target)?;
-            let held = here.loaded(to, false, scalar, target.place(), address)?;
-            here.pointer_step_ends(to, wanted, step.postfix, moved, address, held)
+            here.pointer_step_ends(to, wanted, step.postfix, moved, held.address, held.value)
+        }
+        _ => build_leaf(here, to, rvalue, wanted),
+    }
+}
+
+// What has no parts. The other forms never come here.
+fn build_leaf(
+    here: &Here<'_>,
+    to: &mut Fragment,
+    rvalue: &Rvalue,
+    wanted: Wanted,
+) -> Result<Found, NoMemory>
+    ensures { IfOk result (λ x. Finds (value_at (tree_in here.now.laid.now) here.now.depth here.now.path
+        (rvalue_tree rvalue.now) wanted (so_far (tree_in here.now.laid.now) to.old))
+        (so_far (tree_in here.now.laid.now) to.new) x) }
+{
+    match rvalue {
+        Rvalue::Constant {
+            value: number,
+            place,
+            ..
+        } => {
+            let op = Operation::Const {
+                to: here.temps(to),
+                value: Value::Number(*number),
+            };
+            here.ends_new(to, wanted, false, *place, op)
+        }
+        Rvalue::Null { place } => {
+            let op = Operation::Const {
+                to: here.temps(to),
+                value: Value::Pointer(Pointer::Null),
+            };
+            here.ends_new(to, wanted, true, *place, op)
+        }
+        Rvalue::Input { low, high, place } => {
+            let op = Operation::Any {
+                to: here.temps(to),
+                low: *low,
+                high: *high,
+            };
+            here.ends_new(to, wanted, false, *place, op)
+        }
+        Rvalue::Probe { mutex, place } => {
+            let op = Operation::Probe {
+                to: here.temps(to),
+                mutex: *mutex,
+                place: *place,
+            };
+            here.ends_new(to, wanted, false, *place, op)
         }
         _ => Err(NoMemory),
     }
+}
+
+// An object that is changed: where its value goes, its address, and what it holds.
+#[derive(Clone, Copy)]
+struct Held {
+    into: Into,
+    address: u32,
+    value: u32,
+}
+
+// An object that is changed is loaded.
+#[cycle(value)]
+fn build_held(
+    here: &Here<'_>,
+    to: &mut Fragment,
+    volatile: bool,
+    scalar: Scalar,
+    target: &Lvalue,
+) -> Result<Held, NoMemory>
+    ensures { IfOk result (λ x. Holds (tree_in here.now.laid.now) here.now.depth here.now.path volatile scalar
+        (lvalue_tree target.now) (so_far (tree_in here.now.laid.now) to.old)
+        (so_far (tree_in here.now.laid.now) to.new) x) }
+{
+    let into = into(here.laid, here.path, target)?;
+    let address = build_address(here, to, target)?;
+    let value = here.loaded(to, volatile, scalar, target.place(), address)?;
+    Ok(Held {
+        into,
+        address,
+        value,
+    })
 }
 
 /// The address of an lvalue.
@@ -441,11 +465,7 @@ pub(crate) fn build_address(
     match lvalue {
         Lvalue::Object { object, .. } => {
             let object = object_of(here.laid, here.path, *object)?;
-            let op = Operation::Base {
-                to: here.temps(to),
-                object,
-            };
-            here.new_value(to, op)
+            here.base(to, object)
         }
         Lvalue::Element {
             array,
@@ -475,16 +495,8 @@ pub(crate) fn build_address(
         } => {
             let from = build_value(here, to, pointer, Wanted::Value)?;
             let by = build_value(here, to, index, Wanted::Value)?;
-            let op = Operation::Move {
-                to: here.temps(to),
-                from: temp_of(from.temp),
-                cells: *cells,
-                minus: false,
-                by: temp_of(by.temp),
-                place: *place,
-            };
-            let moved = here.new_value(to, op)?;
-            here.followed(to, moved, *target, *place)
+            let (from, by) = (temp_of(from.temp), temp_of(by.temp));
+            here.pointed_element(to, from, *cells, by, *target, *place)
         }
         Lvalue::Pointed {
             pointer,
@@ -501,13 +513,7 @@ pub(crate) fn build_address(
             place,
         } => {
             let from = build_value(here, to, pointer, Wanted::Value)?;
-            let followed = here.followed(to, temp_of(from.temp), *target, *place)?;
-            let op = Operation::Offset {
-                to: here.temps(to),
-                from: followed,
-                cells: *cell,
-            };
-            here.new_value(to, op)
+            here.pointed_part(to, temp_of(from.temp), *target, *cell, *place)
         }
         Lvalue::Member {
             structure,

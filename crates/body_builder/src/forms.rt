@@ -10,7 +10,8 @@ ghost use Rattle.body_builder.specs.reading.Expressions.{operator_ends, binary_e
 ghost use Rattle.body_builder.specs.reading.Expressions.{compound_ends, unit_step_ends, moved_stored, temp_if};
 ghost use Rattle.body_builder.specs.reading.Expressions.{compound_move_ends, pointer_step_ends, copied_if, truth_at};
 ghost use Rattle.body_builder.specs.reading.Expressions.{copied_to_if, choice_ends, both_meet, either_meet};
-ghost use Rattle.body_builder.specs.reading.Expressions.{conversion_ends, both_usable, loaded};
+ghost use Rattle.body_builder.specs.reading.Expressions.{conversion_ends, both_usable, loaded, ends_new, number_at, load_ends};
+ghost use Rattle.body_builder.specs.reading.Expressions.{moved_ends};
 ghost use Rattle.flow_graph.specs.declared.operations.Operation.TheVariants as Op;
 ghost use Rattle.concrete_values.specs.declared.values.Value.TheVariants.{Number};
 
@@ -108,6 +109,38 @@ impl Here<'_> {
                 self.tested(to, Test::Truth { holds: true, value })
             }
         }
+    }
+
+    /// A new value is there, which is tested where a branch is wanted.
+    pub(crate) fn ends_new(
+        &self,
+        to: &mut Fragment,
+        wanted: Wanted,
+        pointer: bool,
+        place: Place,
+        op: Operation,
+    ) -> Result<Found, NoMemory>
+        ensures { IfOk result (λ x. Finds (ends_new wanted pointer place op (so_far (tree_in self.now.laid.now) to.old))
+            (so_far (tree_in self.now.laid.now) to.new) x) }
+    {
+        let temp = self.new_value(to, op)?;
+        self.ends(to, wanted, pointer, place, Some(temp))
+    }
+
+    /// A number is there, of which no branch is wanted.
+    pub(crate) fn number(&self, to: &mut Fragment, number: i128) -> Result<Found, NoMemory>
+        ensures { IfOk result (λ x. Finds (number_at number (so_far (tree_in self.now.laid.now) to.old))
+            (so_far (tree_in self.now.laid.now) to.new) x) }
+    {
+        let op = Operation::Const {
+            to: self.temps(to),
+            value: Value::Number(number),
+        };
+        let temp = self.new_value(to, op)?;
+        Ok(Found {
+            temp: Some(temp),
+            other: 0,
+        })
     }
 
     /// A value is there, which is that of another expression. Whether this one is a pointer counts for a branch alone:
@@ -247,8 +280,7 @@ impl Here<'_> {
                     right,
                     place,
                 };
-                let temp = self.new_value(to, op)?;
-                self.ends(to, wanted, false, place, Some(temp))
+                self.ends_new(to, wanted, false, place, op)
             }
         }
     }
@@ -334,8 +366,7 @@ impl Here<'_> {
                     left,
                     right,
                 };
-                let temp = self.new_value(to, op)?;
-                self.ends(to, wanted, false, place, Some(temp))
+                self.ends_new(to, wanted, false, place, op)
             }
         }
     }
@@ -374,6 +405,24 @@ impl Here<'_> {
                 },
             )
         }
+    }
+
+    /// What an address holds is there.
+    pub(crate) fn load_ends(
+        &self,
+        to: &mut Fragment,
+        wanted: Wanted,
+        volatile: bool,
+        scalar: Scalar,
+        place: Place,
+        address: u32,
+    ) -> Result<Found, NoMemory>
+        ensures { IfOk result (λ x. Finds (load_ends wanted volatile scalar place address
+            (so_far (tree_in self.now.laid.now) to.old)) (so_far (tree_in self.now.laid.now) to.new) x) }
+    {
+        let temp = self.loaded(to, volatile, scalar, place, address)?;
+        let pointer = is_pointer_scalar(scalar);
+        self.ends(to, wanted, pointer, place, Some(temp))
     }
 
     /// A value is stored at an address.
@@ -537,6 +586,31 @@ impl Here<'_> {
             },
         )?;
         Ok(value)
+    }
+
+    /// A pointer plus or minus so many times its cells.
+    pub(crate) fn moved_ends(
+        &self,
+        to: &mut Fragment,
+        wanted: Wanted,
+        minus: bool,
+        cells: u32,
+        place: Place,
+        from: u32,
+        by: u32,
+    ) -> Result<Found, NoMemory>
+        ensures { IfOk result (λ x. Finds (moved_ends wanted minus cells place from by
+            (so_far (tree_in self.now.laid.now) to.old)) (so_far (tree_in self.now.laid.now) to.new) x) }
+    {
+        let op = Operation::Move {
+            to: self.temps(to),
+            from,
+            cells,
+            minus,
+            by,
+            place,
+        };
+        self.ends_new(to, wanted, true, place, op)
     }
 
     /// `+=` and `-=` on a pointer.

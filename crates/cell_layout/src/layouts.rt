@@ -1,14 +1,15 @@
 //! The layout of a file.
-ghost use Rattle.std.specs.Prelude.{◌≡◌, ◌≤◌, ◌^◌, IfOk, IfErr, IfSome, length};
-ghost use Rattle.tm_terms.specs.declared.refusals.Fail.TheVariants as Fails;
+ghost use Rattle.std.specs.Prelude.{◌≡◌, ◌≤◌, ◌^◌, All, IfOk, IfSome, length};
 ghost use Rattle.tm_terms.specs.declared.refusals.Limit.TheVariants as Limits;
 ghost use Rattle.tm_typed.specs.TypedFiles.{typed_file_tree};
 ghost use Rattle.tm_laid.specs.declared.scales.Scale.TheVariants as Scales;
-ghost use Rattle.tm_laid.specs.Paths.{bodies_of};
-ghost use Rattle.tm_laid.specs.Layouts.{laid_tree, layout_of, laid_out, answer_of};
+ghost use Rattle.tm_laid.specs.Paths.{bodies_of, paths_of};
+ghost use Rattle.tm_laid.specs.Objects.{static_numbers, initial_values};
+ghost use Rattle.tm_laid.specs.Layouts.{laid_tree, layout_of, laid_out, answer_of, declared_objects};
 ghost use Rattle.tm_laid.specs.Layable.{IsLayable};
 ghost use Rattle.cell_layout.specs.reading.Counts.{AreTotals};
 ghost use Rattle.cell_layout.specs.reading.Limits.{IsAllWithin};
+ghost use Rattle.cell_layout.specs.reading.Placing.{HasObjects, IsSmallObject, AreCells};
 ghost use Rattle.cell_layout.specs.reading.Tables.{IsLayoutOf, AreTables};
 
 use crate::cells::Cells;
@@ -19,7 +20,7 @@ use crate::objects::{count_of_statics, declared, first_objects, numbers_of_stati
 use crate::paths::{Numbered, call_paths, first_paths};
 use crate::placing::{laid_cells, placed};
 use std::alloc::Global;
-use tm_laid::{Initial, Laid, LaidObject, Scale};
+use tm_laid::{CallPath, Initial, Laid, LaidObject, Scale};
 use tm_lattice::NoMemory;
 use tm_terms::Fail;
 use tm_typed::TypedFile;
@@ -37,6 +38,60 @@ pub struct Tables {
     pub initial: Vec<Initial>,
 }
 
+// What objects hold: their cells, the numbers of those of static storage, and what the cells of these hold before the
+// program runs.
+#[derive(Drop)]
+struct Filled {
+    cells: Cells,
+    statics: Vec<u32>,
+    initial: Vec<Initial>,
+}
+
+// The objects of a file that exceeds no limit of the large scale, with the places of their cells. There are no more than
+// numbers: an object of a structure without members has no cell, so that no limit counts it, and where there are more
+// there is no memory for them.
+fn placed_objects(
+    alloc: Global,
+    file: &TypedFile,
+    paths: &[CallPath],
+) -> Result<Vec<LaidObject>, NoMemory>
+    requires layable { IsLayable (typed_file_tree file.now) file.now.order.items }
+    requires within { IsAllWithin Scales.Large (typed_file_tree file.now) }
+    requires paths { paths.now ≡ paths_of (typed_file_tree file.now) }
+    ensures objects { IfOk result (λ v. HasObjects (typed_file_tree file.now) (declared_objects (typed_file_tree file.now)
+        (paths_of (typed_file_tree file.now))) v.items) }
+    ensures numbered { IfOk result (λ v. length v.items ≤ 2 ^ 32) }
+{
+    let declared = declared(alloc, file, paths)?;
+    let objects = placed(alloc, file, &declared)?;
+    if objects.len() <= 4_294_967_296 {
+        Ok(objects)
+    } else {
+        Err(NoMemory)
+    }
+}
+
+// What the objects of a file hold that exceeds no limit of the large scale.
+fn contents(alloc: Global, file: &TypedFile, objects: &[LaidObject]) -> Result<Filled, NoMemory>
+    requires layable { IsLayable (typed_file_tree file.now) file.now.order.items }
+    requires within { IsAllWithin Scales.Large (typed_file_tree file.now) }
+    requires small { All (IsSmallObject (typed_file_tree file.now)) objects.now }
+    ensures cells { IfOk result (λ c. AreCells (typed_file_tree file.now) objects.now c.cells) }
+    ensures statics { IfOk result (λ c. c.statics.items ≡ static_numbers 0 (typed_file_tree file.now).statics) }
+    ensures initial { IfOk result (λ c. c.initial.items ≡ initial_values (typed_file_tree file.now)
+        (static_numbers 0 (typed_file_tree file.now).statics) (typed_file_tree file.now).statics) }
+{
+    let cores = cores_of(alloc, file)?;
+    let cells = laid_cells(alloc, file, &cores, objects)?;
+    let statics = numbers_of_statics(alloc, file)?;
+    let initial = initial_cells(alloc, file, &cores, &statics)?;
+    Ok(Filled {
+        cells,
+        statics,
+        initial,
+    })
+}
+
 // The tables of a file that exceeds no limit of the large scale, with its bodies and the totals of its call paths.
 fn tables_of(
     alloc: Global,
@@ -48,18 +103,19 @@ fn tables_of(
     requires bodies { bodies.items ≡ bodies_of (typed_file_tree file.now) }
     requires within { IsAllWithin Scales.Large (typed_file_tree file.now) }
     requires totals { AreTotals (typed_file_tree file.now) Limits.Paths totals.now }
-    ensures { IfOk result (λ t. IsLayoutOf (typed_file_tree file.now) t) }
+    ensures layout { IfOk result (λ t. IsLayoutOf (typed_file_tree file.now) t) }
+    ensures numbered { IfOk result (λ t. length t.objects.items ≤ 2 ^ 32) }
 {
+    let count = count_of_statics(alloc, file)?;
     let numbered = call_paths(alloc, file, totals, &bodies)?;
     let first_paths = first_paths(alloc, file, totals, &bodies)?;
-    let count = count_of_statics(alloc, file)?;
     let first_objects = first_objects(alloc, file, count, &numbered.paths)?;
-    let declared = declared(alloc, file, &numbered.paths)?;
-    let objects = placed(alloc, file, &declared)?;
-    let cores = cores_of(alloc, file)?;
-    let cells = laid_cells(alloc, file, &cores, &objects)?;
-    let statics = numbers_of_statics(alloc, file)?;
-    let initial = initial_cells(alloc, file, &cores, &statics)?;
+    let objects = placed_objects(alloc, file, &numbered.paths)?;
+    let Filled {
+        cells,
+        statics,
+        initial,
+    } = contents(alloc, file, &objects)?;
     Ok(Tables {
         bodies,
         first_paths,
@@ -70,20 +126,6 @@ fn tables_of(
         cells,
         initial,
     })
-}
-
-// There are no more objects than numbers: an object of a structure without members has no cell, so that no limit counts
-// it, and where there are more there is no memory for them.
-fn numbered(tables: Tables) -> Result<Tables, Fail>
-    ensures same { IfOk result (λ t. t ≡ tables) }
-    ensures numbered { IfOk result (λ t. length t.objects.items ≤ 2 ^ 32) }
-    ensures refused { IfErr result (λ fail. fail ≡ Fails.NoMemory) }
-{
-    if tables.objects.len() <= 4_294_967_296 {
-        Ok(tables)
-    } else {
-        Err(Fail::NoMemory)
-    }
 }
 
 // The tables of a file, or the first limit that it exceeds on a scale.
@@ -102,7 +144,7 @@ fn checked_tables(alloc: Global, scale: Scale, file: &TypedFile) -> Result<Table
         Err(fail) => return Err(fail),
     };
     match tables_of(alloc, file, bodies, &totals) {
-        Ok(tables) => numbered(tables),
+        Ok(tables) => Ok(tables),
         Err(NoMemory) => Err(Fail::NoMemory),
     }
 }

@@ -14,8 +14,9 @@ use Rattle.tm_typed.specs.TypedStatements.{as_typed_cases}
 use Rattle.tm_typed.proofs.TypedStatementTrees.{typed_tree-block}
 use Rattle.tm_laid.specs.Layouts.{LaidTree}
 use Rattle.body_builder.specs.lowering.Built as Built
-use Rattle.statement_builder.specs.reading.Statements.{Worth, Lines, cut, inside, labels_left, has_default}
-use Rattle.statement_builder.specs.reading.Statements.{behind_tests, select_ends, tests_at, worth, statement_at}
+use Rattle.statement_builder.specs.declared.selections.Selected.{Selected}
+use Rattle.statement_builder.specs.reading.Statements.{Lines, IsSelected, cut, labels_left, has_default}
+use Rattle.statement_builder.specs.reading.Statements.{behind_tests, select_ends, selecting, statement_at}
 use Rattle.statement_builder.specs.reading.Statements.{statements_at, case_at, cases_at}
 
 module _ (laid : LaidTree) (depth path : ℕ) where
@@ -26,40 +27,31 @@ module _ (laid : LaidTree) (depth path : ℕ) where
       ap (λ (t : TypedTree). statement_at laid depth path t onward s) (typed_tree-block items)
 
   -- a `switch`, once its parts are built
-  pub switch_built : (t : IntType) (e e1 : RvalueTree) (cs c1 c2 c3 : TypedCases) (onward : Built.Onward)
-      (s i r1 r2 r3 r4 : Built.Passed) (ps : List Built.Pending) (temp node : ℕ) (ls ms outs : List ℕ)
-      → e1 ≡ e → c1 ≡ cs → c2 ≡ cs → c3 ≡ cs → ms ≡ ls → i ≡ inside s → ps ≡ s.pending
-      → (r1 ≡ (worth laid depth path e1 i).at) × (temp ≡ (worth laid depth path e1 i).temp)
-      → (r2 ≡ (tests_at laid path c1 temp r1).at) × (ls ≡ (tests_at laid path c1 temp r1).nodes)
-      → (r3 ≡ cut r2) × (node ≡ r2.at.node) → outs ≡ behind_tests (has_default c2) node
-      → r4 ≡ cases_at laid depth path c3 ms node onward r3
-      → select_ends outs ps r4 ≡ statement_at laid depth path (selects t e cs) onward s
-  switch_built t e e1 cs c1 c2 c3 onward s i r1 r2 r3 r4 ps temp node ls ms outs ee f1 f2 f3 em ei ep h1 h2 h3 ho h4 =
-      let v = worth laid depth path e (inside s) in
-      let v_is : worth laid depth path e1 i ≡ v = ap (λ (x : RvalueTree). worth laid depth path x i) ee
-      ∙ ap (λ (z : Built.Passed). worth laid depth path e z) ei in
-      let r1_is : r1 ≡ v.at = h1.0 ∙ ap (λ (x : Worth). x.at) v_is in
-      let temp_is : temp ≡ v.temp = h1.1 ∙ ap (λ (x : Worth). x.temp) v_is in
-      let l = tests_at laid path cs v.temp v.at in
-      let l_is : tests_at laid path c1 temp r1 ≡ l = ap (λ (x : TypedCases). tests_at laid path x temp r1) f1
-      ∙ (ap (λ k. tests_at laid path cs k r1) temp_is
-      ∙ ap (λ (z : Built.Passed). tests_at laid path cs v.temp z) r1_is) in
-      let r2_is : r2 ≡ l.at = h2.0 ∙ ap (λ (x : Lines). x.at) l_is in
-      let labels : ms ≡ l.nodes = em ∙ (h2.1 ∙ ap (λ (x : Lines). x.nodes) l_is) in
-      let n = l.at.at.node in
-      let node_is : node ≡ n = h3.1 ∙ ap (λ (z : Built.Passed). z.at.node) r2_is in
-      let r3_is : r3 ≡ cut l.at = h3.0 ∙ ap cut r2_is in
-      let outs_is : outs ≡ behind_tests (has_default cs) n = ho
-      ∙ (ap (λ (x : TypedCases). behind_tests (has_default x) node) f2
-      ∙ ap (λ k. behind_tests (has_default cs) k) node_is) in
-      let r4_is : r4 ≡ cases_at laid depth path cs l.nodes n onward (cut l.at) = h4
-      ∙ (ap (λ (x : TypedCases). cases_at laid depth path x ms node onward r3) f3
-      ∙ (ap (λ (ks : List ℕ). cases_at laid depth path cs ks node onward r3) labels
-      ∙ (ap (λ k. cases_at laid depth path cs l.nodes k onward r3) node_is
-      ∙ ap (λ (z : Built.Passed). cases_at laid depth path cs l.nodes n onward z) r3_is))) in
-      ap (λ (ks : List ℕ). select_ends ks ps r4) outs_is
-      ∙ (ap (λ (qs : List Built.Pending). select_ends (behind_tests (has_default cs) n) qs r4) ep
-      ∙ ap (λ (z : Built.Passed). select_ends (behind_tests (has_default cs) n) s.pending z) r4_is)
+  pub switch_built : (t : IntType) (e e1 : RvalueTree) (cs c1 c2 : TypedCases) (onward : Built.Onward)
+      (s b n : Built.Passed) (ps : List Built.Pending) (ms : List ℕ) (x : Selected)
+      → e1 ≡ e → c1 ≡ cs → c2 ≡ cs → ms ≡ x.labels.items → ps ≡ s.pending
+      → IsSelected c1 (selecting laid depth path e1 c1 s) b x
+      → n ≡ cases_at laid depth path c2 ms x.node onward b
+      → select_ends x.outs.items ps n ≡ statement_at laid depth path (selects t e cs) onward s
+  switch_built t e e1 cs c1 c2 onward s b n ps ms x ee f1 f2 em ep h hn =
+      let l = selecting laid depth path e cs s in
+      let l_is : selecting laid depth path e1 c1 s ≡ l = ap (λ (y : RvalueTree). selecting laid depth path y c1 s) ee
+      ∙ ap (λ (y : TypedCases). selecting laid depth path e y s) f1 in
+      let b_is : b ≡ cut l.at = h.0 ∙ ap (λ (y : Lines). cut y.at) l_is in
+      let labels : ms ≡ l.nodes = em ∙ (h.1 ∙ ap (λ (y : Lines). y.nodes) l_is) in
+      let k = l.at.at.node in
+      let node_is : x.node ≡ k = h.2 ∙ ap (λ (y : Lines). y.at.at.node) l_is in
+      let outs_is : x.outs.items ≡ behind_tests (has_default cs) k = h.3
+      ∙ (ap (λ (y : TypedCases). behind_tests (has_default y) (selecting laid depth path e1 c1 s).at.at.node) f1
+      ∙ ap (λ (y : Lines). behind_tests (has_default cs) y.at.at.node) l_is) in
+      let n_is : n ≡ cases_at laid depth path cs l.nodes k onward (cut l.at) = hn
+      ∙ (ap (λ (y : TypedCases). cases_at laid depth path y ms x.node onward b) f2
+      ∙ (ap (λ (ks : List ℕ). cases_at laid depth path cs ks x.node onward b) labels
+      ∙ (ap (λ j. cases_at laid depth path cs l.nodes j onward b) node_is
+      ∙ ap (λ (z : Built.Passed). cases_at laid depth path cs l.nodes k onward z) b_is))) in
+      ap (λ (ks : List ℕ). select_ends ks ps n) outs_is
+      ∙ (ap (λ (qs : List Built.Pending). select_ends (behind_tests (has_default cs) k) qs n) ep
+      ∙ ap (λ (z : Built.Passed). select_ends (behind_tests (has_default cs) k) s.pending z) n_is)
 
   pub block_more : (xs : List TypedStatement) (i : ℕ) (x : TypedStatement) (onward : Built.Onward)
       (s n w : Built.Passed) → i < length xs → x ≡ get_or xs i x

@@ -6,14 +6,31 @@ ghost use Rattle.body_builder.specs.lowering.Built.{nodes_by, still_by, continue
 ghost use Rattle.body_builder.specs.Fragments.{tree_in, so_far};
 ghost use Rattle.statement_builder.specs.Waiting.{way_of, waiting};
 ghost use Rattle.statement_builder.specs.reading.Statements.{reached, waits, is_way, stays, inside, continued};
-ghost use Rattle.statement_builder.specs.reading.Statements.{entered, entered_if, turns_end, until_ends};
+ghost use Rattle.statement_builder.specs.reading.Statements.{entered, entered_if, turns_end, until_ends, headed};
+ghost use Rattle.statement_builder.specs.reading.Statements.{IsBegun, IsEntered, for_ends, do_ends};
 
 use crate::meeting::{close, meet_all};
 use crate::passed::{Passed, Pending, Way};
-use crate::steps::fork;
+use crate::steps::{act, evaluate, fork};
 use body_builder::{Fragment, Here};
+use flow_graph::Operation;
 use tm_lattice::NoMemory;
 use tm_typed::Rvalue;
+
+/// What is inside of a loop, and its head.
+#[derive(Drop)]
+pub(crate) struct Begun {
+    pub(crate) within: Passed,
+    pub(crate) head: u32,
+}
+
+/// The same, and the nodes from which control leaves behind the test at the head.
+#[derive(Drop)]
+pub(crate) struct Entered {
+    pub(crate) within: Passed,
+    pub(crate) head: u32,
+    pub(crate) outs: Vec<u32>,
+}
 
 // Whether this is the way.
 fn is_way(way: Way, wanted: Way) -> bool
@@ -116,9 +133,20 @@ pub(crate) fn inside(here: &Here<'_>, to: &Fragment, passed: &Passed) -> Passed
     }
 }
 
-/// A test at the head of a loop: control leaves from this node.
+/// The head of a loop is placed.
+pub(crate) fn begin(here: &Here<'_>, to: &mut Fragment, passed: &Passed) -> Result<Begun, NoMemory>
+    ensures begun { IfOk result (λ x. IsBegun (headed (reached (tree_in here.now.laid.now) to.old passed.now))
+        (reached (tree_in here.now.laid.now) to.new x.within) x) }
+    ensures outside { waits passed.now ≡ (reached (tree_in here.now.laid.now) to.old passed.now).pending }
+{
+    let within = inside(here, to, passed);
+    let head = act(here, to, &within, Operation::Skip)?;
+    Ok(Begun { within, head })
+}
+
+// A test at the head of a loop: control leaves from this node.
 #[tactic(auto, unfolding(crate::specs::reading::Statements::entered))]
-pub(crate) fn enter(
+fn enter(
     here: &Here<'_>,
     to: &mut Fragment,
     passed: &Passed,
@@ -136,8 +164,8 @@ pub(crate) fn enter(
     Ok(outs)
 }
 
-/// A test at the head of a loop, if there is one.
-pub(crate) fn enter_if(
+// A test at the head of a loop, if there is one.
+fn enter_if(
     here: &Here<'_>,
     to: &mut Fragment,
     passed: &Passed,
@@ -155,6 +183,40 @@ pub(crate) fn enter_if(
     }
 }
 
+/// The head of a loop is placed, with the test there.
+pub(crate) fn begin_while(
+    here: &Here<'_>,
+    to: &mut Fragment,
+    passed: &Passed,
+    condition: &Rvalue,
+) -> Result<Entered, NoMemory>
+    ensures entered { IfOk result (λ x. let h = headed (reached (tree_in here.now.laid.now) to.old passed.now) in
+        IsEntered h (entered (tree_in here.now.laid.now) here.now.depth here.now.path (rvalue_tree condition.now) h)
+        (reached (tree_in here.now.laid.now) to.new x.within) x) }
+    ensures outside { waits passed.now ≡ (reached (tree_in here.now.laid.now) to.old passed.now).pending }
+{
+    let Begun { within, head } = begin(here, to, passed)?;
+    let outs = enter(here, to, &within, condition)?;
+    Ok(Entered { within, head, outs })
+}
+
+/// The head of a loop is placed, with the test there, if there is one.
+pub(crate) fn begin_for(
+    here: &Here<'_>,
+    to: &mut Fragment,
+    passed: &Passed,
+    condition: &Option<Box<Rvalue>>,
+) -> Result<Entered, NoMemory>
+    ensures entered { IfOk result (λ x. let h = headed (reached (tree_in here.now.laid.now) to.old passed.now) in
+        IsEntered h (entered_if (tree_in here.now.laid.now) here.now.depth here.now.path
+        (optional_rvalue_tree condition.now) h) (reached (tree_in here.now.laid.now) to.new x.within) x) }
+    ensures outside { waits passed.now ≡ (reached (tree_in here.now.laid.now) to.old passed.now).pending }
+{
+    let Begun { within, head } = begin(here, to, passed)?;
+    let outs = enter_if(here, to, &within, condition)?;
+    Ok(Entered { within, head, outs })
+}
+
 // Control comes together from these nodes and the present one, if there are any.
 #[tactic(auto, using(crate::proofs::Waiting::continued_none, crate::proofs::Waiting::continued_some))]
 fn meet_present(here: &Here<'_>, to: &mut Fragment, mut nodes: Vec<u32>) -> Result<(), NoMemory>
@@ -170,13 +232,9 @@ fn meet_present(here: &Here<'_>, to: &mut Fragment, mut nodes: Vec<u32>) -> Resu
     }
 }
 
-/// Where `continue` goes.
+// Where `continue` goes.
 #[tactic(auto, unfolding(crate::specs::reading::Statements::reached, crate::specs::reading::Statements::continued))]
-pub(crate) fn continue_at(
-    here: &Here<'_>,
-    to: &mut Fragment,
-    passed: &Passed,
-) -> Result<(), NoMemory>
+fn continue_at(here: &Here<'_>, to: &mut Fragment, passed: &Passed) -> Result<(), NoMemory>
     ensures { OnOk result (reached (tree_in here.now.laid.now) to.new passed.now ≡ continued
         (reached (tree_in here.now.laid.now) to.old passed.now)) }
 {
@@ -205,9 +263,28 @@ pub(crate) fn end_turns(
     Ok(())
 }
 
-/// The way back to the head of a loop, and its exit, to which the condition behind the body leads.
+/// Behind the body of a `for`: the step, the way back to the head, and the exit.
+pub(crate) fn end_for(
+    here: &Here<'_>,
+    to: &mut Fragment,
+    passed: &mut Passed,
+    within: &Passed,
+    step: &Option<Box<Rvalue>>,
+    head: u32,
+    outs: Vec<u32>,
+) -> Result<(), NoMemory>
+    ensures { OnOk result (reached (tree_in here.now.laid.now) to.new passed.new ≡ for_ends
+        (tree_in here.now.laid.now) here.now.depth here.now.path (optional_rvalue_tree step.now) head outs.items
+        (waits passed.old) (reached (tree_in here.now.laid.now) to.old within.now)) }
+{
+    continue_at(here, to, within)?;
+    evaluate(here, to, within, step)?;
+    end_turns(here, to, passed, within, head, outs)
+}
+
+// The way back to the head of a loop, and its exit, to which the condition behind the body leads.
 #[tactic(auto, unfolding(crate::specs::reading::Statements::reached, crate::specs::reading::Statements::waits, crate::specs::reading::Statements::until_ends))]
-pub(crate) fn end_until(
+fn end_until(
     here: &Here<'_>,
     to: &mut Fragment,
     passed: &mut Passed,
@@ -225,4 +302,22 @@ pub(crate) fn end_until(
     keep(&mut passed.pending, &within.pending, true)?;
     passed.result = within.result;
     Ok(())
+}
+
+/// Behind the body of a `do`: the condition, the way back to the head, and the exit.
+pub(crate) fn end_do(
+    here: &Here<'_>,
+    to: &mut Fragment,
+    passed: &mut Passed,
+    within: &Passed,
+    condition: &Rvalue,
+    head: u32,
+) -> Result<(), NoMemory>
+    ensures { OnOk result (reached (tree_in here.now.laid.now) to.new passed.new ≡ do_ends
+        (tree_in here.now.laid.now) here.now.depth here.now.path (rvalue_tree condition.now) head (waits passed.old)
+        (reached (tree_in here.now.laid.now) to.old within.now)) }
+{
+    continue_at(here, to, within)?;
+    let other = fork(here, to, within, condition)?;
+    end_until(here, to, passed, within, head, other)
 }

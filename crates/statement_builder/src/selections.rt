@@ -1,22 +1,35 @@
 //! The parts of a `switch` begin and end.
 ghost use Rattle.std.specs.Prelude.{◌≡◌, OnOk, IfOk};
+ghost use Rattle.tm_typed.specs.TypedTrees.{rvalue_tree};
 ghost use Rattle.tm_typed.specs.TypedStatements.{typed_case, as_typed_cases};
 ghost use Rattle.body_builder.specs.lowering.Built.{meet, first_of};
 ghost use Rattle.body_builder.specs.Fragments.{tree_in, so_far};
 ghost use Rattle.statement_builder.specs.reading.Statements.{reached, waits, tests_at, labelled_at, labels_left};
 ghost use Rattle.statement_builder.specs.reading.Statements.{is_default, has_default, behind_tests, select_ends};
+ghost use Rattle.statement_builder.specs.reading.Statements.{selecting, IsSelected};
 
 use crate::labels::build_labels;
-use crate::loops::{keep, push_nodes};
+use crate::loops::{inside, keep, push_nodes};
 use crate::meeting::meet_all;
 use crate::passed::{Passed, Way};
+use crate::steps::{cut, value};
 use body_builder::{Fragment, Here};
 use tm_lattice::NoMemory;
-use tm_typed::TypedSwitchPart;
+use tm_typed::{Rvalue, TypedSwitchPart};
 
-/// The tests of labels: these are the nodes of the labels.
+/// What is inside of a `switch`, the nodes of its labels, the one behind its tests, and from where control goes to the
+/// exit there.
+#[derive(Drop)]
+pub(crate) struct Selected {
+    pub(crate) within: Passed,
+    pub(crate) labels: Vec<u32>,
+    pub(crate) node: u32,
+    pub(crate) outs: Vec<u32>,
+}
+
+// The tests of labels: these are the nodes of the labels.
 #[tactic(auto, unfolding(crate::specs::reading::Statements::reached, crate::specs::reading::Statements::tests_at))]
-pub(crate) fn test_labels(
+fn test_labels(
     here: &Here<'_>,
     to: &mut Fragment,
     passed: &Passed,
@@ -97,12 +110,8 @@ fn has_default(cases: &[TypedSwitchPart]) -> bool
     false
 }
 
-/// From where control goes to the exit behind the tests.
-pub(crate) fn behind_tests(
-    here: &Here<'_>,
-    cases: &[TypedSwitchPart],
-    node: u32,
-) -> Result<Vec<u32>, NoMemory>
+// From where control goes to the exit behind the tests.
+fn behind_tests(here: &Here<'_>, cases: &[TypedSwitchPart], node: u32) -> Result<Vec<u32>, NoMemory>
     ensures { IfOk result (λ outs. outs.items ≡ behind_tests (has_default (as_typed_cases cases.now)) node) }
 {
     let mut outs = Vec::new(here.alloc);
@@ -110,6 +119,33 @@ pub(crate) fn behind_tests(
         outs.push(node)?;
     }
     Ok(outs)
+}
+
+/// The value of a `switch` and the tests of its labels.
+pub(crate) fn begin_select(
+    here: &Here<'_>,
+    to: &mut Fragment,
+    passed: &Passed,
+    rvalue: &Rvalue,
+    cases: &[TypedSwitchPart],
+) -> Result<Selected, NoMemory>
+    ensures selected { IfOk result (λ x. IsSelected (as_typed_cases cases.now) (selecting (tree_in here.now.laid.now)
+        here.now.depth here.now.path (rvalue_tree rvalue.now) (as_typed_cases cases.now)
+        (reached (tree_in here.now.laid.now) to.old passed.now))
+        (reached (tree_in here.now.laid.now) to.new x.within) x) }
+    ensures outside { waits passed.now ≡ (reached (tree_in here.now.laid.now) to.old passed.now).pending }
+{
+    let within = inside(here, to, passed);
+    let temp = value(here, to, &within, rvalue)?;
+    let labels = test_labels(here, to, &within, cases, temp)?;
+    let node = cut(here, to, &within)?;
+    let outs = behind_tests(here, cases, node)?;
+    Ok(Selected {
+        within,
+        labels,
+        node,
+        outs,
+    })
 }
 
 /// The exit of a `switch`.

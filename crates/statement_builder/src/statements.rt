@@ -9,10 +9,10 @@ ghost use Rattle.statement_builder.specs.reading.Statements.{reached, onward_of,
 ghost use Rattle.statement_builder.specs.reading.Statements.{case_at, cases_at, is_enclosing};
 
 use crate::leaving::{give_back, go_on, leave};
-use crate::loops::{continue_at, end_turns, end_until, enter, enter_if, inside};
+use crate::loops::{Begun, Entered, begin, begin_for, begin_while, end_do, end_for, end_turns};
 use crate::passed::{Onward, Passed, Way};
-use crate::selections::{behind_tests, end_select, label, labels_left, test_labels};
-use crate::steps::{act, cut, declare, evaluate, fork, go_to, join, value};
+use crate::selections::{Selected, begin_select, end_select, label, labels_left};
+use crate::steps::{declare, evaluate, fork, go_to, join, perform};
 use body_builder::{Fragment, Here};
 use flow_graph::Operation;
 use tm_lattice::NoMemory;
@@ -105,21 +105,16 @@ fn build_statement(
                 mutex: *mutex,
                 place: *place,
             };
-            let _node = act(here, to, passed, op)?;
-            Ok(())
+            perform(here, to, passed, op)
         }
         TypedStatement::Unlock { mutex, place } => {
             let op = Operation::Unlock {
                 mutex: *mutex,
                 place: *place,
             };
-            let _node = act(here, to, passed, op)?;
-            Ok(())
+            perform(here, to, passed, op)
         }
-        TypedStatement::Yield => {
-            let _node = act(here, to, passed, Operation::Yield)?;
-            Ok(())
-        }
+        TypedStatement::Yield => perform(here, to, passed, Operation::Yield),
     }
 }
 
@@ -139,19 +134,18 @@ fn build_enclosing(
 {
     match statement {
         TypedStatement::While { condition, body } => {
-            let mut within = inside(here, to, passed);
-            let head = act(here, to, &within, Operation::Skip)?;
-            let outs = enter(here, to, &within, condition)?;
+            let Entered {
+                mut within,
+                head,
+                outs,
+            } = begin_while(here, to, passed, condition)?;
             build_statement(here, to, &mut within, body, Onward::Head(head))?;
             end_turns(here, to, passed, &within, head, outs)
         }
         TypedStatement::Do { body, condition } => {
-            let mut within = inside(here, to, passed);
-            let head = act(here, to, &within, Operation::Skip)?;
+            let Begun { mut within, head } = begin(here, to, passed)?;
             build_statement(here, to, &mut within, body, Onward::Later)?;
-            continue_at(here, to, &within)?;
-            let other = fork(here, to, &within, condition)?;
-            end_until(here, to, passed, &within, head, other)
+            end_do(here, to, passed, &within, condition, head)
         }
         TypedStatement::For {
             first,
@@ -160,24 +154,25 @@ fn build_enclosing(
             body,
         } => {
             build_statement(here, to, passed, first, onward)?;
-            let mut within = inside(here, to, passed);
-            let head = act(here, to, &within, Operation::Skip)?;
-            let outs = enter_if(here, to, &within, condition)?;
+            let Entered {
+                mut within,
+                head,
+                outs,
+            } = begin_for(here, to, passed, condition)?;
             build_statement(here, to, &mut within, body, Onward::Later)?;
-            continue_at(here, to, &within)?;
-            evaluate(here, to, &within, step)?;
-            end_turns(here, to, passed, &within, head, outs)
+            end_for(here, to, passed, &within, step, head, outs)
         }
         TypedStatement::Switch {
             value: rvalue,
             parts,
             ..
         } => {
-            let mut within = inside(here, to, passed);
-            let temp = value(here, to, &within, rvalue)?;
-            let labels = test_labels(here, to, &within, parts, temp)?;
-            let node = cut(here, to, &within)?;
-            let outs = behind_tests(here, parts, node)?;
+            let Selected {
+                mut within,
+                labels,
+                node,
+                outs,
+            } = begin_select(here, to, passed, rvalue, parts)?;
             build_parts(here, to, &mut within, parts, &labels, node, onward)?;
             end_select(here, to, passed, &within, outs)
         }

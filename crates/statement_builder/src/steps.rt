@@ -32,6 +32,20 @@ pub(crate) fn act(
     Ok(node)
 }
 
+/// An operation.
+#[tactic(auto, unfolding(crate::specs::reading::Statements::reached, crate::specs::reading::Statements::placed))]
+pub(crate) fn perform(
+    here: &Here<'_>,
+    to: &mut Fragment,
+    passed: &Passed,
+    op: Operation,
+) -> Result<(), NoMemory>
+    ensures { OnOk result (reached (tree_in here.now.laid.now) to.new passed.now ≡ placed op
+        (reached (tree_in here.now.laid.now) to.old passed.now)) }
+{
+    here.place(to, op)
+}
+
 /// Control goes on at the other node of a fork: this is the one from which it went.
 #[tactic(auto, unfolding(crate::specs::reading::Statements::reached, crate::specs::reading::Statements::gone))]
 pub(crate) fn go_to(here: &Here<'_>, to: &mut Fragment, passed: &Passed, other: u32) -> u32

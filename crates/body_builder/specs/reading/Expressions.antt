@@ -33,6 +33,7 @@ use Rattle.lowering.specs.concrete_steps.Places.{rvalue_place, is_pointer_scalar
 use Rattle.lowering.specs.concrete_steps.NextAction.{step_operator, scalar_at}
 use Rattle.lowering.specs.Table.{Conversion, conversion, implied, is_same_place, has_value, call_has_value, into}
 use Rattle.lowering.specs.Built.{Building, place_with, place, place_new, branch, goto, meet, temp_of}
+use Rattle.body_builder.specs.declared.expressions.Held.{Held}
 use Rattle.body_builder.specs.declared.fragments.Wanted.{Wanted}
 use Rattle.body_builder.specs.declared.fragments.Wanted.TheVariants as Want
 use Rattle.body_builder.specs.Fragments.{calls_on}
@@ -77,6 +78,10 @@ ends_fork Want.Branch other b = record { at = b; temp = None; other = other }
 abbrev pub ends_new : Wanted → Bool → Place → Operation → Building → Outcome
 ends_new w pointer p op b = let v = new_value op b in ends w pointer p (Some v.temp) v.at
 
+-- a number is there, of which no branch is wanted
+abbrev pub number_at : ℤ → Building → Outcome
+number_at z b = let v = new_value (Op.Const b.temps (Number z)) b in with_temp (Some v.temp) v.at
+
 -- ## Conversions
 
 unfoldable pub converted : Conversion → ℕ → Building → Given
@@ -116,6 +121,11 @@ load_op true s p a t = Op.LoadAny t a s p
 abbrev pub loaded : Bool → Scalar → Place → ℕ → Building → Given
 loaded volatile s p a b = new_value (load_op volatile s p a b.temps) b
 
+-- what an address holds is there
+abbrev pub load_ends : Wanted → Bool → Scalar → Place → ℕ → Building → Outcome
+load_ends w volatile s p a b =
+    let v = loaded volatile s p a b in ends w (is_pointer_scalar s) p (Some v.temp) v.at
+
 unfoldable pub stored : Wanted → Scalar → Into → Place → ℕ → ℕ → Building → Outcome
 stored w s into p a x b = ends w (is_pointer_scalar s) p (Some x) (place (Op.Store a x s into p) b)
 
@@ -141,6 +151,22 @@ unit_step_ends w postfix op cell of into p a x b =
     let v = changed (conversion cell of) (conversion Ints.Int of) (conversion of cell) op cell of into p a x one.temp
     one.at in
     ends w false p (Some (if postfix then x else v.temp)) v.at
+
+-- ## Pointers
+
+-- a pointer is moved
+abbrev pub moved_ends : Wanted → Bool → ℕ → Place → ℕ → ℕ → Building → Outcome
+moved_ends w minus cells p x y b = ends_new w true p (Op.Move b.temps x cells minus y p) b
+
+-- the element behind a moved pointer, where the body of `path` is built
+abbrev pub pointed_element : ℕ → ℕ → ℕ → ℕ → ℕ → Place → Building → Given
+pointed_element path x cells y t p b =
+    let m = new_value (Op.Move b.temps x cells false y p) b in new_value (Op.Deref m.at.temps m.temp t path p) m.at
+
+-- the member of the structure behind a pointer
+abbrev pub pointed_part : ℕ → ℕ → ℕ → ℕ → Place → Building → Given
+pointed_part path x t cell p b =
+    let m = new_value (Op.Deref b.temps x t path p) b in new_value (Op.Offset m.at.temps m.temp cell) m.at
 
 -- a pointer is moved and stored
 unfoldable pub moved_stored : Bool → ℕ → ℕ → Into → Place → ℕ → ℕ → ℕ → Building → Given
@@ -195,8 +221,8 @@ conversion_ends Want.Branch same p c t b =
 
 -- a folded expression: its form counts where a branch is wanted
 abbrev pub folded_ends : Wanted → ℤ → Building → Outcome → Outcome
-folded_ends Want.Value z b x = let v = new_value (Op.Const b.temps (Number z)) b in with_temp (Some v.temp) v.at
-folded_ends Want.Bare z b x = let v = new_value (Op.Const b.temps (Number z)) b in with_temp (Some v.temp) v.at
+folded_ends Want.Value z b x = number_at z b
+folded_ends Want.Bare z b x = number_at z b
 folded_ends Want.Branch z b x = x
 
 -- an argument is stored to a parameter
@@ -217,9 +243,7 @@ module _ (laid : LaidTree) (depth path : ℕ) where
     value_at (a_folded z e) w b = folded_ends w z b (value_at e Want.Branch b)
     value_at (a_null p) w b = ends_new w true p (Op.Const b.temps (APointer Pointers.Null)) b
     value_at (a_load s volatile l) w b =
-        let a = address_at l b in
-        let v = loaded volatile s (lvalue_place l) a.temp a.at in
-        ends w (is_pointer_scalar s) (lvalue_place l) (Some v.temp) v.at
+        let a = address_at l b in load_ends w volatile s (lvalue_place l) a.temp a.at
     value_at (an_address l p) w b = let a = address_at l b in ends w true p (Some a.temp) a.at
     value_at (a_structure l) w b = ends w false (lvalue_place l) None (address_at l b).at
     value_at (the_same e p) w b = let x = value_at e Want.Value b in ends w (gives_pointer laid e) p x.temp x.at
@@ -236,11 +260,11 @@ module _ (laid : LaidTree) (depth path : ℕ) where
     value_at (a_move minus cells false e i p) w b =
         let x = value_at e Want.Value b in
         let y = value_at i Want.Value x.at in
-        ends_new w true p (Op.Move y.at.temps (temp_of x.temp) cells minus (temp_of y.temp) p) y.at
+        moved_ends w minus cells p (temp_of x.temp) (temp_of y.temp) y.at
     value_at (a_move minus cells true e i p) w b =
         let y = value_at i Want.Value b in
         let x = value_at e Want.Value y.at in
-        ends_new w true p (Op.Move x.at.temps (temp_of x.temp) cells minus (temp_of y.temp) p) x.at
+        moved_ends w minus cells p (temp_of x.temp) (temp_of y.temp) x.at
     value_at (a_not e p) w b =
         let o = value_at e Want.Branch b in ends_fork w o.at.node (goto o.other o.at)
     value_at (an_and l r p) w b =
@@ -303,14 +327,11 @@ module _ (laid : LaidTree) (depth path : ℕ) where
     address_at (a_pointed_element e i c t p) b =
         let x = value_at e Want.Value b in
         let y = value_at i Want.Value x.at in
-        let m = new_value (Op.Move y.at.temps (temp_of x.temp) c false (temp_of y.temp) p) y.at in
-        new_value (Op.Deref m.at.temps m.temp t path p) m.at
+        pointed_element path (temp_of x.temp) c (temp_of y.temp) t p y.at
     address_at (a_pointed e t p) b =
         let x = value_at e Want.Value b in new_value (Op.Deref x.at.temps (temp_of x.temp) t path p) x.at
     address_at (an_arrow e t c p) b =
-        let x = value_at e Want.Value b in
-        let m = new_value (Op.Deref x.at.temps (temp_of x.temp) t path p) x.at in
-        new_value (Op.Offset m.at.temps m.temp c) m.at
+        let x = value_at e Want.Value b in pointed_part path (temp_of x.temp) t c p x.at
     address_at (a_part l c p) b =
         let a = address_at l b in new_value (Op.Offset a.at.temps a.temp c) a.at
 
@@ -321,3 +342,10 @@ module _ (laid : LaidTree) (depth path : ℕ) where
         let x = value_at e Want.Value b in
         let y = values_at es x.at in
         record { at = y.at; temps = temp_of x.temp ∷ y.temps }
+
+  -- an object that is changed is loaded: where its value goes, its address, and what it holds
+  abbrev pub Holds : Bool → Scalar → LvalueTree → Building → Building → Held → Type 0
+  Holds volatile s l b n x =
+      let a = address_at l b in
+      let v = loaded volatile s (lvalue_place l) a.temp a.at in
+      (x.into ≡ into laid path l) × (x.address ≡ a.temp) × (n ≡ v.at) × (x.value ≡ v.temp)

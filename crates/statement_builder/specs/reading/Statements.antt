@@ -1,5 +1,5 @@
 -- Statements as the code builds them: each behind what is built and what waits already.
-use Rattle.std.specs.Prelude.{ℕ, Bool, true, false, if◌then◌else◌, List, [], ◌∷◌, ◌++◌, Option, Some, None, map}
+use Rattle.std.specs.Prelude.{◌≡◌, ℕ, Bool, true, false, if◌then◌else◌, List, [], ◌∷◌, ◌++◌, Option, Some, None, map}
 use Rattle.tm_typed.specs.TypedTrees.{RvalueTree}
 use Rattle.tm_typed.specs.TypedStatements.{LocalTree, TypedTree, evaluates, declares, runs_block, branches}
 use Rattle.tm_typed.specs.TypedStatements.{branches_else, loops_while, loops_do, loops_for, selects}
@@ -24,6 +24,9 @@ use Rattle.body_builder.specs.lowering.Built.{given_back, first_of, behind_first
 use Rattle.body_builder.specs.lowering.Steps.{Plan}
 use Rattle.body_builder.specs.declared.fragments.Fragment.{Fragment}
 use Rattle.body_builder.specs.Fragments.{so_far, calls_on}
+use Rattle.statement_builder.specs.declared.loops.Begun.{Begun}
+use Rattle.statement_builder.specs.declared.loops.Entered.{Entered}
+use Rattle.statement_builder.specs.declared.selections.Selected.{Selected}
 use Rattle.statement_builder.specs.declared.passed.Passed.{Passed}
 use Rattle.statement_builder.specs.declared.passed.Onward.{Onward}
 use Rattle.statement_builder.specs.declared.passed.Onward.TheVariants as Onwards
@@ -115,6 +118,17 @@ behind ps x = record { at = x.at; pending = ps ++ x.pending; result = x.result }
 unfoldable pub inside : Built.Passed → Built.Passed
 inside s = record { at = s.at; pending = []; result = s.result }
 
+-- the head of a loop is placed
+abbrev pub headed : Built.Passed → Built.Passed
+headed s = placed Op.Skip (inside s)
+
+abbrev pub IsBegun : Built.Passed → Built.Passed → Begun → Type 0
+IsBegun h b x = (b ≡ h) × (x.head ≡ h.at.node)
+
+-- the head of a loop is placed, with a test there
+abbrev pub IsEntered : Built.Passed → Lines → Built.Passed → Entered → Type 0
+IsEntered h o b x = (b ≡ o.at) × (x.head ≡ h.at.node) × (x.outs.items ≡ o.nodes)
+
 -- where `continue` goes to what is placed later, control comes together there
 unfoldable pub continued : Built.Passed → Built.Passed
 continued s = with_at (continued_at (nodes_by is_continue s.pending) s.at) s
@@ -176,6 +190,14 @@ unfoldable pub tests_at : LaidTree → ℕ → TypedCases → ℕ → Built.Pass
 tests_at laid path cs t s =
     let x = tests_piece (parts laid path cs) t s.at in record { at = with_at x.at s; nodes = x.nodes }
 
+-- the tests of labels are placed, behind which control goes on nowhere
+abbrev pub IsSelected : TypedCases → Lines → Built.Passed → Selected → Type 0
+IsSelected cs ls b x =
+    (b ≡ cut ls.at)
+    × (x.labels.items ≡ ls.nodes)
+    × (x.node ≡ ls.at.at.node)
+    × (x.outs.items ≡ behind_tests (has_default cs) ls.at.at.node)
+
 -- a loop or a `switch`
 abbrev pub is_enclosing : TypedTree → Bool
 is_enclosing (loops_while c t) = true
@@ -222,6 +244,18 @@ module _ (laid : LaidTree) (depth path : ℕ) where
       let x = code_piece (calls_on laid depth path) (codes laid path e).value s.at in
       record { at = with_at x.at s; temp = temp_of x.temp }
 
+  -- the value of a `switch` and the tests of its labels
+  abbrev pub selecting : RvalueTree → TypedCases → Built.Passed → Lines
+  selecting e cs s = let v = worth e (inside s) in tests_at laid path cs v.temp v.at
+
+  -- behind the body of a `do`
+  abbrev pub do_ends : RvalueTree → ℕ → List Built.Pending → Built.Passed → Built.Passed
+  do_ends c head ps s = let o = forked c (continued s) in until_ends head o.other ps o.at
+
+  -- behind the body of a `for`
+  abbrev pub for_ends : Option RvalueTree → ℕ → List ℕ → List Built.Pending → Built.Passed → Built.Passed
+  for_ends step head outs ps s = turns_end head outs ps (effected step (continued s))
+
   abbrev mutual
     -- a statement
     pub statement_at : TypedTree → Built.Onward → Built.Passed → Built.Passed
@@ -237,21 +271,18 @@ module _ (laid : LaidTree) (depth path : ℕ) where
         let x = statement_at t onward o.at in
         joined x.at.node (statement_at r onward (gone o.other x))
     statement_at (loops_while c t) onward s =
-        let h = placed Op.Skip (inside s) in
+        let h = headed s in
         let o = entered c h in
         turns_end h.at.node o.nodes s.pending (statement_at t (ToHead h.at.node) o.at)
     statement_at (loops_do t c) onward s =
-        let h = placed Op.Skip (inside s) in
-        let o = forked c (continued (statement_at t Later h)) in
-        until_ends h.at.node o.other s.pending o.at
+        let h = headed s in do_ends c h.at.node s.pending (statement_at t Later h)
     statement_at (loops_for first c step t) onward s =
         let i = statement_at first onward s in
-        let h = placed Op.Skip (inside i) in
+        let h = headed i in
         let o = entered_if c h in
-        turns_end h.at.node o.nodes i.pending (effected step (continued (statement_at t Later o.at)))
+        for_ends step h.at.node o.nodes i.pending (statement_at t Later o.at)
     statement_at (selects t e cs) onward s =
-        let v = worth e (inside s) in
-        let ls = tests_at laid path cs v.temp v.at in
+        let ls = selecting e cs s in
         select_ends (behind_tests (has_default cs) ls.at.at.node) s.pending
         (cases_at cs ls.nodes ls.at.at.node onward (cut ls.at))
     statement_at breaks onward s = left ByBreak s
