@@ -1,20 +1,82 @@
 -- Operations and their forms.
-use Rattle.std.proofs.Common.{◌≡◌, ◌↔◌, IsTrue, true, ℕ, zero, suc, ◌+◌, ◌<◌, ◌≤◌, List, [], ◌∷◌, ◌++◌}
+use Rattle.std.proofs.Common.{◌≡◌, ◌↔◌, IsTrue, true, false, ℕ, zero, suc, ◌+◌, ◌<◌, ◌≤◌, List, [], ◌∷◌, ◌++◌}
 use Rattle.std.proofs.Common.{length, get_or, take, refl, sym, ap, subst, arith}
+use Rattle.std.proofs.lemmas.Bool.{false≢true}
 use Rattle.std.proofs.lemmas.List.{take_more, take_all}
 use Rattle.flow_graph.specs.declared.operations.Test.{Test}
 use Rattle.flow_graph.specs.declared.operations.Operation.{Operation}
 use Rattle.flow_graph.specs.declared.operations.Operation.TheVariants as Op
 use Rattle.flow_graph.specs.declared.graphs.Edge.{Edge}
 use Rattle.path_origins.specs.declared.origins.Form.{Form}
+use Rattle.path_origins.specs.declared.origins.Form.TheVariants as Forms
 use Rattle.edge_origins.specs.declared.origins.EdgeOrigin.{EdgeOrigin}
 use Rattle.edge_origins.specs.Bodies.{HasForm, test_form, a_test, AreOf, of_none, of_more}
+use Rattle.edge_origins.specs.Bodies.{a_base, a_binary, a_clear, a_constant, a_conversion, a_copy, a_follow, a_load}
+use Rattle.edge_origins.specs.Bodies.{a_lock, a_move, a_part, a_probe, a_skip, a_store, a_unary}
+use Rattle.edge_origins.specs.Bodies.{a_usable, a_volatile_load, a_yield, an_element, an_equality}
+use Rattle.edge_origins.specs.Bodies.{an_initialiser, an_unlock, any_value}
 
 -- an operation has this form
 pub formed : {op o : Operation} {form f : Form} → op ≡ o → form ≡ f → HasForm o f → IsTrue true ↔ HasForm op form
 formed {op} {o} {form} {f} same same_form h =
     let At : Operation → Type 0 = λ p. HasForm p form in
     (λ _. subst At (sym same) (subst (HasForm o) (sym same_form) h), λ _. refl)
+
+-- the forms that an operation has, where there is one
+abbrev pub IsOf : Operation → Form → Type 0
+IsOf Op.Skip g = g ≡ Forms.Skip
+IsOf (Op.Const _ _) g = g ≡ Forms.Constant
+IsOf (Op.Copy _ _) g = g ≡ Forms.Copy
+IsOf (Op.Un _ _ _ _ _) g = g ≡ Forms.Unary
+IsOf (Op.Bin _ _ _ _ _ _) g = g ≡ Forms.Binary
+IsOf (Op.BinPointers _ _ _ _) g = g ≡ Forms.Equality
+IsOf (Op.Convert _ _ _ _) g = g ≡ Forms.Conversion
+IsOf (Op.Base _ _) g = g ≡ Forms.Base
+IsOf (Op.Offset _ _ _) g = g ≡ Forms.Part
+IsOf (Op.Index _ _ _ _ _ _) g = g ≡ Forms.Element
+IsOf (Op.Deref _ _ _ _ _) g = g ≡ Forms.Follow
+IsOf (Op.Load _ _ _ _) g = g ≡ Forms.Load
+IsOf (Op.LoadAny _ _ _ _) g = g ≡ Forms.Load
+IsOf (Op.Any _ _ _) g = g ≡ Forms.Any
+IsOf (Op.Clear _) g = g ≡ Forms.Clear
+IsOf (Op.Usable _ _) g = g ≡ Forms.Usable
+IsOf (Op.Lock _ _) g = g ≡ Forms.Lock
+IsOf (Op.Unlock _ _) g = g ≡ Forms.Unlock
+IsOf Op.Yield g = g ≡ Forms.Yield
+IsOf (Op.Probe _ _ _) g = g ≡ Forms.Probe
+IsOf operation g = Unit {0}
+
+pub is_of : {op : Operation} {f : Form} → HasForm op f → IsOf op f
+is_of a_skip = refl
+is_of a_constant = refl
+is_of a_copy = refl
+is_of a_unary = refl
+is_of a_binary = refl
+is_of an_equality = refl
+is_of a_conversion = refl
+is_of a_base = refl
+is_of a_part = refl
+is_of an_element = refl
+is_of a_follow = refl
+is_of a_load = refl
+is_of a_volatile_load = refl
+is_of any_value = refl
+is_of a_clear = refl
+is_of a_usable = refl
+is_of a_lock = refl
+is_of an_unlock = refl
+is_of a_yield = refl
+is_of a_probe = refl
+is_of a_move = tt
+is_of a_store = tt
+is_of an_initialiser = tt
+is_of a_test = tt
+
+-- an operation has not this form
+pub unformed : {op o : Operation} {form : Form} → op ≡ o → (HasForm o form → ⊥) → IsTrue false ↔ HasForm op form
+unformed {op} {o} {form} same none =
+    let At : Operation → Type 0 = λ p. HasForm p form in
+    (λ no. absurd (false≢true no), λ h. absurd (none (subst At same h)))
 
 -- a test has one form
 pub of_test : {t : Test} {f : Form} → HasForm (Op.Assume t) f → test_form t ≡ f

@@ -21,7 +21,6 @@ pub struct Fall {
 
 /// What is noted of the edges of a body: of each edge, in their order, where it comes from; and beside it, by the
 /// numbers of edges, what is noted of the call paths that the graph goes along.
-#[derive(Drop)]
 pub struct BodyOrigins {
     pub edges: Vec<EdgeOrigin>,
     pub operands: Vec<Unsequenced>,
@@ -30,4 +29,19 @@ pub struct BodyOrigins {
     pub lives: Vec<Life>,
     pub falls: Vec<Fall>,
     pub passings: Vec<Passing>,
+}
+
+// By hand: a function that lets one go calls this, and its check does not go through the fields.
+impl Drop for BodyOrigins {
+    fn drop(self) {
+        let BodyOrigins {
+            edges: _edges,
+            operands: _operands,
+            reloads: _reloads,
+            overwrites: _overwrites,
+            lives: _lives,
+            falls: _falls,
+            passings: _passings,
+        } = self;
+    }
 }

@@ -2,9 +2,11 @@
 use Rattle.std.proofs.Common.{◌≡◌, ◌≢◌, ◌↔◌, ◌⊎◌, ℕ, zero, suc, ◌+◌, ◌-◌, ◌<◌, ◌≤◌, refl, ap, sym, subst, ◌∙◌, inl}
 use Rattle.std.proofs.Common.{inr, List, []}
 use Rattle.std.proofs.Common.{◌∷◌, ◌++◌, length, map, get_or, take, drop, arith}
-use Rattle.std.specs.Prelude.{Contains, slice_set}
+use Rattle.std.specs.Prelude.{Contains, slice_set, IsTrue, true, false}
 use Rattle.std.specs.declared.vec.Vec.{Vec}
 use native.Mathlib.Decide.{ℕ_discrete}
+use borrow.Author.Count.{below_more}
+use Rattle.std.proofs.lemmas.Bool.{true≢false}
 use Rattle.std.proofs.lemmas.List.{take_more, get_or_default, get_or-map, length-map, map-set}
 use Rattle.std.proofs.lemmas.List.{get_or-set_same, get_or-set_other}
 use Rattle.std.proofs.lemmas.List.{get_or-take, get_or-drop, length-take-le, length-drop}
@@ -85,6 +87,29 @@ one_more {X} Is xs i d lt = (
 
 pub has_none : {X : Type 0} (Is : X → Type 0) → HasOne Is [] → ⊥
 has_none Is h = none h.one h.has
+
+-- one that is found, and none among those so far
+pub found_one : {X : Type 0} (Is : X → Type 0) (xs : List X) (i : ℕ) (d : X) → i < length xs → Is (get_or xs i d)
+    → IsTrue true ↔ HasOne Is xs
+found_one Is xs i d lt here = (
+  λ _. record { one = get_or xs i d; has = has_at xs i d lt; is = here },
+  λ _. refl,
+)
+
+pub none_more : {X : Type 0} (Is : X → Type 0) (xs : List X) (i : ℕ) (d : X) → i < length xs
+    → (Is (get_or xs i d) → ⊥) → ((k : ℕ) (x : X) → k < i → get_or xs k x ≡ x → Is x → ⊥)
+    → (k : ℕ) (x : X) → k < i + 1 → get_or xs k x ≡ x → Is x → ⊥
+none_more {X} Is xs i d lt here before k x le =
+    let None : ℕ → Type 0 = λ n. (y : X) → get_or xs n y ≡ y → Is y → ⊥ in
+    let now : None i = λ y e is. here (subst Is (sym e ∙ get_or_default xs i y d lt) is) in
+    below_more None i (λ n below y. before n y below) now k le x
+
+pub none_found : {X : Type 0} (Is : X → Type 0) (xs : List X) (i : ℕ) → length xs ≤ i
+    → ((k : ℕ) (x : X) → k < i → get_or xs k x ≡ x → Is x → ⊥) → IsTrue false ↔ HasOne Is xs
+none_found Is xs i le none = (
+  λ t. absurd (true≢false (sym t)),
+  λ h. absurd (none h.has.0 h.one (let lt = h.has.1 in omega (arith, lt, le)) h.has.2 h.is),
+)
 
 -- ## A part of a list
 

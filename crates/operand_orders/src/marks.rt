@@ -8,10 +8,19 @@ use tm_lattice::NoMemory;
 
 /// For each number whether it is marked, and for each number of first ones how many there are up to the last one of
 /// them that is marked.
-#[derive(Drop)]
 pub(crate) struct Marks {
     marks: Vec<bool>,
     lasts: Vec<u32>,
+}
+
+// By hand: a function that lets one go calls this, and its check does not go through the fields.
+impl Drop for Marks {
+    fn drop(self) {
+        let Marks {
+            marks: _marks,
+            lasts: _lasts,
+        } = self;
+    }
 }
 
 /// Marks with what is looked up of them.

@@ -20,7 +20,8 @@ use Rattle.path_origins.specs.Statements.{cell_value, cell_stored, cells_stored,
 use Rattle.path_origins.specs.Statements.{initialiser_span, declared, all_declared}
 use Rattle.path_origins.specs.Shown.{shown}
 use Rattle.path_origins.specs.reading.Walks.{IsBehind, life_added}
-use Rattle.path_origins.specs.reading.Leaving.{span_from, set_against}
+use Rattle.path_origins.specs.reading.Ends.{against_before}
+use Rattle.path_origins.specs.reading.Leaving.{span_from}
 use Rattle.path_origins.proofs.Laws.{nothing_behind, behind_still, then_behind}
 use Rattle.path_origins.proofs.Beside.{both_noted, life_noted}
 use Rattle.path_origins.proofs.Leaving.{next}
@@ -74,7 +75,7 @@ module _ (laid : LaidTree) (is_open : Place → Bool) (sizes : ℕ → ℕ) (pat
   joined : (p : Place) (k : ℕ) (first second : Span) (a b c d : Notes) (before x : Noted)
       → (k ≡ 0 → before ≡ nothing) → IsBehind a b before → IsBehind b c x → first.first ≡ a.size
       → first.end ≡ b.size → second.first ≡ b.size → second.end ≡ c.size
-      → shown d ≡ set_against p k first second (shown c) → IsBehind a d (with_cell p k before x)
+      → shown d ≡ against_before k p first second (shown c) → IsBehind a d (with_cell p k before x)
   joined p zero first second a b c d before x none h1 h2 e1 e2 e3 e4 h3 =
       h3 ∙ then_behind (shown a) (shown b) (shown c) before x h1 h2
       ∙ ap (behind (shown a)) (ap (λ z. behind z x) (none refl) ∙ nothing_behind x)
@@ -84,7 +85,7 @@ module _ (laid : LaidTree) (is_open : Place → Bool) (sizes : ℕ → ℕ) (pat
   pub cells_more : (o : ℕ) (q : Qualified) (p : Place) (n k : ℕ) (gs hs : List GivenTree) (all : Noted) (found : Bool)
       (first second : Span) (a b c d : Notes) → k < n → found ≡ is_given k gs → hs ≡ rest_of found gs
       → IsBehind b c (cell_stored laid is_open sizes path o q p k gs) → first.first ≡ a.size → first.end ≡ b.size
-      → second.first ≡ b.size → second.end ≡ c.size → shown d ≡ set_against p k first second (shown c)
+      → second.first ≡ b.size → second.end ≡ c.size → shown d ≡ against_before k p first second (shown c)
       → HasCells o q p n k gs all a b → HasCells o q p n (k + 1) hs all a d
   cells_more o q p n k gs hs all found first second a b c d lt ef eh h e1 e2 e3 e4 h3 has =
       let one : n - k ≡ suc (n - (k + 1)) = omega arith in

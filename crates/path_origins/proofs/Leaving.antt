@@ -1,6 +1,6 @@
 -- How control leaves statements, one behind another, by numbers that are counted from the first edge of the body.
 use Rattle.std.proofs.Common.{◌≡◌, ℕ, zero, suc, ◌+◌, ◌<◌, ◌≤◌, Bool, true, false, ◌||◌, List, ◌∷◌, length, drop, get_or}
-use Rattle.std.proofs.Common.{refl, ap, sym, subst, ◌∙◌, add-zero, zero-add, add_assoc}
+use Rattle.std.proofs.Common.{not, refl, ap, sym, subst, ◌∙◌, add-zero, zero-add, add_assoc}
 use Rattle.std.proofs.lemmas.List.{drop_more, drop_all}
 use Rattle.tm_terms.specs.declared.places.Place.{Place}
 use Rattle.tm_typed.specs.declared.statements.TypedStatement.{TypedStatement}
@@ -12,7 +12,7 @@ use Rattle.tm_laid.specs.Layouts.{LaidTree}
 use Rattle.path_origins.specs.declared.origins.Form.TheVariants as Forms
 use Rattle.path_origins.specs.declared.origins.Notes.{Notes}
 use Rattle.path_origins.specs.declared.statements.Ways.{Ways}
-use Rattle.path_origins.specs.Noted.{Noted, nothing, behind, tests, skips}
+use Rattle.path_origins.specs.Noted.{Noted, nothing, behind, one_if, tests, skips}
 use Rattle.path_origins.specs.Statements.{Left, goes_on, left_behind, in_turn, then_noted, nowhere, continued, closed}
 use Rattle.path_origins.specs.Statements.{labels_tested, has_default, exit_of, block, statement, statements, case_of}
 use Rattle.path_origins.specs.Statements.{cases}
@@ -20,9 +20,14 @@ use Rattle.path_origins.specs.Shown.{shown}
 use Rattle.path_origins.specs.reading.Walks.{IsBehind, IsLeftBehind, scoped_from}
 use Rattle.path_origins.specs.reading.Leaving.{inside_of, chosen_in, behind_loop, behind_choice, IsClosed, turns_met}
 use Rattle.path_origins.specs.reading.Leaving.{loop_end, gone_on, label_noted, labels_noted, is_default_label}
-use Rattle.path_origins.specs.reading.Leaving.{is_default_among, select_end}
+use Rattle.path_origins.specs.reading.Leaving.{is_default_among, missed, select_end}
 use Rattle.path_origins.proofs.Laws.{behind_behind, behind_nothing, nothing_behind, then_behind}
 use Rattle.path_origins.proofs.Beside.{scoped_noted}
+
+-- a way past the labels, where none is a default
+pub missed_unless : (default : Bool) → one_if (not default) nowhere Forms.Skip ≡ missed default
+missed_unless true = refl
+missed_unless false = refl
 
 -- ## Parts of a list, one behind another
 

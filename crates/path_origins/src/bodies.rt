@@ -1,21 +1,20 @@
 //! The bodies of call paths are walked.
-ghost use Rattle.std.specs.Prelude.{◌≡◌, IfOk, OnOk, MatchOption, option_map, true};
-ghost use Rattle.tm_typed.specs.Files.{no_typed_function};
-ghost use Rattle.tm_typed.specs.TypedFiles.{typed_body_tree, typed_function_tree};
+ghost use Rattle.std.specs.Prelude.{◌≡◌, IfOk, OnOk, option_map, true};
+ghost use Rattle.tm_typed.specs.TypedFiles.{typed_body_tree};
 ghost use Rattle.tm_laid.specs.Layouts.{laid_tree};
-ghost use Rattle.body_builder.specs.concrete_steps.NextAction.{function_at};
 ghost use Rattle.path_origins.specs.Opens.{is_among};
 ghost use Rattle.path_origins.specs.Bodies.{fallen, closing, is_task_path, noted_path};
 ghost use Rattle.path_origins.specs.Shown.{shown, sizes_in};
 ghost use Rattle.path_origins.specs.reading.Walks.{IsBehind};
 ghost use Rattle.path_origins.specs.reading.Leaving.{body_noted, function_noted};
 
+use crate::lookups::function_at;
 use crate::notes::{end_scopes, no_notes, note, note_fall, note_skips};
 use crate::opens::Opens;
 use crate::origins::{Form, Notes};
 use crate::statements::{Ways, walk_statements};
 use crate::walks::Here;
-use body_builder::{function_on, more, result_type};
+use body_builder::{more, result_type};
 use std::alloc::Global;
 use tm_laid::Laid;
 use tm_lattice::NoMemory;
@@ -92,15 +91,6 @@ fn walk_body(
     let is_task = is_task_path(here.laid, here.path);
     walk_closing(to, place, ways.returns, is_task)?;
     end_scopes(to, outer)
-}
-
-// The function of a path.
-#[tactic(auto, using(body_builder::proofs::FileTables::reads), unfolding(body_builder::specs::Fragments::tree_in))]
-fn function_at(laid: &Laid, path: u32) -> Option<&TypedFunction>
-    ensures { MatchOption result (function_at (laid_tree laid.now) path ≡ no_typed_function)
-        (λ f. function_at (laid_tree laid.now) path ≡ typed_function_tree f.now) }
-{
-    laid.file.functions.get(function_on(laid, path) as usize)
 }
 
 // A function; one without a body gives a constant.

@@ -5,31 +5,31 @@ ghost use Rattle.tm_laid.specs.TypeCells.{entry_of};
 ghost use Rattle.tm_laid.specs.Layouts.{laid_tree};
 ghost use Rattle.tm_terms.specs.declared.places.Place.{Place as APlace};
 ghost use Rattle.body_builder.specs.concrete_steps.NextAction.{function_at};
-ghost use Rattle.body_builder.specs.concrete_steps.Places.{rvalue_place, result_type};
+ghost use Rattle.body_builder.specs.concrete_steps.Places.{rvalue_place};
 ghost use Rattle.body_builder.specs.lowering.Table.{implied};
-ghost use Rattle.path_origins.specs.Types.{given, given_by, pointer_to};
+ghost use Rattle.path_origins.specs.Types.{given, pointer_to};
 ghost use Rattle.path_origins.specs.Noted.{behind, one_if, scoped, skips};
 ghost use Rattle.path_origins.specs.Expressions.{walked};
 ghost use Rattle.path_origins.specs.Shown.{shown, sizes_in};
 ghost use Rattle.path_origins.specs.reading.Walks.{by_wanted, decided_by, IsBehind};
-ghost use Rattle.path_origins.specs.reading.Ends.{converted_end, against_before, stores, stores_and_body, life_from};
+ghost use Rattle.path_origins.specs.reading.Ends.{converted_end, stores, stores_and_body, life_from};
 ghost use Rattle.path_origins.specs.reading.Reading.{IsGiven, IsRead, IsTested, AreRead};
 ghost use Rattle.path_origins.specs.Opens.{is_among};
 
 use crate::addresses::walk_address;
 use crate::lookups::{
-    callee, function_on, is_conversion, is_implied, is_pointer_scalar, is_same_place, object_of,
-    result_type, rvalue_place, type_at,
+    function_at, is_conversion, is_implied, is_pointer_scalar, is_same_place, object_at,
+    rvalue_place,
 };
 use crate::notes::{
-    end_scopes, note, note_body, note_conversion, note_end, note_fork_end, note_life,
-    note_operands, note_passing, note_skips, sequence, since,
+    end_scopes, note, note_against, note_body, note_end, note_fork_end, note_if, note_life,
+    note_passing, note_skips, sequence, since,
 };
 use crate::operators::walk_operator;
 use crate::origins::{Form, Life, Notes, Span};
-use crate::types::{Given, given_by, held_by, object_place};
+use crate::types::{Given, given_by, held_by};
 use crate::walks::{Here, Wanted};
-use body_builder::more;
+use body_builder::{callee, more, object_of, result_type, type_at};
 use tm_laid::Laid;
 use tm_lattice::NoMemory;
 use tm_terms::Place;
@@ -106,6 +106,35 @@ pub(crate) fn walk_rvalue(
             note_end(to, wanted, false, place)?;
             Ok(Given::Nothing)
         }
+        Rvalue::Input { place, .. } => {
+            note(to, *place, Form::Any)?;
+            note_end(to, wanted, false, *place)?;
+            Ok(Given::Number)
+        }
+        Rvalue::Probe { place, .. } => {
+            note(to, *place, Form::Probe)?;
+            note_end(to, wanted, false, *place)?;
+            Ok(Given::Number)
+        }
+        _ => walk_call(here, to, rvalue, wanted, used),
+    }
+}
+
+// A call, or a value that is passed on, converted or let go; or else what has sequence points.
+#[cycle(walk)]
+fn walk_call(
+    here: &Here<'_>,
+    to: &mut Notes,
+    rvalue: &Rvalue,
+    wanted: Wanted,
+    used: bool,
+) -> Result<Given, NoMemory>
+    ensures noted { IfOk result (λ g. IsRead here.now.laid.now here.now.opens.now here.now.sizes.now
+        here.now.path wanted used rvalue.now to.old to.new) }
+    ensures given { IfOk result (λ g. IsGiven here.now.laid.now here.now.opens.now here.now.path rvalue.now
+        g) }
+{
+    match rvalue {
         Rvalue::Same { value, place } => {
             let given = walk_rvalue(here, to, value, Wanted::Value, true)?;
             note_end(to, wanted, given.is_pointer(), *place)?;
@@ -120,25 +149,7 @@ pub(crate) fn walk_rvalue(
             let path = callee(here.laid, here.path, *site);
             walk_arguments(here, to, path, arguments, *place)?;
             note_call(here, to, path, arguments.len(), *place, used)?;
-            let given = given_of_call(here.laid, path);
-            note_end(to, wanted, given.is_pointer(), *place)?;
-            Ok(given)
-        }
-        Rvalue::Input { place, .. } => {
-            note(to, *place, Form::Any)?;
-            note_end(to, wanted, false, *place)?;
-            Ok(Given::Number)
-        }
-        Rvalue::Probe { place, .. } => {
-            note(to, *place, Form::Probe)?;
-            note_end(to, wanted, false, *place)?;
-            Ok(Given::Number)
-        }
-        Rvalue::Comma { left, right, place } => {
-            let pending = to.pending.len();
-            let _first = walk_rvalue(here, to, left, Wanted::Value, false)?;
-            sequence(to, pending);
-            let given = walk_rvalue(here, to, right, Wanted::Value, used)?;
+            let given = given_by(result_type(here.laid, path));
             note_end(to, wanted, given.is_pointer(), *place)?;
             Ok(given)
         }
@@ -157,6 +168,33 @@ pub(crate) fn walk_rvalue(
             let _given = walk_rvalue(here, to, value, Wanted::Value, false)?;
             note_end(to, wanted, false, *place)?;
             Ok(Given::Nothing)
+        }
+        _ => walk_choice(here, to, rvalue, wanted, used),
+    }
+}
+
+// `,`, `!`, `&&`, `||` or `?:`; or else an operator.
+#[cycle(walk)]
+fn walk_choice(
+    here: &Here<'_>,
+    to: &mut Notes,
+    rvalue: &Rvalue,
+    wanted: Wanted,
+    used: bool,
+) -> Result<Given, NoMemory>
+    ensures noted { IfOk result (λ g. IsRead here.now.laid.now here.now.opens.now here.now.sizes.now
+        here.now.path wanted used rvalue.now to.old to.new) }
+    ensures given { IfOk result (λ g. IsGiven here.now.laid.now here.now.opens.now here.now.path rvalue.now
+        g) }
+{
+    match rvalue {
+        Rvalue::Comma { left, right, place } => {
+            let pending = to.pending.len();
+            let _first = walk_rvalue(here, to, left, Wanted::Value, false)?;
+            sequence(to, pending);
+            let given = walk_rvalue(here, to, right, Wanted::Value, used)?;
+            note_end(to, wanted, given.is_pointer(), *place)?;
+            Ok(given)
         }
         Rvalue::Not { value, place } => {
             let _given = walk_rvalue(here, to, value, Wanted::Branch, true)?;
@@ -185,9 +223,9 @@ pub(crate) fn walk_rvalue(
             let _given = walk_rvalue(here, to, condition, Wanted::Branch, true)?;
             sequence(to, pending);
             let one = walk_rvalue(here, to, first, Wanted::Value, used)?;
-            note_copy(to, one.has_value(), *place)?;
+            note_if(to, one.has_value(), *place, Form::Copy)?;
             let other = walk_rvalue(here, to, second, Wanted::Value, used)?;
-            note_copy(to, one.has_value(), *place)?;
+            note_if(to, one.has_value(), *place, Form::Copy)?;
             note_skips(to, *place, 2)?;
             note_end(to, wanted, one.is_pointer(), *place)?;
             Ok(one.or(other))
@@ -217,16 +255,6 @@ fn note_both_end(to: &mut Notes, wanted: Wanted, place: Place) -> Result<(), NoM
     Ok(())
 }
 
-// One part of a choice is copied, where it has a value.
-fn note_copy(to: &mut Notes, has: bool, place: Place) -> Result<(), NoMemory>
-    ensures { OnOk result (IsBehind to.old to.new (one_if has place Form.Copy)) }
-{
-    if has {
-        note(to, place, Form::Copy)?;
-    }
-    Ok(())
-}
-
 // A conversion, which an operator makes itself where it stands at the place of its operand.
 fn conversion_ends(
     to: &mut Notes,
@@ -242,10 +270,10 @@ fn conversion_ends(
             if is_same {
                 return Ok(());
             }
-            note_conversion(to, place, is)
+            note_if(to, is, place, Form::Conversion)
         }
         Wanted::Value | Wanted::Branch => {
-            note_conversion(to, place, is)?;
+            note_if(to, is, place, Form::Conversion)?;
             note_end(to, wanted, false, place)
         }
     }
@@ -285,10 +313,11 @@ pub(crate) fn note_implied(to: &mut Notes, value: &Rvalue) -> Result<(), NoMemor
     ensures { OnOk result (IsBehind to.old to.new (one_if (is_some (implied (rvalue_tree value.now)))
         (rvalue_place (rvalue_tree value.now)) Form.Conversion)) }
 {
-    note_conversion(to, rvalue_place(value), is_implied(value))
+    note_if(to, is_implied(value), rvalue_place(value), Form::Conversion)
 }
 
 // The pointer to an lvalue; or to the first element of an array, where no `&` stands (C99 6.3.2.1p3).
+#[tactic(auto, unfolding(body_builder::specs::Fragments::tree_in))]
 fn pointer_to(laid: &Laid, is_bare: bool, of: Qualified) -> Given
     ensures { (o : APlace → Bool) (p : ℕ)
         → result ≡ pointer_to (laid_tree laid.now) o p is_bare (entry_of (laid_tree laid.now).file of.number).ctype of }
@@ -310,19 +339,11 @@ fn pointer_to(laid: &Laid, is_bare: bool, of: Qualified) -> Given
 
 // ## Calls
 
-// What the call of a path gives.
-fn given_of_call(laid: &Laid, path: u32) -> Given
-    ensures { result ≡ given_by (result_type (laid_tree laid.now) (function_at (laid_tree laid.now) path)) }
-{
-    given_by(result_type(laid, path))
-}
-
 // The number of the type of a parameter of the function of a path.
-#[tactic(auto, using(body_builder::proofs::FileTables::reads))]
 fn parameter_number(laid: &Laid, path: u32, number: usize) -> u32
     ensures { result ≡ get_or (function_at (laid_tree laid.now) path).parameters number 0 }
 {
-    match laid.file.functions.get(function_on(laid, path) as usize) {
+    match function_at(laid, path) {
         Some(function) => match function.parameters.get(number) {
             Some(of) => *of,
             None => 0,
@@ -332,6 +353,7 @@ fn parameter_number(laid: &Laid, path: u32, number: usize) -> u32
 }
 
 // The type of a parameter of the function of a path.
+#[tactic(auto, unfolding(body_builder::specs::Fragments::tree_in))]
 fn parameter_type(laid: &Laid, path: u32, number: usize) -> CType
     ensures { result ≡ (entry_of (laid_tree laid.now).file
         (get_or (function_at (laid_tree laid.now) path).parameters number 0)).ctype }
@@ -347,22 +369,6 @@ fn size_of(sizes: &[u32], path: u32) -> u32
         Some(size) => *size,
         None => 0,
     }
-}
-
-// An argument that is not the first one stands against those before it.
-fn note_argument(
-    to: &mut Notes,
-    place: Place,
-    number: usize,
-    before: Span,
-    edges: Span,
-) -> Result<(), NoMemory>
-    ensures { OnOk result (shown to.new ≡ against_before number place before edges (shown to.old)) }
-{
-    if number == 0 {
-        return Ok(());
-    }
-    note_operands(to, place, before, edges)
 }
 
 // The arguments of a call (C99 6.5.2.2p10): each stands against those before it, and a sequence point behind all.
@@ -385,20 +391,21 @@ fn walk_arguments(
         let walked = walk_part(here, to, argument, Wanted::Value)?;
         let ctype = parameter_type(here.laid, path, number);
         note_passing(to, rvalue_place(argument), walked.given, ctype)?;
-        note_argument(to, place, number, before, walked.edges)?;
+        note_against(to, place, number, before, walked.edges)?;
     }
     sequence(to, pending);
     Ok(())
 }
 
 // The life of a parameter, which begins with the store of its argument. Its scope ends later.
+#[tactic(auto, unfolding(body_builder::specs::Fragments::tree_in))]
 fn life_of(laid: &Laid, path: u32, number: u32, first: u32, begins: u32) -> Result<Life, NoMemory>
     ensures { IfOk result (λ l. l ≡ life_from (laid_tree laid.now) path number first begins) }
 {
     let object = object_of(laid, path, ObjectNumber::Local(number))?;
     Ok(Life {
         object,
-        place: object_place(laid, object),
+        place: object_at(laid, object).place,
         begins,
         scope: Span { first, end: first },
         initialiser: None,

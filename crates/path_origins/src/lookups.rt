@@ -1,19 +1,20 @@
 //! What the walk looks up.
-ghost use Rattle.std.specs.Prelude.{◌≡◌, is_some, IfOk};
+ghost use Rattle.std.specs.Prelude.{◌≡◌, is_some, MatchOption};
 ghost use Rattle.tm_cint.specs.Conversions.{represents_all};
 ghost use Rattle.tm_typed.specs.Rules.{is_comparison};
 ghost use Rattle.tm_typed.specs.TypedTrees.{rvalue_tree};
-ghost use Rattle.tm_laid.specs.TypeCells.{entry_of};
-ghost use Rattle.tm_laid.specs.Layouts.{laid_tree, callee, object_of, path_at};
-ghost use Rattle.body_builder.specs.concrete_steps.Places.{rvalue_place, is_pointer_scalar, result_type};
+ghost use Rattle.tm_typed.specs.Files.{no_typed_function};
+ghost use Rattle.tm_typed.specs.TypedFiles.{typed_function_tree};
+ghost use Rattle.tm_laid.specs.Layouts.{laid_tree, object_at};
+ghost use Rattle.body_builder.specs.concrete_steps.Places.{rvalue_place, is_pointer_scalar};
 ghost use Rattle.body_builder.specs.concrete_steps.NextAction.{function_at};
 ghost use Rattle.body_builder.specs.lowering.Table.{conversion, is_same_place, implied};
 
+use body_builder::function_on;
 use tm_cint::{BinOp, IntType};
-use tm_laid::Laid;
-use tm_lattice::NoMemory;
-use tm_terms::Place;
-use tm_typed::{CType, ObjectNumber, Rvalue, Scalar};
+use tm_laid::{Laid, LaidObject};
+use tm_terms::{Name, Place};
+use tm_typed::{Qualified, Rvalue, Scalar, TypedFunction};
 
 /// The place of what no expression gave.
 pub(crate) const NOWHERE: Place = Place { line: 0, col: 0 };
@@ -35,22 +36,11 @@ fn represents_all(to: IntType, from: IntType) -> bool
     to.lo() <= from.lo() && from.hi() <= to.hi()
 }
 
-// A conversion, where it makes an operation.
-fn conversion(from: IntType, to: IntType) -> Option<(IntType, IntType)>
-    ensures { result ≡ conversion from to }
-{
-    if represents_all(to, from) {
-        None
-    } else {
-        Some((from, to))
-    }
-}
-
 /// Whether a conversion makes an operation: the type has not all values of the one before.
 pub(crate) fn is_conversion(from: IntType, to: IntType) -> bool
     ensures { result ≡ is_some (conversion from to) }
 {
-    conversion(from, to).is_some()
+    !represents_all(to, from)
 }
 
 /// Whether two places are the same.
@@ -104,9 +94,10 @@ pub(crate) fn rvalue_place(value: &Rvalue) -> Place
     }
 }
 
-// The implied conversion around an operand.
-fn implied(value: &Rvalue) -> Option<(IntType, IntType)>
-    ensures { result ≡ implied (rvalue_tree value.now) }
+/// Whether an operand is converted once all operands are evaluated: its conversion stands at its own place, and makes
+/// an operation.
+pub(crate) fn is_implied(value: &Rvalue) -> bool
+    ensures { result ≡ is_some (implied (rvalue_tree value.now)) }
 {
     match value {
         Rvalue::Convert {
@@ -116,61 +107,46 @@ fn implied(value: &Rvalue) -> Option<(IntType, IntType)>
             place,
         } => {
             if is_same_place(*place, rvalue_place(value)) {
-                conversion(*from, *to)
+                is_conversion(*from, *to)
             } else {
-                None
+                false
             }
         }
-        _ => None,
+        _ => false,
     }
 }
 
-/// Whether an operand is converted once all operands are evaluated: its conversion stands at its own place, and makes
-/// an operation.
-pub(crate) fn is_implied(value: &Rvalue) -> bool
-    ensures { result ≡ is_some (implied (rvalue_tree value.now)) }
-{
-    implied(value).is_some()
-}
-
-// ## The program, as plain data
-
-/// What a type is.
-#[tactic(auto, unfolding(body_builder::specs::Fragments::tree_in))]
-pub(crate) fn type_at(laid: &Laid, number: u32) -> CType
-    ensures { result ≡ (entry_of (laid_tree laid.now).file number).ctype }
-{
-    body_builder::type_at(laid, number)
-}
-
-/// The path that goes on from a path by one of its calls.
-#[tactic(auto, unfolding(body_builder::specs::Fragments::tree_in))]
-pub(crate) fn callee(laid: &Laid, path: u32, site: u32) -> u32
-    ensures { result ≡ callee (laid_tree laid.now) path site }
-{
-    body_builder::callee(laid, path, site)
-}
-
-/// The object that a number stands for on a path.
-#[tactic(auto, unfolding(body_builder::specs::Fragments::tree_in))]
-pub(crate) fn object_of(laid: &Laid, path: u32, object: ObjectNumber) -> Result<u32, NoMemory>
-    ensures { IfOk result (λ o. o ≡ object_of (laid_tree laid.now) path object) }
-{
-    body_builder::object_of(laid, path, object)
-}
-
 /// The function of a path.
-#[tactic(auto, unfolding(body_builder::specs::Fragments::tree_in))]
-pub(crate) fn function_on(laid: &Laid, path: u32) -> u32
-    ensures { result ≡ (path_at (laid_tree laid.now) path).function }
+#[tactic(auto, using(body_builder::proofs::FileTables::reads), unfolding(body_builder::specs::Fragments::tree_in))]
+pub(crate) fn function_at(laid: &Laid, path: u32) -> Option<&TypedFunction>
+    ensures { MatchOption result (function_at (laid_tree laid.now) path ≡ no_typed_function)
+        (λ f. function_at (laid_tree laid.now) path ≡ typed_function_tree f.now) }
 {
-    body_builder::function_on(laid, path)
+    laid.file.functions.get(function_on(laid, path) as usize)
 }
 
-/// The type of the result of the function of a path.
-#[tactic(auto, unfolding(body_builder::specs::Fragments::tree_in))]
-pub(crate) fn result_type(laid: &Laid, path: u32) -> CType
-    ensures { result ≡ result_type (laid_tree laid.now) (function_at (laid_tree laid.now) path) }
+/// An object; where there is none, it has no cells.
+pub(crate) fn object_at(laid: &Laid, object: u32) -> LaidObject
+    ensures { result ≡ object_at (laid_tree laid.now) object }
 {
-    body_builder::result_type(laid, path)
+    match laid.objects.get(object as usize) {
+        Some(found) => *found,
+        None => LaidObject {
+            name: Name {
+                start: 0,
+                length: 0,
+            },
+            place: NOWHERE,
+            of: Qualified {
+                number: 0,
+                constant: false,
+                volatile: false,
+            },
+            owner: None,
+            first_cell: 0,
+            cells: 0,
+            first_abstract: 0,
+            abstract_cells: 0,
+        },
+    }
 }

@@ -5,6 +5,7 @@ ghost use Rattle.path_origins.specs.Noted.{nothing, one, one_if, tests, skips, c
 ghost use Rattle.path_origins.specs.Noted.{overwrites_of};
 ghost use Rattle.path_origins.specs.Shown.{shown};
 ghost use Rattle.path_origins.specs.reading.Walks.{IsBehind, end_by, decided_by, operands_added, reload_added};
+ghost use Rattle.path_origins.specs.reading.Ends.{against_before};
 ghost use Rattle.path_origins.specs.reading.Walks.{sequenced_from, scoped_from, stored_from, life_added, fall_added};
 
 use crate::origins::{
@@ -65,12 +66,12 @@ pub(crate) fn note_tests(to: &mut Notes, place: Place, form: Form) -> Result<(),
     note(to, place, form)
 }
 
-/// A conversion, where it makes an operation.
-pub(crate) fn note_conversion(to: &mut Notes, place: Place, is: bool) -> Result<(), NoMemory>
-    ensures { OnOk result (IsBehind to.old to.new (one_if is place Form.Conversion)) }
+/// An edge, if it is so.
+pub(crate) fn note_if(to: &mut Notes, is: bool, place: Place, form: Form) -> Result<(), NoMemory>
+    ensures { OnOk result (IsBehind to.old to.new (one_if is place form)) }
 {
     if is {
-        note(to, place, Form::Conversion)?;
+        return note(to, place, form);
     }
     Ok(())
 }
@@ -145,6 +146,22 @@ pub(crate) fn note_operands(
         second,
     })?;
     Ok(())
+}
+
+/// What is not the first one in a row stands against those before it.
+pub(crate) fn note_against(
+    to: &mut Notes,
+    place: Place,
+    number: usize,
+    before: Span,
+    edges: Span,
+) -> Result<(), NoMemory>
+    ensures { OnOk result (shown to.new ≡ against_before number place before edges (shown to.old)) }
+{
+    if number == 0 {
+        return Ok(());
+    }
+    note_operands(to, place, before, edges)
 }
 
 /// A load of what `op=` changes, and its right side.

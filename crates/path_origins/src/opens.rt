@@ -11,9 +11,15 @@ use tm_lattice::NoMemory;
 use tm_terms::Place;
 
 /// Places, each found at once.
-#[derive(Drop)]
 pub struct Opens {
     places: IndexSet<Place>,
+}
+
+// By hand: a function that lets one go calls this, and its check does not go through the fields.
+impl Drop for Opens {
+    fn drop(self) {
+        let Opens { places: _places } = self;
+    }
 }
 
 impl Model for Opens {

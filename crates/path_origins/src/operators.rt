@@ -12,16 +12,15 @@ ghost use Rattle.path_origins.specs.reading.Reading.{IsGiven, IsTyped, IsRead, I
 
 use crate::addresses::walk_address;
 use crate::expressions::{note_implied, walk_part, walk_rvalue};
-use crate::lookups::{
-    is_comparison, is_conversion, is_implied, is_pointer_scalar, rvalue_place, type_at,
-};
+use crate::lookups::{is_comparison, is_conversion, is_implied, is_pointer_scalar, rvalue_place};
 use crate::notes::{
-    note, note_conversion, note_end, note_operands, note_passing, note_reload, note_store,
-    note_tests, since,
+    note, note_end, note_if, note_operands, note_passing, note_reload, note_store, note_tests,
+    since,
 };
 use crate::origins::{Form, Notes, Span};
 use crate::types::{Given, class_target, held_by};
 use crate::walks::{Here, Wanted};
+use body_builder::type_at;
 use tm_cint::IntType;
 use tm_lattice::NoMemory;
 use tm_terms::Place;
@@ -100,13 +99,19 @@ pub(crate) fn walk_operator(
     }
 }
 
-// A comparison of numbers.
-fn comparison_ends(to: &mut Notes, wanted: Wanted, place: Place) -> Result<(), NoMemory>
-    ensures { OnOk result (IsBehind to.old to.new (compared_end wanted place)) }
+// A comparison: a value by this form, or as a branch tests by that one.
+fn comparison_ends(
+    to: &mut Notes,
+    wanted: Wanted,
+    place: Place,
+    value: Form,
+    test: Form,
+) -> Result<(), NoMemory>
+    ensures { OnOk result (IsBehind to.old to.new (compared_end wanted place value test)) }
 {
     match wanted {
-        Wanted::Branch => note_tests(to, place, Form::Test),
-        Wanted::Value | Wanted::Bare => note(to, place, Form::Binary),
+        Wanted::Branch => note_tests(to, place, test),
+        Wanted::Value | Wanted::Bare => note(to, place, value),
     }
 }
 
@@ -120,30 +125,20 @@ fn operator_ends(
     ensures { OnOk result (IsBehind to.old to.new (operator_end is_comparison wanted place)) }
 {
     if is_comparison {
-        return comparison_ends(to, wanted, place);
+        return comparison_ends(to, wanted, place, Form::Binary, Form::Test);
     }
     note(to, place, Form::Binary)?;
     note_end(to, wanted, false, place)
 }
 
-// Equality of pointers that are known to be usable.
-fn equality_ends(to: &mut Notes, wanted: Wanted, place: Place) -> Result<(), NoMemory>
-    ensures { OnOk result (IsBehind to.old to.new (equality_end wanted place)) }
-{
-    match wanted {
-        Wanted::Branch => note_tests(to, place, Form::EqualityTest),
-        Wanted::Value | Wanted::Bare => note(to, place, Form::Equality),
-    }
-}
-
-// A comparison of pointers.
+// A comparison of pointers, once they are known to be usable.
 fn pointers_end(to: &mut Notes, wanted: Wanted, place: Place) -> Result<(), NoMemory>
     ensures { OnOk result (IsBehind to.old to.new (behind (behind (one place Form.Usable) (one place Form.Usable))
         (equality_end wanted place))) }
 {
     note(to, place, Form::Usable)?;
     note(to, place, Form::Usable)?;
-    equality_ends(to, wanted, place)
+    comparison_ends(to, wanted, place, Form::Equality, Form::EqualityTest)
 }
 
 // A pointer is moved.
@@ -176,10 +171,12 @@ fn change_ends(
         (change_end (is_some (conversion change.cell change.of)) change.load_place is_converted operand_place
         (is_some (conversion change.of change.cell)) change.place))) }
 {
-    note_conversion(to, change.load_place, is_conversion(change.cell, change.of))?;
-    note_conversion(to, operand_place, is_converted)?;
+    let loaded = is_conversion(change.cell, change.of);
+    let back = is_conversion(change.of, change.cell);
+    note_if(to, loaded, change.load_place, Form::Conversion)?;
+    note_if(to, is_converted, operand_place, Form::Conversion)?;
     note(to, change.place, Form::Binary)?;
-    note_conversion(to, change.place, is_conversion(change.of, change.cell))?;
+    note_if(to, back, change.place, Form::Conversion)?;
     note_store(to, change.place, pending)
 }
 
@@ -231,7 +228,7 @@ fn note_right(
     note_reload(to, place, load, right)
 }
 
-// What changes an object. The other forms never come here.
+// An assignment, or else `++` or `--`.
 #[cycle(walk)]
 fn walk_change(
     here: &Here<'_>,
@@ -301,6 +298,26 @@ fn walk_change(
             note_end(to, wanted, true, *place)?;
             Ok(held_by(here.laid, Scalar::Pointer(*class), address.of))
         }
+        _ => walk_step(here, to, rvalue, wanted, used),
+    }
+}
+
+// `++` or `--`. The other forms never come here.
+#[cycle(walk)]
+fn walk_step(
+    here: &Here<'_>,
+    to: &mut Notes,
+    rvalue: &Rvalue,
+    wanted: Wanted,
+    used: bool,
+) -> Result<Given, NoMemory>
+    ensures noted { IfOk result (λ g. IsRead here.now.laid.now here.now.opens.now here.now.sizes.now
+        here.now.path wanted used rvalue.now to.old to.new) }
+    ensures given { IfOk result (λ g. IsGiven here.now.laid.now here.now.opens.now here.now.path rvalue.now
+        g) }
+{
+    let pending = to.pending.len();
+    match rvalue {
         Rvalue::Step {
             cell,
             of,

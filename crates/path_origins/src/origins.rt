@@ -107,7 +107,6 @@ pub struct Passing {
 
 /// What is noted of the body of a path. Edges are counted from its first one, with those of the bodies of calls, of
 /// which nothing else is noted here.
-#[derive(Drop)]
 pub struct Notes {
     /// How many edges there are.
     pub size: u32,
@@ -124,4 +123,23 @@ pub struct Notes {
     pub pending: Vec<u32>,
     /// The lives whose scope has not ended.
     pub unended: Vec<Life>,
+}
+
+// By hand: a function that lets one go calls this, and its check does not go through the fields.
+impl Drop for Notes {
+    fn drop(self) {
+        let Notes {
+            size: _,
+            edges: _edges,
+            calls: _calls,
+            operands: _operands,
+            reloads: _reloads,
+            overwrites: _overwrites,
+            lives: _lives,
+            falls: _falls,
+            passings: _passings,
+            pending: _pending,
+            unended: _unended,
+        } = self;
+    }
 }

@@ -6,28 +6,26 @@ ghost use Rattle.tm_typed.specs.TypedStatements.{optional_rvalue_tree, given_tre
 ghost use Rattle.tm_laid.specs.Layouts.{laid_tree, object_at};
 ghost use Rattle.body_builder.specs.concrete_steps.NextAction.{is_given, rest_of};
 ghost use Rattle.body_builder.specs.lowering.Table.{is_scalar_object};
-ghost use Rattle.path_origins.specs.Noted.{nothing, one_if, behind, sequenced};
+ghost use Rattle.path_origins.specs.Noted.{nothing, behind, sequenced};
 ghost use Rattle.path_origins.specs.Expressions.{walked};
 ghost use Rattle.path_origins.specs.Statements.{statement, statements, case_of, cases, skip, test_of, effect_of, entered};
 ghost use Rattle.path_origins.specs.Statements.{outs, returned, is_first, cell_value, cell_stored, cells_stored};
 ghost use Rattle.path_origins.specs.Statements.{initialised, declared, all_declared, nowhere};
 ghost use Rattle.path_origins.specs.Shown.{shown, sizes_in};
 ghost use Rattle.path_origins.specs.reading.Walks.{IsBehind, IsLeftBehind, by_wanted};
-ghost use Rattle.path_origins.specs.reading.Leaving.{with_break, with_return, inside_of, chosen_in, behind_loop};
+ghost use Rattle.path_origins.specs.reading.Leaving.{with_break, with_return, behind_loop};
 ghost use Rattle.path_origins.specs.reading.Leaving.{behind_choice, IsClosed};
 ghost use Rattle.path_origins.specs.reading.Leaving.{turns_met, loop_end, gone_on, label_noted, labels_noted};
-ghost use Rattle.path_origins.specs.reading.Leaving.{is_default_label, is_default_among, missed, select_end};
-ghost use Rattle.path_origins.specs.reading.Leaving.{span_from, set_against};
+ghost use Rattle.path_origins.specs.reading.Leaving.{is_default_label, is_default_among, select_end, span_from};
 ghost use Rattle.path_origins.specs.Opens.{is_among};
 
 use crate::expressions::walk_value;
-use crate::lookups::{NOWHERE, rvalue_place};
+use crate::lookups::{NOWHERE, object_at, rvalue_place};
 use crate::notes::{
-    end_scopes, note, note_life, note_operands, note_passing, note_skips, note_tests, sequence,
-    since,
+    end_scopes, note, note_against, note_if, note_life, note_passing, note_skips, note_tests,
+    sequence, since,
 };
 use crate::origins::{Form, Life, Notes, Span};
-use crate::types::{object_cells, object_place, type_of_object};
 use crate::walks::{Here, Wanted};
 use body_builder::{is_value_type, more, object_of, result_type, type_at};
 use part_extents::cell_type;
@@ -104,14 +102,49 @@ fn walk_statement(
                 note_skips(to, NOWHERE, 2)
             }
         },
+        TypedStatement::Break => add_break(ways),
+        TypedStatement::Continue => walk_continue(to, ways, to_head),
+        TypedStatement::Return(rvalue) => {
+            walk_return(here, to, rvalue)?;
+            add_return(ways)
+        }
+        TypedStatement::Lock { place, .. } => note(to, *place, Form::Lock),
+        TypedStatement::Unlock { place, .. } => note(to, *place, Form::Unlock),
+        TypedStatement::Yield => note(to, NOWHERE, Form::Yield),
+        _ => walk_loop(here, to, ways, typed, to_head),
+    }
+}
+
+// A loop or a `switch`. The other forms never come here.
+#[cycle(walk_statements)]
+fn walk_loop(
+    here: &Here<'_>,
+    to: &mut Notes,
+    ways: &mut Ways,
+    typed: &TypedStatement,
+    to_head: bool,
+) -> Result<(), NoMemory>
+    ensures { OnOk result (IsLeftBehind to.old to.new ways.old ways.new
+        (statement (laid_tree here.now.laid.now) (is_among here.now.opens.now) (sizes_in here.now.sizes.now)
+        here.now.path to_head (typed_tree typed.now))) }
+{
+    match typed {
         TypedStatement::While { condition, body } => {
-            let mut within = inside(ways);
+            let mut within = Ways {
+                breaks: 0,
+                continues: 0,
+                returns: ways.returns,
+            };
             enter(here, to, condition)?;
             walk_statement(here, to, &mut within, body, true)?;
             close_loop(to, ways, &within, 1)
         }
         TypedStatement::Do { body, condition } => {
-            let mut within = inside(ways);
+            let mut within = Ways {
+                breaks: 0,
+                continues: 0,
+                returns: ways.returns,
+            };
             note(to, NOWHERE, Form::Skip)?;
             walk_statement(here, to, &mut within, body, false)?;
             continue_at(to, within.continues)?;
@@ -126,7 +159,11 @@ fn walk_statement(
         } => {
             let outer = to.unended.len();
             walk_statement(here, to, ways, first, to_head)?;
-            let mut within = inside(ways);
+            let mut within = Ways {
+                breaks: 0,
+                continues: 0,
+                returns: ways.returns,
+            };
             let others = enter_if(here, to, condition)?;
             walk_statement(here, to, &mut within, body, false)?;
             continue_at(to, within.continues)?;
@@ -136,22 +173,18 @@ fn walk_statement(
         }
         TypedStatement::Switch { value, parts, .. } => {
             let outer = to.unended.len();
-            let mut within = inside_choice(ways);
+            let mut within = Ways {
+                breaks: 0,
+                continues: ways.continues,
+                returns: ways.returns,
+            };
             walk_full(here, to, value, Wanted::Value, true)?;
             note_labels(to, parts)?;
             walk_parts(here, to, &mut within, parts, to_head)?;
             close_select(to, ways, &within, has_default(parts))?;
             end_scopes(to, outer)
         }
-        TypedStatement::Break => add_break(ways),
-        TypedStatement::Continue => walk_continue(to, ways, to_head),
-        TypedStatement::Return(rvalue) => {
-            walk_return(here, to, rvalue)?;
-            add_return(ways)
-        }
-        TypedStatement::Lock { place, .. } => note(to, *place, Form::Lock),
-        TypedStatement::Unlock { place, .. } => note(to, *place, Form::Unlock),
-        TypedStatement::Yield => note(to, NOWHERE, Form::Yield),
+        _ => Err(NoMemory),
     }
 }
 
@@ -257,28 +290,6 @@ fn walk_return(
 }
 
 // ## Loops and `switch`
-
-// Inside of a loop nothing has left by `break` or `continue` yet.
-fn inside(ways: &Ways) -> Ways
-    ensures { result ≡ inside_of ways.now }
-{
-    Ways {
-        breaks: 0,
-        continues: 0,
-        returns: ways.returns,
-    }
-}
-
-// Inside of a `switch` nothing has left by `break` yet.
-fn inside_choice(ways: &Ways) -> Ways
-    ensures { result ≡ chosen_in ways.now }
-{
-    Ways {
-        breaks: 0,
-        continues: ways.continues,
-        returns: ways.returns,
-    }
-}
 
 // The head of a loop with its test.
 fn enter(here: &Here<'_>, to: &mut Notes, condition: &Rvalue) -> Result<(), NoMemory>
@@ -406,16 +417,6 @@ fn has_default(parts: &[TypedSwitchPart]) -> bool
     false
 }
 
-// A way from the tests of a `switch` to its exit, where it has no default.
-fn note_miss(to: &mut Notes, has_default: bool) -> Result<(), NoMemory>
-    ensures { OnOk result (IsBehind to.old to.new (missed has_default)) }
-{
-    if !has_default {
-        note(to, NOWHERE, Form::Skip)?;
-    }
-    Ok(())
-}
-
 // The exit of a `switch`, to which control goes from its tests where it has no default.
 fn close_select(
     to: &mut Notes,
@@ -426,7 +427,7 @@ fn close_select(
     ensures { OnOk result (IsClosed to.old to.new ways.new (behind_choice ways.old within.now)
         (select_end has_default within.now.breaks)) }
 {
-    note_miss(to, has_default)?;
+    note_if(to, !has_default, NOWHERE, Form::Skip)?;
     note_skips(to, NOWHERE, more(within.breaks, 1)?)?;
     ways.continues = within.continues;
     ways.returns = within.returns;
@@ -443,21 +444,17 @@ struct Target {
     place: Place,
 }
 
-// Whether an object is a scalar.
-#[tactic(auto, unfolding(body_builder::specs::Fragments::tree_in))]
-fn is_scalar_object(here: &Here<'_>, object: u32) -> bool
-    ensures { result ≡ is_scalar_object (laid_tree here.now.laid.now) here.now.path object }
-{
-    is_value_type(type_at(here.laid, type_of_object(here.laid, object).number))
-}
-
 // Whether a cell is the first one of a scalar object.
+#[tactic(auto, unfolding(body_builder::specs::Fragments::tree_in))]
 fn is_alone(here: &Here<'_>, object: u32, cell: u32) -> bool
     ensures { result ≡ (is_first (laid_tree here.now.laid.now) (is_among here.now.opens.now)
         (sizes_in here.now.sizes.now) here.now.path cell
         && is_scalar_object (laid_tree here.now.laid.now) here.now.path object) }
 {
-    cell == 0 && is_scalar_object(here, object)
+    if cell != 0 {
+        return false;
+    }
+    is_value_type(type_at(here.laid, object_at(here.laid, object).of.number))
 }
 
 // Whether a cell is the next one that is given.
@@ -518,16 +515,6 @@ fn walk_cell_value(
     }
 }
 
-// The address of a cell, from the base of its object on.
-fn note_part(to: &mut Notes, place: Place, is: bool) -> Result<(), NoMemory>
-    ensures { OnOk result (IsBehind to.old to.new (one_if is place Form.Part)) }
-{
-    if is {
-        note(to, place, Form::Part)?;
-    }
-    Ok(())
-}
-
 // A cell of an object is stored.
 fn walk_cell(
     here: &Here<'_>,
@@ -541,30 +528,14 @@ fn walk_cell(
         (map given_tree given.now))) }
 {
     note(to, at.place, Form::Base)?;
-    note_part(to, at.place, !is_alone(here, at.object, number))?;
+    let has_part = !is_alone(here, at.object, number);
+    note_if(to, has_part, at.place, Form::Part)?;
     walk_cell_value(here, to, at, is_given(number, given), given)?;
     note(to, at.place, Form::Initialise)
 }
 
-// The edges from one on, of the cell with this number, stand against those of the cells before it (C99 6.7.8p23).
-fn set_against(
-    to: &mut Notes,
-    place: Place,
-    number: u32,
-    before: Span,
-    begin: u32,
-) -> Result<(), NoMemory>
-    ensures { OnOk result (shown to.new ≡ set_against place number before
-        (record { first = begin; end = to.old.size }) (shown to.old)) }
-{
-    if number == 0 {
-        return Ok(());
-    }
-    let after = since(to, begin);
-    note_operands(to, place, before, after)
-}
-
-// The cells of an object are stored, in order; those that its initialiser gives stand in rising order.
+// The cells of an object are stored, in order, each against those before it (C99 6.7.8p23); those that its initialiser
+// gives stand in rising order.
 fn walk_cells(
     here: &Here<'_>,
     to: &mut Notes,
@@ -578,11 +549,12 @@ fn walk_cells(
     let pending = to.pending.len();
     let first = to.size;
     let mut rest = given;
-    for number in 0..object_cells(here.laid, at.object) {
+    for number in 0..object_at(here.laid, at.object).cells {
         let before = since(to, first);
         let begin = to.size;
         walk_cell(here, to, at, number, rest)?;
-        set_against(to, at.place, number, before, begin)?;
+        let edges = since(to, begin);
+        note_against(to, at.place, number as usize, before, edges)?;
         rest = rest_of(is_given(number, rest), rest);
     }
     sequence(to, pending);
@@ -606,7 +578,7 @@ fn walk_initialiser(
             let first = to.size;
             let at = Target {
                 object,
-                of: type_of_object(here.laid, object),
+                of: object_at(here.laid, object).of,
                 place: initialiser.place,
             };
             walk_cells(here, to, at, &initialiser.given)?;
@@ -623,7 +595,7 @@ fn walk_local(here: &Here<'_>, to: &mut Notes, local: &LocalObject) -> Result<()
         (is_among here.now.opens.now) (sizes_in here.now.sizes.now) here.now.path (local_tree local.now))) }
 {
     let object = object_of(here.laid, here.path, ObjectNumber::Local(local.object))?;
-    let place = object_place(here.laid, object);
+    let place = object_at(here.laid, object).place;
     let begins = to.size;
     note(to, place, Form::Clear)?;
     let scope = since(to, begins);

@@ -2,16 +2,16 @@
 ghost use Rattle.std.specs.Prelude.{◌≡◌, ℕ, Bool, IfOk};
 ghost use Rattle.tm_terms.specs.declared.places.Place.{Place as APlace};
 ghost use Rattle.tm_laid.specs.TypeCells.{entry_of};
-ghost use Rattle.tm_laid.specs.Layouts.{laid_tree, object_at};
+ghost use Rattle.tm_laid.specs.Layouts.{laid_tree};
 ghost use Rattle.path_origins.specs.Types.{given_by, followed, target_or, chosen, cast_if, differs, has_value, is_pointer};
 ghost use Rattle.path_origins.specs.Types.{plain, pointer_as, held_by, element_of, member_at, object_type};
 ghost use Rattle.path_origins.specs.Expressions.{pointed_by};
 
-use crate::lookups::{NOWHERE, object_of, type_at};
+use crate::lookups::object_at;
+use body_builder::{object_of, type_at};
 use source_names::{Down, Inside, step_down};
 use tm_laid::Laid;
 use tm_lattice::NoMemory;
-use tm_terms::Place;
 use tm_typed::{CType, ObjectNumber, Qualified, Scalar};
 
 /// What an expression gives.
@@ -130,6 +130,7 @@ pub(crate) fn given_by(ctype: CType) -> Given
 }
 
 /// What a cell gives: of its declared type where that tells more than its scalar.
+#[tactic(auto, unfolding(body_builder::specs::Fragments::tree_in))]
 pub(crate) fn held_by(laid: &Laid, scalar: Scalar, of: Qualified) -> Given
     ensures { (o : APlace → Bool) (p : ℕ) → result ≡ held_by (laid_tree laid.now) o p scalar of }
 {
@@ -157,6 +158,7 @@ fn cast_to(class: CType) -> Given
 }
 
 /// An element of an array; the same where it is none.
+#[tactic(auto, unfolding(body_builder::specs::Fragments::tree_in))]
 pub(crate) fn element_of(laid: &Laid, of: Qualified) -> Qualified
     ensures { (o : APlace → Bool) (p : ℕ) → result ≡ element_of (laid_tree laid.now) o p of }
 {
@@ -181,37 +183,8 @@ pub(crate) fn member_at(laid: &Laid, of: Qualified, cell: u32) -> Qualified
     }
 }
 
-/// The type of an object.
-pub(crate) fn type_of_object(laid: &Laid, object: u32) -> Qualified
-    ensures { result ≡ (object_at (laid_tree laid.now) object).of }
-{
-    match laid.objects.get(object as usize) {
-        Some(found) => found.of,
-        None => plain(0),
-    }
-}
-
-/// The place of the name of an object.
-pub(crate) fn object_place(laid: &Laid, object: u32) -> Place
-    ensures { result ≡ (object_at (laid_tree laid.now) object).place }
-{
-    match laid.objects.get(object as usize) {
-        Some(found) => found.place,
-        None => NOWHERE,
-    }
-}
-
-/// How many cells an object has.
-pub(crate) fn object_cells(laid: &Laid, object: u32) -> u32
-    ensures { result ≡ (object_at (laid_tree laid.now) object).cells }
-{
-    match laid.objects.get(object as usize) {
-        Some(found) => found.cells,
-        None => 0,
-    }
-}
-
 /// The type of an object that a number stands for on a path.
+#[tactic(auto, unfolding(body_builder::specs::Fragments::tree_in))]
 pub(crate) fn object_type(
     laid: &Laid,
     path: u32,
@@ -219,10 +192,11 @@ pub(crate) fn object_type(
 ) -> Result<Qualified, NoMemory>
     ensures { IfOk result (λ q. (o : APlace → Bool) → q ≡ object_type (laid_tree laid.now) o path object) }
 {
-    Ok(type_of_object(laid, object_of(laid, path, object)?))
+    Ok(object_at(laid, object_of(laid, path, object)?).of)
 }
 
 /// The type to which the pointers of a class point.
+#[tactic(auto, unfolding(body_builder::specs::Fragments::tree_in))]
 pub(crate) fn class_target(laid: &Laid, class: u32) -> u32
     ensures { result ≡ pointed_by (entry_of (laid_tree laid.now).file class).ctype }
 {

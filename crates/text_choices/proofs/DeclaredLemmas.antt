@@ -1,6 +1,6 @@
 -- What files declare, part by part, and which declaration of a name is told.
 use Rattle.std.proofs.Common.{◌≡◌, ℕ, ◌+◌, ◌<◌, Bool, true, false, ◌||◌, List, [], ◌∷◌, ◌++◌, length, get_or, take, drop, map, Option, Some, None, refl, sym, ap, subst, ◌∙◌, arith}
-use Rattle.std.specs.Prelude.{◌↔◌, Contains, IsTrue, is_some, codes, All}
+use Rattle.std.specs.Prelude.{◌↔◌, Contains, IsTrue, is_some, codes}
 use Rattle.std.proofs.lemmas.List.{at_drop_more, map_more, append_assoc, length-map, get_or-map}
 use Rattle.tm_trees.specs.declared.declarations.Specifier.{Specifier}
 use Rattle.tm_trees.specs.declared.declarations.InitDeclarator.{InitDeclarator}
@@ -19,6 +19,7 @@ use Rattle.text_choices.specs.declared.reserved.Declared.{Declared as CodeDeclar
 use Rattle.text_choices.specs.Choices.{Adds, OfKind}
 use Rattle.text_choices.specs.reading.Added.{OneBelow}
 use Rattle.text_choices.specs.reading.Declared.{declared_of, Yields, IsTold, IsReservedAmong}
+use Rattle.text_choices.specs.reading.Foremost.{no_declared, YieldsTo, IsForemost}
 use Rattle.text_choices.proofs.Additions.{Adds-same, Adds-one_more}
 use Rattle.text_choices.proofs.TokenLemmas.{choice_is}
 
@@ -84,27 +85,31 @@ no_front text front given r e decides h w = let t : r ≡ true = decides.1 (w.0,
 
 -- ## Which declaration is told
 
--- what loops read past the end of declarations
-abbrev pub no_declared : CodeDeclared
-no_declared = record { name = record { start = 0; length = 0 }; place = record { line = 0; col = 0 }; defined = false; internal = false }
-
-abbrev pub AllYield : List CodeDeclared → CodeDeclared → Type 0
-AllYield declared it = All (λ d. Yields (declared_of it) (declared_of d)) declared
+abbrev pub AllYield : List CodeDeclared → Declared → Type 0
+AllYield declared it = (k : ℕ) → k < length declared → Yields it (declared_of (get_or declared k no_declared))
 
 module _ (bytes : List ℕ) (declared : List CodeDeclared) where
-  pub told_is : (it : CodeDeclared) → IsReservedName (text_of bytes it.name) → AllYield declared it → IsTold bytes (map declared_of declared) (declared_of it)
+  told_is : (it : Declared) → IsReservedName (text_of bytes it.name) → AllYield declared it → IsTold bytes (map declared_of declared) it
   told_is it named yield = record {
     named = named;
     yielded = λ d c.
         let inside : c.0 < length declared = omega (arith, c.1, length-map declared declared_of) in
         let same : declared_of (get_or declared c.0 no_declared) ≡ d = sym (get_or-map declared_of declared c.0 no_declared d inside) ∙ c.2 in
-        subst (λ e. Yields (declared_of it) e) same (yield c.0 no_declared inside);
+        subst (λ e. Yields it e) same (yield c.0 inside);
   }
 
-  pub told_yield : (it : CodeDeclared) → IsTold bytes (map declared_of declared) (declared_of it) → AllYield declared it
-  told_yield it told = λ k d inside.
-      told.yielded (declared_of (get_or declared k d))
-      (k, omega (arith, length-map declared declared_of), get_or-map declared_of declared k d (declared_of (get_or declared k d)) inside)
+  told_yield : (it : Declared) → IsTold bytes (map declared_of declared) it → AllYield declared it
+  told_yield it told = λ k inside.
+      told.yielded (declared_of (get_or declared k no_declared))
+      (k, omega (arith, length-map declared declared_of), get_or-map declared_of declared k no_declared (declared_of (get_or declared k no_declared)) inside)
+
+  -- what is kept of its name decides
+  pub told_by : (it : CodeDeclared) (kept : Option CodeDeclared) (b : Bool) → IsForemost declared (length declared) it.name kept
+      → IsTrue b ↔ (YieldsTo kept (declared_of it) × IsReservedName (text_of bytes it.name)) → IsTrue b ↔ IsTold bytes (map declared_of declared) (declared_of it)
+  told_by it kept b foremost decides = (
+    (λ h. let p = decides.0 h in told_is (declared_of it) p.1 ((foremost.decides (declared_of it) refl).0 p.0)),
+    (λ t. decides.1 ((foremost.decides (declared_of it) refl).1 (told_yield (declared_of it) t), t.named)),
+  )
 
   -- a name is told at the place of one of the declarations
   pub record ToldAt (k : ℕ) (place : Place) : Type 0 where
@@ -142,11 +147,10 @@ module _ (bytes : List ℕ) (declared : List CodeDeclared) where
       Adds-one_more old new newer k (λ n. OfKind Kinds.Reserved (ToldAt n)) before
       (Adds-same new newer (Here k b) (OfKind Kinds.Reserved (ToldAt k)) (told_here k b inside decides) (here_told k b inside decides) here)
 
-  pub told_all : (n : ℕ) (ds : List Declared) (old new : List Choice) → n ≡ length declared → map declared_of declared ≡ ds → Adds old new (ToldBelow n)
-      → Adds old new (OfKind Kinds.Reserved (IsReservedAmong bytes ds))
-  told_all n ds old new same is h =
-      subst (λ es. Adds old new (OfKind Kinds.Reserved (IsReservedAmong bytes es))) is
-      (Adds-same old new (ToldBelow n) (OfKind Kinds.Reserved (IsReservedAmong bytes (map declared_of declared)))
+  pub told_all : (n : ℕ) (old new : List Choice) → n ≡ length declared → Adds old new (ToldBelow n)
+      → Adds old new (OfKind Kinds.Reserved (IsReservedAmong bytes (map declared_of declared)))
+  told_all n old new same h =
+      Adds-same old new (ToldBelow n) (OfKind Kinds.Reserved (IsReservedAmong bytes (map declared_of declared)))
       (λ x c. (c.2.0, record { it = c.2.1.it; stands = (c.0, omega (arith, c.1, length-map declared declared_of), c.2.1.stands); is = c.2.1.is; told = c.2.1.told }))
       (λ x c. (c.1.stands.0, omega (arith, c.1.stands.1, length-map declared declared_of), (c.0, record { it = c.1.it; stands = c.1.stands.2; is = c.1.is; told = c.1.told })))
-      h)
+      h

@@ -5,6 +5,9 @@ pub mod Holding
 pub mod Named
 pub mod Listed
 pub mod DeclaredLemmas
+pub mod Foremost
+pub mod Pieces
 pub mod TableLemmas
+pub mod WordLemmas
 pub mod Scalars
 pub mod AllLemmas

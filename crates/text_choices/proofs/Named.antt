@@ -161,7 +161,7 @@ both_true false b e = absurd cc
 same_number : (m n : ℕ) → (m == n) ≡ true → m ≡ n
 same_number m n e = grind (arith, nat_tests)
 
-same_name : (m n : Name) → is_same_name m n ≡ true → m ≡ n
+pub same_name : (m n : Name) → is_same_name m n ≡ true → m ≡ n
 same_name m n e =
     let b : ((m.start == n.start) ≡ true) × ((m.length == n.length) ≡ true) = both_true (m.start == n.start) (m.length == n.length) e in
     let s : m.start ≡ n.start = same_number m.start n.start b.0 in

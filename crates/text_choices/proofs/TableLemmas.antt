@@ -1,10 +1,8 @@
--- Tables of names, and the rows of the library.
-use Rattle.std.proofs.Common.{◌≡◌, ℕ, zero, suc, ◌<◌, Bool, true, false, ◌||◌, List, [], ◌∷◌, length, get_or, map, refl, sym, ap, ◌∙◌, arith}
+-- Which names stand in a table.
+use Rattle.std.proofs.Common.{◌≡◌, ℕ, zero, suc, ◌<◌, Bool, true, false, ◌||◌, List, [], ◌∷◌, length, get_or, refl, sym, ◌∙◌, arith}
 use Rattle.std.specs.Prelude.{◌↔◌, Contains, IsTrue, bytes_eq}
 use Rattle.std.specs.List.{list_any}
-use Rattle.std.proofs.lemmas.List.Folds.{list_any-append}
 use Rattle.std.proofs.lemmas.Slice.Eq.{bytes_eq-Decides}
-use Rattle.text_choices.specs.Library.{library, row_0, row_1, row_2, row_3, row_4, row_5, row_6, row_7, row_8, row_9, row_10, row_11, row_12, row_13, row_14}
 
 any_contains : (text : List ℕ) (xs : List (List ℕ)) → list_any (bytes_eq text) xs ≡ true → Contains xs text
 any_contains text [] h = cc
@@ -25,36 +23,3 @@ contains_any text (x ∷ xs) (suc k) h is = rw (contains_any text xs k (omega ar
 
 pub table_is : (text : List ℕ) (table : List (List ℕ)) (r : Bool) → r ≡ list_any (bytes_eq text) table → IsTrue r ↔ Contains table text
 table_is text table r e = (λ h. any_contains text table (sym e ∙ h), λ c. e ∙ contains_any text table c.0 c.1 c.2)
-
--- tables of references
-pub list_any_behind : {X : Type 0} (f : X → List ℕ) (test : List ℕ → Bool) (xs : List X) → list_any (λ e. test (f e)) xs ≡ list_any test (map f xs)
-list_any_behind f test [] = refl
-list_any_behind f test (x ∷ xs) = ap (λ b. test (f x) || b) (list_any_behind f test xs)
-
--- ## The rows of the library
-
--- a name stands in one of the rows
-abbrev pub in_rows : List ℕ → Bool
-in_rows text =
-    list_any (bytes_eq text) row_0
-    || list_any (bytes_eq text) row_1
-    || list_any (bytes_eq text) row_2
-    || list_any (bytes_eq text) row_3
-    || list_any (bytes_eq text) row_4
-    || list_any (bytes_eq text) row_5
-    || list_any (bytes_eq text) row_6
-    || list_any (bytes_eq text) row_7
-    || list_any (bytes_eq text) row_8
-    || list_any (bytes_eq text) row_9
-    || list_any (bytes_eq text) row_10
-    || list_any (bytes_eq text) row_11
-    || list_any (bytes_eq text) row_12
-    || list_any (bytes_eq text) row_13
-    || list_any (bytes_eq text) row_14
-
-in_library : (text : List ℕ) → list_any (bytes_eq text) library ≡ in_rows text
-unfolding library
-in_library text = simp list_any-append
-
-pub library_is : (text : List ℕ) (r : Bool) → r ≡ in_rows text → IsTrue r ↔ Contains library text
-library_is text r e = table_is text library r (e ∙ sym (in_library text))

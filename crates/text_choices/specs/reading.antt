@@ -7,3 +7,5 @@ pub mod Declared
 pub mod Trees
 pub mod Named
 pub mod Spots
+pub mod Words
+pub mod Foremost

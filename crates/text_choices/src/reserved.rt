@@ -1,16 +1,21 @@
 //! RESERVED: names of the library.
-ghost use Rattle.std.specs.Prelude.{◌≡◌, ◌↔◌, ◌++◌, ◌||◌, [], ◌∷◌, ℕ, List, true, false, map, All, IfOk, IsTrue, OnOk};
+ghost use Rattle.std.specs.Prelude.{◌≡◌, ◌↔◌, ◌++◌, ◌||◌, [], ◌∷◌, ℕ, List, true, false, length, map, IfOk, IsTrue, OnOk};
+ghost use Rattle.indexmap.specs.IndexMap.{get};
+ghost use Rattle.tm_terms.specs.Names.{is_same_name};
+ghost use Rattle.tm_terms.specs.Spelling.{text_of};
 ghost use Rattle.tm_trees.specs.DeclarationTrees.{SpecifierTrees, and_specifier, specifier_tree, specifier_trees};
 ghost use Rattle.tm_trees.specs.DeclarationTrees.{declarator_tree, declared_name, declaration_tree, init_declarator_tree};
 ghost use Rattle.tm_trees.specs.FileTrees.{a_declaration, a_function, file_tree, function_tree, item_tree};
 ghost use Rattle.text_choices.specs.Choices.{Adds, OfKind};
 ghost use Rattle.text_choices.specs.Texts.{IsPlaceBefore, IsReservedName, declared_by, declared_in, declarator_place};
 ghost use Rattle.text_choices.specs.Texts.{has_storage, is_storage, objects_of};
-ghost use Rattle.text_choices.specs.reading.Declared.{IsReservedAmong, IsTold, Yields, declared_of};
+ghost use Rattle.text_choices.specs.reading.Declared.{IsReservedAmong, Yields, declared_of};
+ghost use Rattle.text_choices.specs.reading.Foremost.{IsKept, IsJoined, AddsOne, YieldsTo, AreForemost};
 
 use crate::adding::add_where;
 use crate::kinds::{Choice, Kind};
 use crate::library_names::is_of_library;
+use indexmap::IndexMap;
 use notes_json::text_of;
 use std::alloc::Global;
 use tm_lattice::NoMemory;
@@ -221,27 +226,90 @@ fn yields(it: Declared, other: Declared) -> bool
     is_before(it.place, other.place) || (it.place == other.place && !it.internal)
 }
 
-// Whether all declarations leave it to this one.
-fn is_first(declared: &[Declared], it: Declared) -> bool
-    ensures { IsTrue result ↔ (All (λ d. Yields (declared_of it) (declared_of d)) declared.now) }
+// Of two declarations of a name the one that others of that name have to yield to: who yields to it yields to both.
+fn foremost(one: Declared, other: Declared) -> Declared
+    ensures { IsKept (declared_of one) (declared_of other) (declared_of result) }
 {
-    for other in declared {
-        if !yields(it, *other) {
-            return false;
-        }
+    if one.internal {
+        return one;
     }
-    true
+    if yields(one, other) { one } else { other }
 }
 
-// Whether a name is told at this one of the declarations.
-fn is_told(bytes: &[u8], declared: &[Declared], it: Declared) -> bool
-    ensures { IsTrue result ↔ IsTold bytes.now (map declared_of declared.now) (declared_of it) }
+// What is to be kept of the name of a declaration.
+fn joined(found: &IndexMap<Name, Declared>, it: Declared) -> Declared
+    ensures { IsJoined (get is_same_name found.now it.name) it result }
 {
-    if is_reserved_name(text_of(bytes, it.name)) {
-        is_first(declared, it)
+    match found.get(&it.name) {
+        Some(other) => foremost(*other, it),
+        None => it,
+    }
+}
+
+// Keeps it of the name of one declaration more.
+fn add_foremost(found: &mut IndexMap<Name, Declared>, it: Declared) -> Result<(), NoMemory>
+    ensures { OnOk result (AddsOne (get is_same_name found.old) (get is_same_name found.new) it) }
+{
+    let kept = joined(found, it);
+    match found.insert(it.name, kept) {
+        Ok(_) => Ok(()),
+        Err(_) => Err(NoMemory),
+    }
+}
+
+// Of each name the declaration that decides which one is told.
+fn foremost_of(alloc: Global, declared: &[Declared]) -> Result<IndexMap<Name, Declared>, NoMemory>
+    ensures { IfOk result (λ found. AreForemost declared.now (length declared.now) (get is_same_name found)) }
+{
+    let mut found = IndexMap::new(alloc);
+    for it in declared {
+        add_foremost(&mut found, *it)?;
+    }
+    Ok(found)
+}
+
+// Whether a declaration yields to what is kept of its name.
+fn is_first(found: &IndexMap<Name, Declared>, it: Declared) -> bool
+    ensures { IsTrue result ↔ YieldsTo (get is_same_name found.now it.name) (declared_of it) }
+{
+    match found.get(&it.name) {
+        Some(kept) => yields(it, *kept),
+        None => true,
+    }
+}
+
+// Whether a name is told at this one of its declarations.
+fn is_told(bytes: &[u8], found: &IndexMap<Name, Declared>, it: Declared) -> bool
+    ensures { IsTrue result ↔ (YieldsTo (get is_same_name found.now it.name) (declared_of it)
+        × IsReservedName (text_of bytes.now it.name)) }
+{
+    if is_first(found, it) {
+        is_reserved_name(text_of(bytes, it.name))
     } else {
         false
     }
+}
+
+// Adds the places of the declarations at which their names are told.
+fn add_told(
+    bytes: &[u8],
+    declared: &[Declared],
+    found: &IndexMap<Name, Declared>,
+    choices: &mut Vec<Choice>,
+) -> Result<(), NoMemory>
+    requires { AreForemost declared.now (length declared.now) (get is_same_name found.now) }
+    ensures { OnOk result (Adds choices.old.items choices.new.items
+        (OfKind Kind.Reserved (IsReservedAmong bytes.now (map declared_of declared.now)))) }
+{
+    for it in declared {
+        let choice = Choice {
+            place: it.place,
+            kind: Kind::Reserved,
+        };
+        let told = is_told(bytes, found, *it);
+        add_where(told, choice, choices)?;
+    }
+    Ok(())
 }
 
 /// Adds the places of functions and objects of external linkage with names of C99's library, or with names that gcc and
@@ -256,13 +324,6 @@ pub(crate) fn add_reserved_names(
         (OfKind Kind.Reserved (IsReservedAmong bytes.now (declared_in (file_tree file.now))))) }
 {
     let declared = declared_in(alloc, file)?;
-    for it in &declared {
-        let choice = Choice {
-            place: it.place,
-            kind: Kind::Reserved,
-        };
-        let told = is_told(bytes, &declared, *it);
-        add_where(told, choice, choices)?;
-    }
-    Ok(())
+    let found = foremost_of(alloc, &declared)?;
+    add_told(bytes, &declared, &found, choices)
 }

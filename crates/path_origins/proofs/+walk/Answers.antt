@@ -1,5 +1,6 @@
 use Rattle.body_builder.specs.concrete_steps.NextAction.{function_at}
 use Rattle.body_builder.specs.concrete_steps.Places.{rvalue_place, is_pointer_scalar, result_type}
+use Rattle.body_builder.specs.Fragments.{tree_in}
 use Rattle.body_builder.specs.lowering.Table.{conversion, is_same_place, implied}
 use Rattle.path_origins.proofs.+walk.Goals as goal
 use Rattle.path_origins.proofs.Beside.{sequenced_noted, against_noted, both_noted}
@@ -250,10 +251,10 @@ expressions::walk_rvalue-returns-in_ok-note_end-in-Structure-clause-given t c =
     let path = c.args.here.now.path in
     given_as laid opens sizes path c.args.rvalue.now _ Gives.Nothing i.is (refl)
 
-pub expressions::walk_rvalue-returns-in_ok-note_end-in-Same-clause-noted :
-    goal.expressions::walk_rvalue-returns-in_ok-note_end-in-Same-clause-noted
+pub expressions::walk_call-returns-in_ok-note_end-in-Same-clause-noted :
+    goal.expressions::walk_call-returns-in_ok-note_end-in-Same-clause-noted
 unfolding IsRead IsGiven IsAddressed IsTyped IsTested AreRead
-expressions::walk_rvalue-returns-in_ok-note_end-in-Same-clause-noted t c =
+expressions::walk_call-returns-in_ok-note_end-in-Same-clause-noted t c =
     let i = c.in-Same in
     let laid = laid_tree c.args.here.now.laid.now in
     let opens = is_among c.args.here.now.opens.now in
@@ -261,24 +262,24 @@ expressions::walk_rvalue-returns-in_ok-note_end-in-Same-clause-noted t c =
     let path = c.args.here.now.path in
     let w = c.args.wanted in
     let old = shown c.args.to.now in
-    let value : shown c.walk_rvalue-in-Same.new.to ≡ behind old (walked laid opens sizes path true
+    let value : shown c.walk_rvalue.new.to ≡ behind old (walked laid opens sizes path true
     (rvalue_tree i.value.value)).value =
     c.in_ok-given-in-Same.ensures.noted
-    ∙ ap (λ r. behind old (walked laid opens sizes path true (rvalue_tree r)).value) c.deref-in-Same.ensures in
+    ∙ ap (λ r. behind old (walked laid opens sizes path true (rvalue_tree r)).value) c.deref.ensures in
     let gives : c.in_ok-given-in-Same.given ≡ given laid opens path (rvalue_tree i.value.value) =
     c.in_ok-given-in-Same.ensures.given
-    ∙ ap (λ r. given laid opens path (rvalue_tree r)) c.deref-in-Same.ensures in
-    as_read laid opens sizes path w c.args.used c.args.rvalue.now _ old (shown c.note_end-in-Same.new.to) i.is
+    ∙ ap (λ r. given laid opens path (rvalue_tree r)) c.deref.ensures in
+    as_read laid opens sizes path w c.args.used c.args.rvalue.now _ old (shown c.note_end.new.to) i.is
     (value_given laid opens sizes path w c.is_pointer.result (is_pointer (given laid opens path
     (rvalue_tree i.value.value)))
-    i.place old (shown c.walk_rvalue-in-Same.new.to) (shown c.note_end-in-Same.new.to)
+    i.place old (shown c.walk_rvalue.new.to) (shown c.note_end.new.to)
     (walked laid opens sizes path true (rvalue_tree i.value.value)).value (c.is_pointer.ensures ∙ ap is_pointer gives)
     value c.in_ok-note_end-in-Same.ensures)
 
-pub expressions::walk_rvalue-returns-in_ok-note_end-in-Same-clause-given :
-    goal.expressions::walk_rvalue-returns-in_ok-note_end-in-Same-clause-given
+pub expressions::walk_call-returns-in_ok-note_end-in-Same-clause-given :
+    goal.expressions::walk_call-returns-in_ok-note_end-in-Same-clause-given
 unfolding IsRead IsGiven IsAddressed IsTyped IsTested AreRead
-expressions::walk_rvalue-returns-in_ok-note_end-in-Same-clause-given t c =
+expressions::walk_call-returns-in_ok-note_end-in-Same-clause-given t c =
     let i = c.in-Same in
     let laid = laid_tree c.args.here.now.laid.now in
     let opens = is_among c.args.here.now.opens.now in
@@ -286,14 +287,14 @@ expressions::walk_rvalue-returns-in_ok-note_end-in-Same-clause-given t c =
     let path = c.args.here.now.path in
     let gives : c.in_ok-given-in-Same.given ≡ given laid opens path (rvalue_tree i.value.value) =
     c.in_ok-given-in-Same.ensures.given
-    ∙ ap (λ r. given laid opens path (rvalue_tree r)) c.deref-in-Same.ensures in
+    ∙ ap (λ r. given laid opens path (rvalue_tree r)) c.deref.ensures in
     given_as laid opens sizes path c.args.rvalue.now _ c.cast_if.result i.is (c.cast_if.ensures
     ∙ ap₂ cast_if c.has.ensures gives)
 
-pub expressions::walk_rvalue-returns-in_ok-note_end-in-Call-clause-noted :
-    goal.expressions::walk_rvalue-returns-in_ok-note_end-in-Call-clause-noted
-unfolding IsRead IsGiven IsAddressed IsTyped IsTested AreRead
-expressions::walk_rvalue-returns-in_ok-note_end-in-Call-clause-noted t c =
+pub expressions::walk_call-returns-in_ok-note_end-in-Call-clause-noted :
+    goal.expressions::walk_call-returns-in_ok-note_end-in-Call-clause-noted
+unfolding tree_in IsRead IsGiven IsAddressed IsTyped IsTested AreRead
+expressions::walk_call-returns-in_ok-note_end-in-Call-clause-noted t c =
     let i = c.in-Call in
     let laid = laid_tree c.args.here.now.laid.now in
     let opens = is_among c.args.here.now.opens.now in
@@ -306,9 +307,9 @@ expressions::walk_rvalue-returns-in_ok-note_end-in-Call-clause-noted t c =
     let es = c.deref-in-Call.result.now in
     let to = c.callee-path.result in
     let goes = callee laid path i.site in
-    let gives : c.given_of_call-given.result ≡ given_by (result_type laid (function_at laid goes)) =
-    c.given_of_call-given.ensures ∙ ap (λ n. given_by (result_type laid
-    (function_at laid n))) c.callee-path.ensures in
+    let gives : c.given_by-given.result ≡ given_by (result_type laid (function_at laid goes)) =
+    c.given_by-given.ensures ∙ ap given_by (c.result_type.ensures ∙ ap (λ n. result_type laid (function_at laid n))
+    c.callee-path.ensures) in
     call_read laid opens sizes path w c.args.used (rvalue_tree c.args.rvalue.now) i.function i.site i.place es to
     c.len.result c.is_pointer-in-Call.result old (shown c.walk_arguments.new.to) (shown c.note_call.new.to)
     (shown c.note_end-in-Call.new.to) tree c.callee-path.ensures
@@ -316,10 +317,10 @@ expressions::walk_rvalue-returns-in_ok-note_end-in-Call-clause-noted t c =
     ∙ ap length (sym c.deref-in-Call.ensures.value)) c.in_ok-walk_arguments-in-Call.ensures
     c.in_ok-note_call-in-Call.ensures c.in_ok-note_end-in-Call.ensures
 
-pub expressions::walk_rvalue-returns-in_ok-note_end-in-Call-clause-given :
-    goal.expressions::walk_rvalue-returns-in_ok-note_end-in-Call-clause-given
-unfolding IsRead IsGiven IsAddressed IsTyped IsTested AreRead
-expressions::walk_rvalue-returns-in_ok-note_end-in-Call-clause-given t c =
+pub expressions::walk_call-returns-in_ok-note_end-in-Call-clause-given :
+    goal.expressions::walk_call-returns-in_ok-note_end-in-Call-clause-given
+unfolding tree_in IsRead IsGiven IsAddressed IsTyped IsTested AreRead
+expressions::walk_call-returns-in_ok-note_end-in-Call-clause-given t c =
     let i = c.in-Call in
     let laid = laid_tree c.args.here.now.laid.now in
     let opens = is_among c.args.here.now.opens.now in
@@ -330,9 +331,9 @@ expressions::walk_rvalue-returns-in_ok-note_end-in-Call-clause-given t c =
     let es = c.deref-in-Call.result.now in
     let to = c.callee-path.result in
     let goes = callee laid path i.site in
-    let gives : c.given_of_call-given.result ≡ given_by (result_type laid (function_at laid goes)) =
-    c.given_of_call-given.ensures ∙ ap (λ n. given_by (result_type laid
-    (function_at laid n))) c.callee-path.ensures in
+    let gives : c.given_by-given.result ≡ given_by (result_type laid (function_at laid goes)) =
+    c.given_by-given.ensures ∙ ap given_by (c.result_type.ensures ∙ ap (λ n. result_type laid (function_at laid n))
+    c.callee-path.ensures) in
     gives ∙ sym (ap (given laid opens path) tree)
 
 pub expressions::walk_rvalue-returns-in_ok-note_end-in-Input-clause-noted :
@@ -389,10 +390,10 @@ expressions::walk_rvalue-returns-in_ok-note_end-in-Probe-clause-given t c =
     let path = c.args.here.now.path in
     given_as laid opens sizes path c.args.rvalue.now _ Gives.Number i.is (refl)
 
-pub expressions::walk_rvalue-returns-in_ok-note_end-in-Comma-clause-noted :
-    goal.expressions::walk_rvalue-returns-in_ok-note_end-in-Comma-clause-noted
+pub expressions::walk_choice-returns-in_ok-note_end-in-Comma-clause-noted :
+    goal.expressions::walk_choice-returns-in_ok-note_end-in-Comma-clause-noted
 unfolding IsRead IsGiven IsAddressed IsTyped IsTested AreRead
-expressions::walk_rvalue-returns-in_ok-note_end-in-Comma-clause-noted t c =
+expressions::walk_choice-returns-in_ok-note_end-in-Comma-clause-noted t c =
     let i = c.in-Comma in
     let laid = laid_tree c.args.here.now.laid.now in
     let opens = is_among c.args.here.now.opens.now in
@@ -400,31 +401,31 @@ expressions::walk_rvalue-returns-in_ok-note_end-in-Comma-clause-noted t c =
     let path = c.args.here.now.path in
     let w = c.args.wanted in
     let old = shown c.args.to.now in
-    let first : shown c.walk_rvalue-in-Comma.new.to ≡ behind old (walked laid opens sizes path false
+    let first : shown c.walk_rvalue.new.to ≡ behind old (walked laid opens sizes path false
     (rvalue_tree i.left.value)).value =
     c.in_ok-_first-in-Comma.ensures.noted
-    ∙ ap (λ r. behind old (walked laid opens sizes path false (rvalue_tree r)).value) c.deref-in-Comma.ensures in
-    let second : shown c.walk_rvalue-in-Comma-2.new.to ≡ behind (shown c.sequence.new.to)
+    ∙ ap (λ r. behind old (walked laid opens sizes path false (rvalue_tree r)).value) c.deref.ensures in
+    let second : shown c.walk_rvalue-in-Comma.new.to ≡ behind (shown c.sequence.new.to)
     (walked laid opens sizes path c.args.used (rvalue_tree i.right.value)).value =
     c.in_ok-given-in-Comma.ensures.noted
     ∙ ap (λ r. behind (shown c.sequence.new.to) (walked laid opens sizes path c.args.used
-    (rvalue_tree r)).value) c.deref-in-Comma-2.ensures in
+    (rvalue_tree r)).value) c.deref-in-Comma.ensures in
     let gives : c.in_ok-given-in-Comma.given ≡ given laid opens path (rvalue_tree i.right.value) =
     c.in_ok-given-in-Comma.ensures.given
-    ∙ ap (λ r. given laid opens path (rvalue_tree r)) c.deref-in-Comma-2.ensures in
-    as_read laid opens sizes path w c.args.used c.args.rvalue.now _ old (shown c.note_end-in-Comma.new.to) i.is
-    (comma_noted laid opens sizes path w c.is_pointer-in-Comma.result
+    ∙ ap (λ r. given laid opens path (rvalue_tree r)) c.deref-in-Comma.ensures in
+    as_read laid opens sizes path w c.args.used c.args.rvalue.now _ old (shown c.note_end.new.to) i.is
+    (comma_noted laid opens sizes path w c.is_pointer.result
     (is_pointer (given laid opens path (rvalue_tree i.right.value))) i.place c.len-pending.result old
-    (shown c.walk_rvalue-in-Comma.new.to) (shown c.sequence.new.to) (shown c.walk_rvalue-in-Comma-2.new.to)
-    (shown c.note_end-in-Comma.new.to) (walked laid opens sizes path false (rvalue_tree i.left.value)).value
+    (shown c.walk_rvalue.new.to) (shown c.sequence.new.to) (shown c.walk_rvalue-in-Comma.new.to)
+    (shown c.note_end.new.to) (walked laid opens sizes path false (rvalue_tree i.left.value)).value
     (walked laid opens sizes path c.args.used (rvalue_tree i.right.value)).value
-    (c.is_pointer-in-Comma.ensures ∙ ap is_pointer gives) (c.len-pending.ensures ∙ c.args.to.now.pending.ok.0) first
+    (c.is_pointer.ensures ∙ ap is_pointer gives) (c.len-pending.ensures ∙ c.args.to.now.pending.ok.0) first
     c.sequence.ensures second c.in_ok-note_end-in-Comma.ensures)
 
-pub expressions::walk_rvalue-returns-in_ok-note_end-in-Comma-clause-given :
-    goal.expressions::walk_rvalue-returns-in_ok-note_end-in-Comma-clause-given
+pub expressions::walk_choice-returns-in_ok-note_end-in-Comma-clause-given :
+    goal.expressions::walk_choice-returns-in_ok-note_end-in-Comma-clause-given
 unfolding IsRead IsGiven IsAddressed IsTyped IsTested AreRead
-expressions::walk_rvalue-returns-in_ok-note_end-in-Comma-clause-given t c =
+expressions::walk_choice-returns-in_ok-note_end-in-Comma-clause-given t c =
     let i = c.in-Comma in
     let laid = laid_tree c.args.here.now.laid.now in
     let opens = is_among c.args.here.now.opens.now in
@@ -432,13 +433,13 @@ expressions::walk_rvalue-returns-in_ok-note_end-in-Comma-clause-given t c =
     let path = c.args.here.now.path in
     let gives : c.in_ok-given-in-Comma.given ≡ given laid opens path (rvalue_tree i.right.value) =
     c.in_ok-given-in-Comma.ensures.given
-    ∙ ap (λ r. given laid opens path (rvalue_tree r)) c.deref-in-Comma-2.ensures in
+    ∙ ap (λ r. given laid opens path (rvalue_tree r)) c.deref-in-Comma.ensures in
     given_as laid opens sizes path c.args.rvalue.now _ c.in_ok-given-in-Comma.given i.is (gives)
 
-pub expressions::walk_rvalue-returns-in_ok-conversion_ends-in-Convert-clause-noted :
-    goal.expressions::walk_rvalue-returns-in_ok-conversion_ends-in-Convert-clause-noted
+pub expressions::walk_call-returns-in_ok-conversion_ends-in-Convert-clause-noted :
+    goal.expressions::walk_call-returns-in_ok-conversion_ends-in-Convert-clause-noted
 unfolding IsRead IsGiven IsAddressed IsTyped IsTested AreRead
-expressions::walk_rvalue-returns-in_ok-conversion_ends-in-Convert-clause-noted t c =
+expressions::walk_call-returns-in_ok-conversion_ends-in-Convert-clause-noted t c =
     let i = c.in-Convert in
     let laid = laid_tree c.args.here.now.laid.now in
     let opens = is_among c.args.here.now.opens.now in
@@ -456,14 +457,14 @@ expressions::walk_rvalue-returns-in_ok-conversion_ends-in-Convert-clause-noted t
     (conversion i.from i.of))
     old (shown c.walk_rvalue-in-Convert.new.to) (shown c.conversion_ends.new.to)
     (walked laid opens sizes path true (rvalue_tree i.value.value)).value
-    (c.is_same_place-is_same.ensures ∙ ap (is_same_place i.place) (c.rvalue_place-in-Convert.ensures
+    (c.is_same_place-is_same.ensures ∙ ap (is_same_place i.place) (c.rvalue_place.ensures
     ∙ ap (λ r. rvalue_place (rvalue_tree r)) c.deref-in-Convert.ensures)) c.is_conversion.ensures value
     c.in_ok-conversion_ends-in-Convert.ensures)
 
-pub expressions::walk_rvalue-returns-in_ok-conversion_ends-in-Convert-clause-given :
-    goal.expressions::walk_rvalue-returns-in_ok-conversion_ends-in-Convert-clause-given
+pub expressions::walk_call-returns-in_ok-conversion_ends-in-Convert-clause-given :
+    goal.expressions::walk_call-returns-in_ok-conversion_ends-in-Convert-clause-given
 unfolding IsRead IsGiven IsAddressed IsTyped IsTested AreRead
-expressions::walk_rvalue-returns-in_ok-conversion_ends-in-Convert-clause-given t c =
+expressions::walk_call-returns-in_ok-conversion_ends-in-Convert-clause-given t c =
     let i = c.in-Convert in
     let laid = laid_tree c.args.here.now.laid.now in
     let opens = is_among c.args.here.now.opens.now in
@@ -471,10 +472,10 @@ expressions::walk_rvalue-returns-in_ok-conversion_ends-in-Convert-clause-given t
     let path = c.args.here.now.path in
     given_as laid opens sizes path c.args.rvalue.now _ Gives.Number i.is (refl)
 
-pub expressions::walk_rvalue-returns-in_ok-note_end-in-Discard-clause-noted :
-    goal.expressions::walk_rvalue-returns-in_ok-note_end-in-Discard-clause-noted
+pub expressions::walk_call-returns-in_ok-note_end-in-Discard-clause-noted :
+    goal.expressions::walk_call-returns-in_ok-note_end-in-Discard-clause-noted
 unfolding IsRead IsGiven IsAddressed IsTyped IsTested AreRead
-expressions::walk_rvalue-returns-in_ok-note_end-in-Discard-clause-noted t c =
+expressions::walk_call-returns-in_ok-note_end-in-Discard-clause-noted t c =
     let i = c.in-Discard in
     let laid = laid_tree c.args.here.now.laid.now in
     let opens = is_among c.args.here.now.opens.now in
@@ -491,10 +492,10 @@ expressions::walk_rvalue-returns-in_ok-note_end-in-Discard-clause-noted t c =
     (shown c.note_end-in-Discard.new.to) (walked laid opens sizes path false (rvalue_tree i.value.value)).value value
     c.in_ok-note_end-in-Discard.ensures)
 
-pub expressions::walk_rvalue-returns-in_ok-note_end-in-Discard-clause-given :
-    goal.expressions::walk_rvalue-returns-in_ok-note_end-in-Discard-clause-given
+pub expressions::walk_call-returns-in_ok-note_end-in-Discard-clause-given :
+    goal.expressions::walk_call-returns-in_ok-note_end-in-Discard-clause-given
 unfolding IsRead IsGiven IsAddressed IsTyped IsTested AreRead
-expressions::walk_rvalue-returns-in_ok-note_end-in-Discard-clause-given t c =
+expressions::walk_call-returns-in_ok-note_end-in-Discard-clause-given t c =
     let i = c.in-Discard in
     let laid = laid_tree c.args.here.now.laid.now in
     let opens = is_among c.args.here.now.opens.now in
@@ -502,10 +503,10 @@ expressions::walk_rvalue-returns-in_ok-note_end-in-Discard-clause-given t c =
     let path = c.args.here.now.path in
     given_as laid opens sizes path c.args.rvalue.now _ Gives.Nothing i.is (refl)
 
-pub expressions::walk_rvalue-returns-in_ok-note_fork_end-in-Not-clause-noted :
-    goal.expressions::walk_rvalue-returns-in_ok-note_fork_end-in-Not-clause-noted
+pub expressions::walk_choice-returns-in_ok-note_fork_end-in-Not-clause-noted :
+    goal.expressions::walk_choice-returns-in_ok-note_fork_end-in-Not-clause-noted
 unfolding IsRead IsGiven IsAddressed IsTyped IsTested AreRead
-expressions::walk_rvalue-returns-in_ok-note_fork_end-in-Not-clause-noted t c =
+expressions::walk_choice-returns-in_ok-note_fork_end-in-Not-clause-noted t c =
     let i = c.in-Not in
     let laid = laid_tree c.args.here.now.laid.now in
     let opens = is_among c.args.here.now.opens.now in
@@ -522,10 +523,10 @@ expressions::walk_rvalue-returns-in_ok-note_fork_end-in-Not-clause-noted t c =
     (shown c.note_fork_end.new.to) (walked laid opens sizes path true (rvalue_tree i.value.value)).fork value
     c.in_ok-note_fork_end-in-Not.ensures)
 
-pub expressions::walk_rvalue-returns-in_ok-note_fork_end-in-Not-clause-given :
-    goal.expressions::walk_rvalue-returns-in_ok-note_fork_end-in-Not-clause-given
+pub expressions::walk_choice-returns-in_ok-note_fork_end-in-Not-clause-given :
+    goal.expressions::walk_choice-returns-in_ok-note_fork_end-in-Not-clause-given
 unfolding IsRead IsGiven IsAddressed IsTyped IsTested AreRead
-expressions::walk_rvalue-returns-in_ok-note_fork_end-in-Not-clause-given t c =
+expressions::walk_choice-returns-in_ok-note_fork_end-in-Not-clause-given t c =
     let i = c.in-Not in
     let laid = laid_tree c.args.here.now.laid.now in
     let opens = is_among c.args.here.now.opens.now in
@@ -533,10 +534,10 @@ expressions::walk_rvalue-returns-in_ok-note_fork_end-in-Not-clause-given t c =
     let path = c.args.here.now.path in
     given_as laid opens sizes path c.args.rvalue.now _ Gives.Number i.is (refl)
 
-pub expressions::walk_rvalue-returns-in_ok-note_both_end-in-And-clause-noted :
-    goal.expressions::walk_rvalue-returns-in_ok-note_both_end-in-And-clause-noted
+pub expressions::walk_choice-returns-in_ok-note_both_end-in-And-clause-noted :
+    goal.expressions::walk_choice-returns-in_ok-note_both_end-in-And-clause-noted
 unfolding IsRead IsGiven IsAddressed IsTyped IsTested AreRead
-expressions::walk_rvalue-returns-in_ok-note_both_end-in-And-clause-noted t c =
+expressions::walk_choice-returns-in_ok-note_both_end-in-And-clause-noted t c =
     let i = c.in-And in
     let laid = laid_tree c.args.here.now.laid.now in
     let opens = is_among c.args.here.now.opens.now in
@@ -561,10 +562,10 @@ expressions::walk_rvalue-returns-in_ok-note_both_end-in-And-clause-noted t c =
     (walked laid opens sizes path true (rvalue_tree i.right.value)).fork first second
     c.in_ok-note_both_end-in-And.ensures)
 
-pub expressions::walk_rvalue-returns-in_ok-note_both_end-in-And-clause-given :
-    goal.expressions::walk_rvalue-returns-in_ok-note_both_end-in-And-clause-given
+pub expressions::walk_choice-returns-in_ok-note_both_end-in-And-clause-given :
+    goal.expressions::walk_choice-returns-in_ok-note_both_end-in-And-clause-given
 unfolding IsRead IsGiven IsAddressed IsTyped IsTested AreRead
-expressions::walk_rvalue-returns-in_ok-note_both_end-in-And-clause-given t c =
+expressions::walk_choice-returns-in_ok-note_both_end-in-And-clause-given t c =
     let i = c.in-And in
     let laid = laid_tree c.args.here.now.laid.now in
     let opens = is_among c.args.here.now.opens.now in
@@ -572,10 +573,10 @@ expressions::walk_rvalue-returns-in_ok-note_both_end-in-And-clause-given t c =
     let path = c.args.here.now.path in
     given_as laid opens sizes path c.args.rvalue.now _ Gives.Number i.is (refl)
 
-pub expressions::walk_rvalue-returns-in_ok-note_both_end-in-Or-clause-noted :
-    goal.expressions::walk_rvalue-returns-in_ok-note_both_end-in-Or-clause-noted
+pub expressions::walk_choice-returns-in_ok-note_both_end-in-Or-clause-noted :
+    goal.expressions::walk_choice-returns-in_ok-note_both_end-in-Or-clause-noted
 unfolding IsRead IsGiven IsAddressed IsTyped IsTested AreRead
-expressions::walk_rvalue-returns-in_ok-note_both_end-in-Or-clause-noted t c =
+expressions::walk_choice-returns-in_ok-note_both_end-in-Or-clause-noted t c =
     let i = c.in-Or in
     let laid = laid_tree c.args.here.now.laid.now in
     let opens = is_among c.args.here.now.opens.now in
@@ -600,10 +601,10 @@ expressions::walk_rvalue-returns-in_ok-note_both_end-in-Or-clause-noted t c =
     (walked laid opens sizes path true (rvalue_tree i.right.value)).fork first second
     c.in_ok-note_both_end-in-Or.ensures)
 
-pub expressions::walk_rvalue-returns-in_ok-note_both_end-in-Or-clause-given :
-    goal.expressions::walk_rvalue-returns-in_ok-note_both_end-in-Or-clause-given
+pub expressions::walk_choice-returns-in_ok-note_both_end-in-Or-clause-given :
+    goal.expressions::walk_choice-returns-in_ok-note_both_end-in-Or-clause-given
 unfolding IsRead IsGiven IsAddressed IsTyped IsTested AreRead
-expressions::walk_rvalue-returns-in_ok-note_both_end-in-Or-clause-given t c =
+expressions::walk_choice-returns-in_ok-note_both_end-in-Or-clause-given t c =
     let i = c.in-Or in
     let laid = laid_tree c.args.here.now.laid.now in
     let opens = is_among c.args.here.now.opens.now in
@@ -611,10 +612,10 @@ expressions::walk_rvalue-returns-in_ok-note_both_end-in-Or-clause-given t c =
     let path = c.args.here.now.path in
     given_as laid opens sizes path c.args.rvalue.now _ Gives.Number i.is (refl)
 
-pub expressions::walk_rvalue-returns-in_ok-note_end-in-Conditional-clause-noted :
-    goal.expressions::walk_rvalue-returns-in_ok-note_end-in-Conditional-clause-noted
+pub expressions::walk_choice-returns-in_ok-note_end-in-Conditional-clause-noted :
+    goal.expressions::walk_choice-returns-in_ok-note_end-in-Conditional-clause-noted
 unfolding IsRead IsGiven IsAddressed IsTyped IsTested AreRead
-expressions::walk_rvalue-returns-in_ok-note_end-in-Conditional-clause-noted t c =
+expressions::walk_choice-returns-in_ok-note_end-in-Conditional-clause-noted t c =
     let i = c.in-Conditional in
     let laid = laid_tree c.args.here.now.laid.now in
     let opens = is_among c.args.here.now.opens.now in
@@ -632,10 +633,10 @@ expressions::walk_rvalue-returns-in_ok-note_end-in-Conditional-clause-noted t c 
     c.in_ok-one-in-Conditional.ensures.noted
     ∙ ap (λ r. behind (shown c.sequence-in-Conditional.new.to) (walked laid opens sizes path c.args.used
     (rvalue_tree r)).value) c.deref-in-Conditional-2.ensures in
-    let second : shown c.walk_rvalue-in-Conditional-3.new.to ≡ behind (shown c.note_copy.new.to)
+    let second : shown c.walk_rvalue-in-Conditional-3.new.to ≡ behind (shown c.note_if.new.to)
     (walked laid opens sizes path c.args.used (rvalue_tree i.second.value)).value =
     c.in_ok-other-in-Conditional.ensures.noted
-    ∙ ap (λ r. behind (shown c.note_copy.new.to) (walked laid opens sizes path c.args.used
+    ∙ ap (λ r. behind (shown c.note_if.new.to) (walked laid opens sizes path c.args.used
     (rvalue_tree r)).value) c.deref-in-Conditional-3.ensures in
     let one_gives : c.in_ok-one-in-Conditional.one ≡ given laid opens path (rvalue_tree i.first.value) =
     c.in_ok-one-in-Conditional.ensures.given
@@ -644,8 +645,8 @@ expressions::walk_rvalue-returns-in_ok-note_end-in-Conditional-clause-noted t c 
     (choice_noted laid opens sizes path w c.is_pointer-in-Conditional.result
     (is_pointer (given laid opens path (rvalue_tree i.first.value))) i.place c.len-pending-in-Conditional.result
     (has_value (given laid opens path (rvalue_tree i.first.value))) old (shown c.walk_rvalue-in-Conditional.new.to)
-    (shown c.sequence-in-Conditional.new.to) (shown c.walk_rvalue-in-Conditional-2.new.to) (shown c.note_copy.new.to)
-    (shown c.walk_rvalue-in-Conditional-3.new.to) (shown c.note_copy-in-Conditional.new.to) (shown c.note_skips.new.to)
+    (shown c.sequence-in-Conditional.new.to) (shown c.walk_rvalue-in-Conditional-2.new.to) (shown c.note_if.new.to)
+    (shown c.walk_rvalue-in-Conditional-3.new.to) (shown c.note_if-in-Conditional.new.to) (shown c.note_skips.new.to)
     (shown c.note_end-in-Conditional.new.to) (walked laid opens sizes path c.args.used
     (rvalue_tree i.first.value)).value
     (walked laid opens sizes path c.args.used (rvalue_tree i.second.value)).value
@@ -653,18 +654,18 @@ expressions::walk_rvalue-returns-in_ok-note_end-in-Conditional-clause-noted t c 
     (c.is_pointer-in-Conditional.ensures ∙ ap is_pointer one_gives)
     (c.len-pending-in-Conditional.ensures ∙ c.args.to.now.pending.ok.0) test c.sequence-in-Conditional.ensures first
     (as_one i.place Forms.Copy c.has_value.result (has_value (given laid opens path (rvalue_tree i.first.value)))
-    (shown c.walk_rvalue-in-Conditional-2.new.to) (shown c.note_copy.new.to)
-    (c.has_value.ensures ∙ ap has_value one_gives) c.in_ok-note_copy-in-Conditional.ensures) second
+    (shown c.walk_rvalue-in-Conditional-2.new.to) (shown c.note_if.new.to)
+    (c.has_value.ensures ∙ ap has_value one_gives) c.in_ok-note_if-in-Conditional.ensures) second
     (as_one i.place Forms.Copy c.has_value-in-Conditional.result
     (has_value (given laid opens path (rvalue_tree i.first.value))) (shown c.walk_rvalue-in-Conditional-3.new.to)
-    (shown c.note_copy-in-Conditional.new.to) (c.has_value-in-Conditional.ensures ∙ ap has_value one_gives)
-    c.in_ok-note_copy-in-Conditional-2.ensures) c.in_ok-note_skips-in-Conditional.ensures
+    (shown c.note_if-in-Conditional.new.to) (c.has_value-in-Conditional.ensures ∙ ap has_value one_gives)
+    c.in_ok-note_if-in-Conditional-2.ensures) c.in_ok-note_skips-in-Conditional.ensures
     c.in_ok-note_end-in-Conditional.ensures)
 
-pub expressions::walk_rvalue-returns-in_ok-note_end-in-Conditional-clause-given :
-    goal.expressions::walk_rvalue-returns-in_ok-note_end-in-Conditional-clause-given
+pub expressions::walk_choice-returns-in_ok-note_end-in-Conditional-clause-given :
+    goal.expressions::walk_choice-returns-in_ok-note_end-in-Conditional-clause-given
 unfolding IsRead IsGiven IsAddressed IsTyped IsTested AreRead
-expressions::walk_rvalue-returns-in_ok-note_end-in-Conditional-clause-given t c =
+expressions::walk_choice-returns-in_ok-note_end-in-Conditional-clause-given t c =
     let i = c.in-Conditional in
     let laid = laid_tree c.args.here.now.laid.now in
     let opens = is_among c.args.here.now.opens.now in
@@ -897,10 +898,10 @@ expressions::walk_arguments-loop-number-preserved t c =
     let name = c.rvalue_place.ensures ∙ ap (λ (x : Rvalue). rvalue_place (rvalue_tree x)) is in
     let passed_on = c.in_ok-note_passing.ensures ∙ ap (λ (p : Place). passing_if passed p d) name in
     left_more laid opens sizes path c.args.place types c.args.arguments.now i r passed c.since-before.result
-    c.in_ok-walked.walked.edges old b d (shown c.note_passing.new.to) (shown c.note_argument.new.to)
+    c.in_ok-walked.walked.edges old b d (shown c.note_passing.new.to) (shown c.note_against.new.to)
     c.loop-number-test.true passes c.loop-number.invariant read passed_on c.since-before.ensures.first
     c.since-before.ensures.end c.in_ok-walked.ensures.edges.0 c.in_ok-walked.ensures.edges.1
-    c.in_ok-note_argument.ensures
+    c.in_ok-note_against.ensures
 
 pub expressions::walk_arguments-returns : goal.expressions::walk_arguments-returns
 unfolding IsRead IsGiven IsAddressed IsTyped IsTested AreRead
@@ -919,7 +920,7 @@ expressions::walk_arguments-returns t c =
 
 pub operators::walk_change-returns-in_ok-note_end-in-Assign-clause-noted :
     goal.operators::walk_change-returns-in_ok-note_end-in-Assign-clause-noted
-unfolding IsRead IsGiven IsAddressed IsTyped
+unfolding tree_in IsRead IsGiven IsAddressed IsTyped
 operators::walk_change-returns-in_ok-note_end-in-Assign-clause-noted t c =
     let i = c.in-Assign in
     let laid = laid_tree c.args.here.now.laid.now in
@@ -1108,10 +1109,10 @@ operators::walk_change-returns-in_ok-note_end-in-CompoundMove-clause-given t c =
     ∙ ap (λ t. type_of laid is_open path (lvalue_tree t)) c.deref-in-CompoundMove.ensures)
     ∙ sym (ap (given laid is_open path) tree)
 
-pub operators::walk_change-returns-in_ok-note_end-in-Step-clause-noted :
-    goal.operators::walk_change-returns-in_ok-note_end-in-Step-clause-noted
+pub operators::walk_step-returns-in_ok-note_end-in-Step-clause-noted :
+    goal.operators::walk_step-returns-in_ok-note_end-in-Step-clause-noted
 unfolding IsRead IsGiven IsAddressed IsTyped
-operators::walk_change-returns-in_ok-note_end-in-Step-clause-noted t c =
+operators::walk_step-returns-in_ok-note_end-in-Step-clause-noted t c =
     let i = c.in-Step in
     let laid = laid_tree c.args.here.now.laid.now in
     let is_open = is_among c.args.here.now.opens.now in
@@ -1124,15 +1125,15 @@ operators::walk_change-returns-in_ok-note_end-in-Step-clause-noted t c =
     let a = shown c.args.to.now in
     let n = c.len-pending.result in
     let before : n ≡ length a.pending = c.len-pending.ensures ∙ c.args.to.now.pending.ok.0 in
-    let b = shown c.walk_target-in-Step.new.to in
+    let b = shown c.walk_target.new.to in
     let at : b ≡ behind a (addressed laid is_open sizes path l) =
     c.in_ok-_address-in-Step.ensures.noted ∙ ap (λ t. behind a (addressed laid is_open sizes path
-    (lvalue_tree t))) c.deref-in-Step-2.ensures in
-    let d = shown c.note_load-in-Step.new.to in
+    (lvalue_tree t))) c.deref-in-Step.ensures in
+    let d = shown c.note_load.new.to in
     let loads : d ≡ behind b (one (lvalue_place l) Forms.Load) =
     c.in_ok-_load-in-Step.ensures.noted ∙ ap (λ t. behind b (one (lvalue_place
-    (lvalue_tree t)) Forms.Load)) c.deref-in-Step-3.ensures in
-    let f = shown c.note-in-Step.new.to in
+    (lvalue_tree t)) Forms.Load)) c.deref-in-Step-2.ensures in
+    let f = shown c.note.new.to in
     let sides : Noted = behind (behind (addressed laid is_open sizes path l) (one (lvalue_place l) Forms.Load))
     (one i.place Forms.Constant) in
     let stands : f ≡ behind a sides = then_behind a d f
@@ -1142,22 +1143,22 @@ operators::walk_change-returns-in_ok-note_end-in-Step-clause-noted t c =
     let loaded = is_some (conversion i.cell i.of) in
     let back = is_some (conversion i.of i.cell) in
     let is = c.is_conversion-is_converted.result in
-    let name : c.place-in-Step.result ≡ lvalue_place l = c.place-in-Step.ensures
-    ∙ ap (λ t. lvalue_place (lvalue_tree t)) c.deref-in-Step.ensures in
-    subst (λ (u : RvalueTree). shown c.note_end-in-Step.new.to
+    let name : c.place.result ≡ lvalue_place l = c.place.ensures
+    ∙ ap (λ t. lvalue_place (lvalue_tree t)) c.deref.ensures in
+    subst (λ (u : RvalueTree). shown c.note_end.new.to
     ≡ behind a (by_wanted w (walked laid is_open sizes path c.args.used u)))
     (sym tree)
     (compound_noted laid is_open sizes path w i.place (lvalue_place l) i.place n loaded is
-    (is_some (conversion Ints.Int i.of)) back a f (shown c.change_ends-in-Step.new.to)
-    (shown c.note_end-in-Step.new.to) sides c.is_conversion-is_converted.ensures before stands
+    (is_some (conversion Ints.Int i.of)) back a f (shown c.change_ends.new.to)
+    (shown c.note_end.new.to) sides c.is_conversion-is_converted.ensures before stands
     (c.in_ok-change_ends-in-Step.ensures
     ∙ ap (λ q. stored_from n i.place (behind f (change_end loaded q is i.place back i.place))) name)
     c.in_ok-note_end-in-Step.ensures)
 
-pub operators::walk_change-returns-in_ok-note_end-in-StepMove-clause-noted :
-    goal.operators::walk_change-returns-in_ok-note_end-in-StepMove-clause-noted
+pub operators::walk_step-returns-in_ok-note_end-in-StepMove-clause-noted :
+    goal.operators::walk_step-returns-in_ok-note_end-in-StepMove-clause-noted
 unfolding IsRead IsGiven IsAddressed IsTyped
-operators::walk_change-returns-in_ok-note_end-in-StepMove-clause-noted t c =
+operators::walk_step-returns-in_ok-note_end-in-StepMove-clause-noted t c =
     let i = c.in-StepMove in
     let laid = laid_tree c.args.here.now.laid.now in
     let is_open = is_among c.args.here.now.opens.now in
@@ -1187,16 +1188,16 @@ operators::walk_change-returns-in_ok-note_end-in-StepMove-clause-noted t c =
     subst (λ (u : RvalueTree). shown c.note_end-in-StepMove.new.to
     ≡ behind a (by_wanted w (walked laid is_open sizes path c.args.used u)))
     (sym tree)
-    (moved_noted laid is_open sizes path w i.place n c.class_target-in-StepMove.result
+    (moved_noted laid is_open sizes path w i.place n c.class_target.result
     (pointed_by (entry_of laid.file i.class).ctype) a f (shown c.note-in-StepMove-2.new.to)
-    (shown c.note_store-in-StepMove.new.to) (shown c.note_end-in-StepMove.new.to) sides
-    c.class_target-in-StepMove.ensures before stands c.in_ok-note-in-StepMove-2.ensures
+    (shown c.note_store.new.to) (shown c.note_end-in-StepMove.new.to) sides
+    c.class_target.ensures before stands c.in_ok-note-in-StepMove-2.ensures
     c.in_ok-note_store-in-StepMove.ensures c.in_ok-note_end-in-StepMove.ensures)
 
-pub operators::walk_change-returns-in_ok-note_end-in-StepMove-clause-given :
-    goal.operators::walk_change-returns-in_ok-note_end-in-StepMove-clause-given
+pub operators::walk_step-returns-in_ok-note_end-in-StepMove-clause-given :
+    goal.operators::walk_step-returns-in_ok-note_end-in-StepMove-clause-given
 unfolding IsRead IsGiven IsAddressed IsTyped
-operators::walk_change-returns-in_ok-note_end-in-StepMove-clause-given t c =
+operators::walk_step-returns-in_ok-note_end-in-StepMove-clause-given t c =
     let i = c.in-StepMove in
     let laid = laid_tree c.args.here.now.laid.now in
     let is_open = is_among c.args.here.now.opens.now in
@@ -1204,7 +1205,7 @@ operators::walk_change-returns-in_ok-note_end-in-StepMove-clause-given t c =
     let path = c.args.here.now.path in
     let l = lvalue_tree i.target.value in
     let tree : rvalue_tree c.args.rvalue.now ≡ a_pointer_step i.step i.cells i.class l i.place = ap rvalue_tree i.is in
-    c.held_by-in-StepMove.ensures is_open path
+    c.held_by.ensures is_open path
     ∙ ap (held_by laid is_open path (Scalars.Pointer i.class)) (c.in_ok-address-in-StepMove.ensures.of
     ∙ ap (λ t. type_of laid is_open path (lvalue_tree t)) c.deref-in-StepMove.ensures)
     ∙ sym (ap (given laid is_open path) tree)
@@ -1216,10 +1217,10 @@ operators::walk_change-returns-in_ok-note_end-in-Compound-clause-given t c =
     sym (ap (λ v. given (laid_tree c.args.here.now.laid.now) (is_among c.args.here.now.opens.now) c.args.here.now.path
     (rvalue_tree v)) c.in-Compound.is)
 
-pub operators::walk_change-returns-in_ok-note_end-in-Step-clause-given :
-    goal.operators::walk_change-returns-in_ok-note_end-in-Step-clause-given
+pub operators::walk_step-returns-in_ok-note_end-in-Step-clause-given :
+    goal.operators::walk_step-returns-in_ok-note_end-in-Step-clause-given
 unfolding IsRead IsGiven IsAddressed IsTyped
-operators::walk_change-returns-in_ok-note_end-in-Step-clause-given t c =
+operators::walk_step-returns-in_ok-note_end-in-Step-clause-given t c =
     sym (ap (λ v. given (laid_tree c.args.here.now.laid.now) (is_among c.args.here.now.opens.now) c.args.here.now.path
     (rvalue_tree v)) c.in-Step.is)
 
@@ -1468,3 +1469,23 @@ pub operators::walk_operator-returns-in_default : goal.operators::walk_operator-
 unfolding IsRead IsGiven IsAddressed IsTyped
 operators::walk_operator-returns-in_default t c =
     record { noted = c.walk_change.ensures.noted; given = c.walk_change.ensures.given }
+
+pub expressions::walk_rvalue-returns-in_default : goal.expressions::walk_rvalue-returns-in_default
+unfolding IsRead IsGiven IsAddressed IsTyped
+expressions::walk_rvalue-returns-in_default t c =
+    record { noted = c.walk_call.ensures.noted; given = c.walk_call.ensures.given }
+
+pub expressions::walk_call-returns-in_default : goal.expressions::walk_call-returns-in_default
+unfolding IsRead IsGiven IsAddressed IsTyped
+expressions::walk_call-returns-in_default t c =
+    record { noted = c.walk_choice.ensures.noted; given = c.walk_choice.ensures.given }
+
+pub expressions::walk_choice-returns-in_default : goal.expressions::walk_choice-returns-in_default
+unfolding IsRead IsGiven IsAddressed IsTyped
+expressions::walk_choice-returns-in_default t c =
+    record { noted = c.walk_operator.ensures.noted; given = c.walk_operator.ensures.given }
+
+pub operators::walk_change-returns-in_default : goal.operators::walk_change-returns-in_default
+unfolding IsRead IsGiven IsAddressed IsTyped
+operators::walk_change-returns-in_default t c =
+    record { noted = c.walk_step.ensures.noted; given = c.walk_step.ensures.given }

@@ -3,6 +3,7 @@ use Rattle.std.specs.Prelude.{ℕ, zero, suc, Bool, true, false, None}
 use Rattle.tm_terms.specs.declared.places.Place.{Place}
 use Rattle.tm_typed.specs.declared.scopes.ObjectNumber.TheVariants as Numbers
 use Rattle.tm_laid.specs.Layouts.{LaidTree, object_of, object_at}
+use Rattle.path_origins.specs.declared.origins.Form.{Form}
 use Rattle.path_origins.specs.declared.origins.Form.TheVariants as Forms
 use Rattle.path_origins.specs.declared.origins.Span.{Span}
 use Rattle.path_origins.specs.declared.origins.Life.{Life}
@@ -19,21 +20,19 @@ converted_end Wants.Bare true p is = nothing
 converted_end Wants.Bare false p is = one_if is p Forms.Conversion
 converted_end Wants.Branch same p is = behind (one_if is p Forms.Conversion) (end_by Wants.Branch false p)
 
--- an operator on converted operands, which compares or does not
-abbrev pub compared_end : Wanted → Place → Noted
-compared_end Wants.Value p = one p Forms.Binary
-compared_end Wants.Bare p = one p Forms.Binary
-compared_end Wants.Branch p = tests p Forms.Test
+-- a comparison: a value by one form, tests by another; an operator on converted operands, which compares or does not
+abbrev pub compared_end : Wanted → Place → Form → Form → Noted
+compared_end Wants.Value p f g = one p f
+compared_end Wants.Bare p f g = one p f
+compared_end Wants.Branch p f g = tests p g
 
 abbrev pub operator_end : Bool → Wanted → Place → Noted
-operator_end true w p = compared_end w p
+operator_end true w p = compared_end w p Forms.Binary Forms.Test
 operator_end false w p = behind (one p Forms.Binary) (end_by w false p)
 
 -- a comparison of pointers, once they are known to be usable
 abbrev pub equality_end : Wanted → Place → Noted
-equality_end Wants.Value p = one p Forms.Equality
-equality_end Wants.Bare p = one p Forms.Equality
-equality_end Wants.Branch p = tests p Forms.EqualityTest
+equality_end w p = compared_end w p Forms.Equality Forms.EqualityTest
 
 -- the operator of `op=`, `++` or `--`, with the conversions of what is loaded, of the operand, and of what is stored
 abbrev pub change_end : Bool → Place → Bool → Place → Bool → Place → Noted

@@ -15,7 +15,7 @@ use Rattle.path_origins.specs.declared.statements.Ways.{Ways}
 use Rattle.path_origins.specs.Noted.{Noted, nothing, behind, scoped, one, tests, skips}
 use Rattle.path_origins.specs.Statements.{nowhere, Left, goes_on, statements}
 use Rattle.path_origins.specs.Bodies.{fallen, closing, is_task_path}
-use Rattle.path_origins.specs.reading.Walks.{IsBehind, operands_added}
+use Rattle.path_origins.specs.reading.Walks.{IsBehind}
 
 -- ## Loops and `switch`
 
@@ -96,11 +96,6 @@ select_end default breaks = behind (missed default) (skips nowhere (suc breaks))
 abbrev pub span_from : ℕ → Option LocalInitialiserTree → ℕ → Option Span
 span_from first None end = None
 span_from first (Some i) end = Some (record { first = first; end = end })
-
--- the edges of a cell stand against those of the cells before it, if there are any
-abbrev pub set_against : Place → ℕ → Span → Span → Noted → Noted
-set_against p zero before after x = x
-set_against p (suc k) before after x = operands_added p before after x
 
 -- ## Bodies
 

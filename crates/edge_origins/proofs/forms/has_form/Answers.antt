@@ -7,7 +7,7 @@ use Rattle.edge_origins.specs.Bodies.{a_base, a_binary, a_clear, a_constant, a_c
 use Rattle.edge_origins.specs.Bodies.{a_lock, a_move, a_part, a_probe, a_skip, a_store, a_test, a_unary}
 use Rattle.edge_origins.specs.Bodies.{a_usable, a_volatile_load, a_yield, an_element, an_equality}
 use Rattle.edge_origins.specs.Bodies.{an_initialiser, an_unlock, any_value}
-use Rattle.edge_origins.proofs.FormPairs.{formed, of_test}
+use Rattle.edge_origins.proofs.FormPairs.{formed, unformed, is_of, of_test}
 use Rattle.edge_origins.proofs.forms.has_form.Goals as goal
 
 pub returns-in-Skip-matches : goal.returns-in-Skip-matches
@@ -86,3 +86,63 @@ returns-in-Yield-matches c = formed c.in-Yield.is c.in-Yield-matches.is a_yield
 
 pub returns-in-Probe-matches : goal.returns-in-Probe-matches
 returns-in-Probe-matches c = formed c.in-Probe.is c.in-Probe-matches.is a_probe
+
+pub returns-in_default : goal.returns-in_default
+returns-in_default c = unformed c.in-Skip.is (λ h. c.in_default.not-Skip (is_of h))
+
+pub returns-in_default-matches : goal.returns-in_default-matches
+returns-in_default-matches c = unformed c.in-Const.is (λ h. c.in_default-matches.not-Constant (is_of h))
+
+pub returns-in_default-matches-2 : goal.returns-in_default-matches-2
+returns-in_default-matches-2 c = unformed c.in-Copy.is (λ h. c.in_default-matches-2.not-Copy (is_of h))
+
+pub returns-in_default-matches-3 : goal.returns-in_default-matches-3
+returns-in_default-matches-3 c = unformed c.in-Un.is (λ h. c.in_default-matches-3.not-Unary (is_of h))
+
+pub returns-in_default-matches-4 : goal.returns-in_default-matches-4
+returns-in_default-matches-4 c = unformed c.in-Bin.is (λ h. c.in_default-matches-4.not-Binary (is_of h))
+
+pub returns-in_default-matches-5 : goal.returns-in_default-matches-5
+returns-in_default-matches-5 c = unformed c.in-BinPointers.is (λ h. c.in_default-matches-5.not-Equality (is_of h))
+
+pub returns-in_default-matches-6 : goal.returns-in_default-matches-6
+returns-in_default-matches-6 c = unformed c.in-Convert.is (λ h. c.in_default-matches-6.not-Conversion (is_of h))
+
+pub returns-in_default-matches-7 : goal.returns-in_default-matches-7
+returns-in_default-matches-7 c = unformed c.in-Base.is (λ h. c.in_default-matches-7.not-Base (is_of h))
+
+pub returns-in_default-matches-8 : goal.returns-in_default-matches-8
+returns-in_default-matches-8 c = unformed c.in-Offset.is (λ h. c.in_default-matches-8.not-Part (is_of h))
+
+pub returns-in_default-matches-9 : goal.returns-in_default-matches-9
+returns-in_default-matches-9 c = unformed c.in-Index.is (λ h. c.in_default-matches-9.not-Element (is_of h))
+
+pub returns-in_default-matches-11 : goal.returns-in_default-matches-11
+returns-in_default-matches-11 c = unformed c.in-Deref.is (λ h. c.in_default-matches-11.not-Follow (is_of h))
+
+pub returns-in_default-matches-12 : goal.returns-in_default-matches-12
+returns-in_default-matches-12 c = unformed c.in-Load.is (λ h. c.in_default-matches-12.not-Load (is_of h))
+
+pub returns-in_default-matches-13 : goal.returns-in_default-matches-13
+returns-in_default-matches-13 c = unformed c.in-LoadAny.is (λ h. c.in_default-matches-13.not-Load (is_of h))
+
+pub returns-in_default-matches-15 : goal.returns-in_default-matches-15
+returns-in_default-matches-15 c = unformed c.in-Any.is (λ h. c.in_default-matches-15.not-Any (is_of h))
+
+pub returns-in_default-matches-16 : goal.returns-in_default-matches-16
+returns-in_default-matches-16 c = unformed c.in-Clear.is (λ h. c.in_default-matches-16.not-Clear (is_of h))
+
+pub returns-in_default-matches-17 : goal.returns-in_default-matches-17
+returns-in_default-matches-17 c = unformed c.in-Usable.is (λ h. c.in_default-matches-17.not-Usable (is_of h))
+
+pub returns-in_default-matches-18 : goal.returns-in_default-matches-18
+returns-in_default-matches-18 c = unformed c.in-Lock.is (λ h. c.in_default-matches-18.not-Lock (is_of h))
+
+pub returns-in_default-matches-19 : goal.returns-in_default-matches-19
+returns-in_default-matches-19 c = unformed c.in-Unlock.is (λ h. c.in_default-matches-19.not-Unlock (is_of h))
+
+pub returns-in_default-matches-20 : goal.returns-in_default-matches-20
+returns-in_default-matches-20 c = unformed c.in-Yield.is (λ h. c.in_default-matches-20.not-Yield (is_of h))
+
+pub returns-in_default-matches-21 : goal.returns-in_default-matches-21
+returns-in_default-matches-21 c = unformed c.in-Probe.is (λ h. c.in_default-matches-21.not-Probe (is_of h))

@@ -14,13 +14,13 @@ returns c =
     let x = c.args.change in
     let loaded = is_some (conversion x.cell x.of) in
     let back = is_some (conversion x.of x.cell) in
-    let all = four_behind (shown c.args.to.now) (shown c.note_conversion.new.to) (shown c.note_conversion-2.new.to)
-    (shown c.note.new.to) (shown c.note_conversion-3.new.to) (one_if loaded x.load_place Forms.Conversion)
+    let all = four_behind (shown c.args.to.now) (shown c.note_if.new.to) (shown c.note_if-2.new.to)
+    (shown c.note.new.to) (shown c.note_if-3.new.to) (one_if loaded x.load_place Forms.Conversion)
     (one_if c.args.is_converted c.args.operand_place Forms.Conversion) (one x.place Forms.Binary)
     (one_if back x.place Forms.Conversion)
-    (as_one x.load_place Forms.Conversion c.is_conversion.result loaded (shown c.args.to.now)
-    (shown c.note_conversion.new.to) c.is_conversion.ensures c.in_ok-note_conversion.ensures)
-    c.in_ok-note_conversion-2.ensures c.in_ok-note.ensures
-    (as_one x.place Forms.Conversion c.is_conversion-2.result back (shown c.note.new.to)
-    (shown c.note_conversion-3.new.to) c.is_conversion-2.ensures c.in_ok-note_conversion-3.ensures) in
+    (as_one x.load_place Forms.Conversion c.is_conversion-loaded.result loaded (shown c.args.to.now)
+    (shown c.note_if.new.to) c.is_conversion-loaded.ensures c.in_ok-note_if.ensures)
+    c.in_ok-note_if-2.ensures c.in_ok-note.ensures
+    (as_one x.place Forms.Conversion c.is_conversion-back.result back (shown c.note.new.to)
+    (shown c.note_if-3.new.to) c.is_conversion-back.ensures c.in_ok-note_if-3.ensures) in
     on_ok_weaker c.note_store.result (λ e. e ∙ ap (stored_from c.args.pending x.place) all) c.note_store.ensures

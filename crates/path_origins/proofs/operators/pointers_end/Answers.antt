@@ -7,7 +7,7 @@ use Rattle.path_origins.proofs.Laws.{pair_behind}
 use Rattle.path_origins.proofs.operators.pointers_end.Goals as goal
 
 pub returns : goal.returns
-returns c = on_ok_weaker c.equality_ends.result (pair_behind (shown c.args.to.now) (shown c.note.new.to)
-    (shown c.note-2.new.to) (shown c.equality_ends.new.to) (one c.args.place Forms.Usable)
+returns c = on_ok_weaker c.comparison_ends.result (pair_behind (shown c.args.to.now) (shown c.note.new.to)
+    (shown c.note-2.new.to) (shown c.comparison_ends.new.to) (one c.args.place Forms.Usable)
     (one c.args.place Forms.Usable) (equality_end c.args.wanted c.args.place) c.in_ok-note.ensures
-    c.in_ok-note-2.ensures) c.equality_ends.ensures
+    c.in_ok-note-2.ensures) c.comparison_ends.ensures

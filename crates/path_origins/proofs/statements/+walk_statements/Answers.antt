@@ -16,7 +16,7 @@ use Rattle.path_origins.specs.Noted.{one}
 use Rattle.path_origins.specs.Opens.{is_among}
 use Rattle.path_origins.specs.Shown.{sizes_in}
 use Rattle.path_origins.specs.reading.Walks.{IsBehind, IsLeftBehind}
-use Rattle.path_origins.specs.reading.Leaving.{labels_noted, is_default_among}
+use Rattle.path_origins.specs.reading.Leaving.{labels_noted, is_default_among, inside_of, chosen_in}
 use Rattle.path_origins.specs.Statements.{nowhere, statement, statements, case_of, cases, effect_of}
 use Rattle.path_origins.proofs.Leaving.{left_first, left_more, left_last, statements_more, statements_last, cases_more}
 use Rattle.path_origins.proofs.Leaving.{cases_last}
@@ -201,26 +201,26 @@ walk_statement-returns-in_ok-walk_statement-in-Some-2 t c =
     tree c.in_ok-walk_full-in-Some.ensures c.in_ok-walk_statement-in-Some.ensures
     c.in_ok-walk_statement-in-Some-2.ensures c.note_skips-in-Some.ensures
 
-pub walk_statement-returns-in_ok-walk_statement-in-While : goal.walk_statement-returns-in_ok-walk_statement-in-While
-walk_statement-returns-in_ok-walk_statement-in-While t c =
+pub walk_loop-returns-in_ok-walk_statement-in-While : goal.walk_loop-returns-in_ok-walk_statement-in-While
+walk_loop-returns-in_ok-walk_statement-in-While t c =
     let laid = laid_tree c.args.here.now.laid.now in
     let is_open = is_among c.args.here.now.opens.now in
     let sizes = sizes_in c.args.here.now.sizes.now in
     let path = c.args.here.now.path in
     let i = c.in-While in
-    let e = c.deref-in-While.result.now in
-    let s = c.deref-in-While-2.result.now in
+    let e = c.deref.result.now in
+    let s = c.deref-in-While.result.now in
     let is : c.args.typed.now ≡ Typed.While i.condition i.body = i.is in
     let tree : typed_tree c.args.typed.now ≡ loops_while (rvalue_tree e) (typed_tree s) = ap typed_tree is
-    ∙ (ap (λ (x : Rvalue). loops_while (rvalue_tree x) (typed_tree i.body.value)) (sym c.deref-in-While.ensures)
-    ∙ ap (λ (y : TypedStatement). loops_while (rvalue_tree e) (typed_tree y)) (sym c.deref-in-While-2.ensures)) in
+    ∙ (ap (λ (x : Rvalue). loops_while (rvalue_tree x) (typed_tree i.body.value)) (sym c.deref.ensures)
+    ∙ ap (λ (y : TypedStatement). loops_while (rvalue_tree e) (typed_tree y)) (sym c.deref-in-While.ensures)) in
     while_walked laid is_open sizes path c.args.to_head c.args.typed.now e s c.close_loop.result c.args.to.now c.enter.new.to
-    c.walk_statement-in-While.new.to c.close_loop.new.to c.args.ways.now c.inside-within.result
-    c.walk_statement-in-While.new.ways c.close_loop.new.ways tree c.inside-within.ensures c.in_ok-enter-in-While.ensures
+    c.walk_statement.new.to c.close_loop.new.to c.args.ways.now (inside_of c.args.ways.now)
+    c.walk_statement.new.ways c.close_loop.new.ways tree refl c.in_ok-enter-in-While.ensures
     c.in_ok-walk_statement-in-While.ensures c.close_loop.ensures
 
-pub walk_statement-returns-in_ok-walk_full-in-Do : goal.walk_statement-returns-in_ok-walk_full-in-Do
-walk_statement-returns-in_ok-walk_full-in-Do t c =
+pub walk_loop-returns-in_ok-walk_full-in-Do : goal.walk_loop-returns-in_ok-walk_full-in-Do
+walk_loop-returns-in_ok-walk_full-in-Do t c =
     let laid = laid_tree c.args.here.now.laid.now in
     let is_open = is_among c.args.here.now.opens.now in
     let sizes = sizes_in c.args.here.now.sizes.now in
@@ -233,19 +233,19 @@ walk_statement-returns-in_ok-walk_full-in-Do t c =
     ∙ (ap (λ (y : TypedStatement). loops_do (typed_tree y) (rvalue_tree i.condition.value)) (sym c.deref-in-Do.ensures)
     ∙ ap (λ (x : Rvalue). loops_do (typed_tree s) (rvalue_tree x)) (sym c.deref-in-Do-2.ensures)) in
     do_walked laid is_open sizes path c.args.to_head c.args.typed.now e s c.close_loop-in-Do.result c.args.to.now c.note.new.to
-    c.walk_statement-in-Do.new.to c.continue_at.new.to c.walk_full-in-Do.new.to c.close_loop-in-Do.new.to
-    c.args.ways.now c.inside-within-in-Do.result c.walk_statement-in-Do.new.ways c.close_loop-in-Do.new.ways tree
-    c.inside-within-in-Do.ensures c.in_ok-note-in-Do.ensures c.in_ok-walk_statement-in-Do.ensures
+    c.walk_statement-in-Do.new.to c.continue_at.new.to c.walk_full.new.to c.close_loop-in-Do.new.to
+    c.args.ways.now (inside_of c.args.ways.now) c.walk_statement-in-Do.new.ways c.close_loop-in-Do.new.ways tree
+    refl c.in_ok-note-in-Do.ensures c.in_ok-walk_statement-in-Do.ensures
     c.in_ok-continue_at-in-Do.ensures c.in_ok-walk_full-in-Do.ensures c.close_loop-in-Do.ensures
 
-pub walk_statement-returns-in_ok-close_loop-in-For : goal.walk_statement-returns-in_ok-close_loop-in-For
-walk_statement-returns-in_ok-close_loop-in-For t c =
+pub walk_loop-returns-in_ok-close_loop-in-For : goal.walk_loop-returns-in_ok-close_loop-in-For
+walk_loop-returns-in_ok-close_loop-in-For t c =
     let laid = laid_tree c.args.here.now.laid.now in
     let is_open = is_among c.args.here.now.opens.now in
     let sizes = sizes_in c.args.here.now.sizes.now in
     let path = c.args.here.now.path in
-    let outer : c.len-outer-in-For.result ≡ length c.args.to.now.unended.items =
-    omega (arith, c.len-outer-in-For.ensures, c.args.to.now.unended.ok.0) in
+    let outer : c.len-outer.result ≡ length c.args.to.now.unended.items =
+    omega (arith, c.len-outer.ensures, c.args.to.now.unended.ok.0) in
     let i = c.in-For in
     let first = c.deref-in-For.result.now in
     let s = c.deref-in-For-2.result.now in
@@ -257,16 +257,16 @@ walk_statement-returns-in_ok-close_loop-in-For t c =
     (sym c.deref-in-For.ensures)
     ∙ ap (λ (y : TypedStatement). loops_for (typed_tree first) e step (typed_tree y)) (sym c.deref-in-For-2.ensures)) in
     for_walked laid is_open sizes path c.args.to_head c.args.typed.now first s i.condition i.step c.in_ok-others-in-For.others
-    c.len-outer-in-For.result c.end_scopes-in-For.result c.args.to.now c.walk_statement-in-For.new.to c.enter_if.new.to
-    c.walk_statement-in-For-2.new.to c.continue_at-in-For.new.to c.walk_effect-in-For.new.to c.close_loop-in-For.new.to
-    c.end_scopes-in-For.new.to c.args.ways.now c.walk_statement-in-For.new.ways c.inside-within-in-For.result
+    c.len-outer.result c.end_scopes.result c.args.to.now c.walk_statement-in-For.new.to c.enter_if.new.to
+    c.walk_statement-in-For-2.new.to c.continue_at-in-For.new.to c.walk_effect.new.to c.close_loop-in-For.new.to
+    c.end_scopes.new.to c.args.ways.now c.walk_statement-in-For.new.ways (inside_of c.walk_statement-in-For.new.ways)
     c.walk_statement-in-For-2.new.ways c.close_loop-in-For.new.ways tree outer c.in_ok-walk_statement-in-For.ensures
-    c.inside-within-in-For.ensures c.in_ok-others-in-For.ensures.noted c.in_ok-others-in-For.ensures.outs
+    refl c.in_ok-others-in-For.ensures.noted c.in_ok-others-in-For.ensures.outs
     c.in_ok-walk_statement-in-For-2.ensures c.in_ok-continue_at-in-For.ensures c.in_ok-walk_effect-in-For.ensures
-    c.in_ok-close_loop-in-For.ensures c.end_scopes-in-For.ensures
+    c.in_ok-close_loop-in-For.ensures c.end_scopes.ensures
 
-pub walk_statement-returns-in_ok-close_select-in-Switch : goal.walk_statement-returns-in_ok-close_select-in-Switch
-walk_statement-returns-in_ok-close_select-in-Switch t c =
+pub walk_loop-returns-in_ok-close_select-in-Switch : goal.walk_loop-returns-in_ok-close_select-in-Switch
+walk_loop-returns-in_ok-close_select-in-Switch t c =
     let laid = laid_tree c.args.here.now.laid.now in
     let is_open = is_among c.args.here.now.opens.now in
     let sizes = sizes_in c.args.here.now.sizes.now in
@@ -283,15 +283,15 @@ walk_statement-returns-in_ok-close_select-in-Switch t c =
     let labels = subst (λ (ys : List TypedSwitchPart). IsBehind c.walk_full-in-Switch.new.to c.note_labels.new.to
     (labels_noted (as_typed_cases ys))) c.deref-in-Switch-2.ensures.value c.in_ok-note_labels-in-Switch.ensures in
     let parts = subst (λ (ys : List TypedSwitchPart). IsLeftBehind c.note_labels.new.to c.walk_parts.new.to
-    c.inside_choice-within.result c.walk_parts.new.ways (cases laid is_open sizes path c.args.to_head (as_typed_cases ys)))
+    (chosen_in c.args.ways.now) c.walk_parts.new.ways (cases laid is_open sizes path c.args.to_head (as_typed_cases ys)))
     c.deref-in-Switch-3.ensures.value c.in_ok-walk_parts-in-Switch.ensures in
     let default = c.has_default.ensures ∙ ap (λ (ys : List TypedSwitchPart). is_default_among (as_typed_cases ys))
     c.deref-in-Switch-4.ensures.value in
     switch_walked laid is_open sizes path c.args.to_head c.args.typed.now i.works_in e xs c.has_default.result
     c.len-outer-in-Switch.result c.end_scopes-in-Switch.result c.args.to.now c.walk_full-in-Switch.new.to
     c.note_labels.new.to c.walk_parts.new.to c.close_select.new.to c.end_scopes-in-Switch.new.to c.args.ways.now
-    c.inside_choice-within.result c.walk_parts.new.ways c.close_select.new.ways tree outer
-    c.inside_choice-within.ensures c.in_ok-walk_full-in-Switch.ensures labels parts default
+    (chosen_in c.args.ways.now) c.walk_parts.new.ways c.close_select.new.ways tree outer
+    refl c.in_ok-walk_full-in-Switch.ensures labels parts default
     c.in_ok-close_select-in-Switch.ensures c.end_scopes-in-Switch.ensures
 
 pub walk_statement-returns-in-Break : goal.walk_statement-returns-in-Break
@@ -328,8 +328,8 @@ walk_statement-returns-in-Lock t c =
     let is_open = is_among c.args.here.now.opens.now in
     let sizes = sizes_in c.args.here.now.sizes.now in
     let path = c.args.here.now.path in
-    goes laid is_open sizes path c.args.to_head c.args.typed.now (Typed.Lock c.in-Lock.mutex c.in-Lock.place) (one c.in-Lock.place Forms.Lock) c.note-in-Lock.result
-    c.args.to.now c.note-in-Lock.new.to c.args.ways.now c.in-Lock.is refl c.note-in-Lock.ensures
+    goes laid is_open sizes path c.args.to_head c.args.typed.now (Typed.Lock c.in-Lock.mutex c.in-Lock.place) (one c.in-Lock.place Forms.Lock) c.note.result
+    c.args.to.now c.note.new.to c.args.ways.now c.in-Lock.is refl c.note.ensures
 
 pub walk_statement-returns-in-Unlock : goal.walk_statement-returns-in-Unlock
 walk_statement-returns-in-Unlock t c =

@@ -19,6 +19,6 @@ returns c =
     let value = c.walk_cell_value.new.to in
     on_ok_weaker c.note-2.result (λ (k : IsBehind value c.note-2.new.to (one at.place Forms.Initialise)).
     cell_noted laid is_open sizes c.args.here.now.path at.object at.of at.place c.args.number
-    (map given_tree c.args.given.now) (not c.is_alone.result) c.is_given.result c.args.to.now c.note.new.to
-    c.note_part.new.to value c.note-2.new.to (ap not c.is_alone.ensures) c.is_given.ensures c.in_ok-note.ensures
-    c.in_ok-note_part.ensures c.in_ok-walk_cell_value.ensures k) c.note-2.ensures
+    (map given_tree c.args.given.now) (not c.is_alone-has_part.result) c.is_given.result c.args.to.now c.note.new.to
+    c.note_if.new.to value c.note-2.new.to (ap not c.is_alone-has_part.ensures) c.is_given.ensures c.in_ok-note.ensures
+    c.in_ok-note_if.ensures c.in_ok-walk_cell_value.ensures k) c.note-2.ensures

@@ -1,11 +1,8 @@
-use Rattle.std.proofs.Common.{◌≡◌, ◌||◌}
-use Rattle.text_choices.proofs.TableLemmas.{in_rows, library_is}
+use Rattle.text_choices.specs.Library.{library, row_0, row_1, row_2, row_3, row_4, row_5, row_6, row_7, row_8, row_9, row_10, row_11, row_12, row_13, row_14}
+use Rattle.text_choices.specs.reading.Words.{words_of}
+use Rattle.text_choices.proofs.TableLemmas.{table_is}
 use Rattle.text_choices.proofs.library_names.is_of_library.Goals as goal
 
 pub returns : goal.returns
-returns c =
-    let r =
-    c.in_row_0.result || c.in_row_1.result || c.in_row_2.result || c.in_row_3.result || c.in_row_4.result || c.in_row_5.result || c.in_row_6.result || c.in_row_7.result
-    || c.in_row_8.result || c.in_row_9.result || c.in_row_10.result || c.in_row_11.result || c.in_row_12.result || c.in_row_13.result || c.in_row_14.result in
-    let all : r ≡ in_rows c.args.name.now = cc in
-    library_is c.args.name.now r all
+unfolding words_of library row_0 row_1 row_2 row_3 row_4 row_5 row_6 row_7 row_8 row_9 row_10 row_11 row_12 row_13 row_14
+returns c = table_is c.args.name.now library c.is_among.result c.is_among.ensures

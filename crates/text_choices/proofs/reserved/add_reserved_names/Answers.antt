@@ -1,18 +1,21 @@
-use Rattle.std.proofs.Common.{map, sym, ap, ◌∙◌, arith}
-use Rattle.tm_trees.specs.FileTrees.{file_tree}
-use Rattle.text_choices.specs.Texts.{declared_in}
-use Rattle.text_choices.specs.reading.Declared.{declared_of}
-use Rattle.text_choices.proofs.DeclaredLemmas.{told_more, told_all}
+use Rattle.std.proofs.Common.{List, length, map, ap, sym, subst, ◌∙◌}
+use Rattle.std.specs.Prelude.{OnOk}
+use Rattle.indexmap.specs.IndexMap.{get}
+use Rattle.tm_terms.specs.Names.{is_same_name}
+use Rattle.text_choices.specs.declared.kinds.Kind.TheVariants as Kinds
+use Rattle.text_choices.specs.declared.reserved.Declared.{Declared as CodeDeclared}
+use Rattle.text_choices.specs.Choices.{Adds, OfKind}
+use Rattle.text_choices.specs.Texts.{Declared}
+use Rattle.text_choices.specs.reading.Declared.{declared_of, IsReservedAmong}
+use Rattle.text_choices.specs.reading.Foremost.{AreForemost}
 use Rattle.text_choices.proofs.reserved.add_reserved_names.Goals as goal
 
-pub loop-it-preserved : goal.loop-it-preserved
-loop-it-preserved c =
-    let same = c.deref.ensures.value ∙ sym c.deref-it-items.ensures.value in
-    told_more c.args.bytes.now c.deref-it-items.result.now c.loop-it.it-index c.is_told-told.result
-    c.args.choices.now.items c.loop-it.choices.items c.add_where.new.choices.items
-    c.loop-it-test.true (rw same at c.is_told-told.ensures) c.loop-it.invariant c.in_ok-add_where.ensures
+pub add_told-requires : goal.add_told-requires
+add_told-requires c =
+    subst (λ (ds : List CodeDeclared). AreForemost ds (length ds) (get is_same_name c.in_ok-found.found))
+    (c.deref.ensures.value ∙ sym c.deref-2.ensures.value) c.in_ok-found.ensures
 
 pub returns : goal.returns
 returns c =
-    told_all c.args.bytes.now c.deref-it-items.result.now c.loop-it.it-index (declared_in (file_tree c.args.file.now)) c.args.choices.now.items c.loop-it.choices.items
-    (omega arith) (ap (map declared_of) c.deref-it-items.ensures.value ∙ c.in_ok-declared.ensures) c.loop-it.invariant
+    subst (λ (ds : List Declared). OnOk c.add_told.result (Adds c.args.choices.now.items c.add_told.new.choices.items (OfKind Kinds.Reserved (IsReservedAmong c.args.bytes.now ds))))
+    (ap (map declared_of) c.deref-2.ensures.value ∙ c.in_ok-declared.ensures) c.add_told.ensures

@@ -1,6 +1,0 @@
-use Rattle.text_choices.specs.Choices.{Adds}
-use Rattle.text_choices.proofs.DeclaredLemmas.{ToldBelow}
-use Rattle.text_choices.proofs.reserved.add_reserved_names.Given as goal
-
-abbrev pub invariant-loop-it : goal.invariant-loop-it
-invariant-loop-it l = Adds l.initial.choices.items l.choices.items (ToldBelow l.bytes l.it-items l.it-index)
