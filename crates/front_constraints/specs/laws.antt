@@ -1,3 +1,4 @@
+pub mod Cut
 pub mod Lawful
 pub mod LeastFronts
 pub mod Options

@@ -28,6 +28,7 @@ use Rattle.front_constraints.specs.Rules.{brings, carried_along}
 use Rattle.front_constraints.specs.Rules.{passed, rounded_cell_at, front_constraints, FitsVariable, AllowsRule, Allows}
 use Rattle.front_constraints.specs.Rules.{fronts_of}
 use Rattle.front_constraints.specs.Premises.{IsSparseSystem, AreLocal, IsKeptFront, IsRoundCell}
+use Rattle.front_constraints.specs.laws.Cut.{if_cond_option, both_hold, first_of_both, is_there, uncut, cut_below}
 use Rattle.front_constraints.specs.laws.Lawful as lawful
 use Rattle.front_constraints.specs.laws.Lawful.{if_cond, none_of, matched}
 
@@ -40,34 +41,6 @@ or_none (Some a) d = a
 pub same_some : {A : Type 0} (a b : A) → Some a ≡ Some b → a ≡ b
 unfolding or_none
 same_some a b is = ap (λ o. or_none o a) is
-
-if_cond_option : {A : Type 0} (P : A → Type 0) (b : Bool) (y : Option A) → (b ≡ true → IfSome y P)
-    → IfSome (cond b y None) P
-if_cond_option P true y h = h refl
-if_cond_option P false y h = tt
-
-both_hold : {A : Type 0} (P Q : A → Type 0) (y : Option A) → IfSome y P → IfSome y Q → IfSome y (λ a. P a × Q a)
-both_hold P Q None h k = tt
-both_hold P Q (Some a) h k = (h, k)
-
-first_of_both : {A : Type 0} (P Q : A → Type 0) (y : Option A) → IfSome y (λ a. P a × Q a) → IfSome y P
-first_of_both P Q None h = tt
-first_of_both P Q (Some a) h = h.0
-
-is_there : {A : Type 0} (y : Option A) → IsThere y → is_some y ≡ true
-is_there None h = absurd h
-is_there (Some a) h = refl
-
-uncut : {A : Type 0} (leq : A → A → Type 0) (b : Bool) (y z : Option A) → IsBelow leq y (cond b z None)
-    → IsBelow leq y z
-uncut leq true y z le = le
-uncut leq false None z le = tt
-uncut leq false (Some a) z le = absurd le
-
-cut_below : {A : Type 0} (leq : A → A → Type 0) (b : Bool) (y z : Option A) → IsBelow leq y z
-    → IsBelow leq (cond b y None) z
-cut_below leq true y z le = le
-cut_below leq false y z le = tt
 
 in_slots : (n : ℕ) (P : Variable → Type 0) (xs : List ℕ)
     → ((j : ℕ) → j < length (map (slot_at n) xs) → P (get_or (map (slot_at n) xs) j (front_at 0)))
