@@ -197,7 +197,7 @@ fn declare_tag(alloc: Global, state: &mut State, tag: Tag) -> Result<(), Fail>
             Ok(())
         }
         Some(Tagged::Structure(_)) => Ok(()),
-        Some(Tagged::Enumeration) => Err(refusal(Kind::Redeclared, tag.place)),
+        Some(Tagged::Enumeration { .. }) => Err(refusal(Kind::Redeclared, tag.place)),
     }
 }
 

@@ -44,7 +44,8 @@ use Rattle.tm_typed.specs.Scopes.{Function, ctype_of, entry, named}
 use Rattle.tm_typed.specs.Operands.{made, valued, given, scalar_of}
 use Rattle.tm_typed.specs.Typing
 use Rattle.tm_typed.specs.Typing.{CastTypes, typing, typing_all, calls}
-use Rattle.tm_typed.specs.WellTyped.{a_pointer, kind_of, kind_of_scalar, AreArguments, Context, IsRvalue}
+use Rattle.tm_typed.specs.Types.{is_enumerated}
+use Rattle.tm_typed.specs.WellTyped.{a_number, a_pointer, kind_of, kind_of_scalar, AreArguments, Context, IsRvalue}
 use Rattle.tm_typed.specs.WellTyped.{IsSort, IsRated, IsOperand, OnAnswer, IsLawful}
 use Rattle.c_expr_typing.proofs.WellTypedRules.{converted_fits, on_row, on_then, integer_fits, OnSome, on_row_unless, valued_fits, name_fits, dereference_fits, minus_fits, not_fits, address_fits, binary_fits, comma_fits, assignment_fits, subscript_fits, dot_fits, as_pointer_fits, on_choice}
 use Rattle.c_expr_typing.proofs.WellTypedMore
@@ -115,12 +116,18 @@ member_fits w Accesses.Arrow p o n q h = let v = valued w.scope o in WellTypedMo
 
 -- ## Casts
 
-cast_integer_fits : (w : Context) (p : Place) (t : IntType) (v : Rated) (s : Sort) → IsRvalue w (kind_of s) v.value → OnAnswer (IsOperand w) (Rules.cast_to_integer p t v s)
-cast_integer_fits w p t v (Sorts.Integer f g) h = integer_fits w t (Operands.fold_converted t g) (Typed.a_conversion f t v.value p) p (WellTypedMore.fold_converted_fits t g) (refl, h)
-cast_integer_fits w p t v (Sorts.Pointer q) h = tt
-cast_integer_fits w p t v Sorts.Null h = tt
-cast_integer_fits w p t v (Sorts.Structure k) h = tt
-cast_integer_fits w p t v Sorts.Nothing h = tt
+cast_form_fits : (w : Context) (t : IntType) (b : Bool) (e : RvalueTree) (p : Place) → IsRvalue w (a_number t) e → IsRvalue w (a_number t) (Rules.cast_form b e p)
+cast_form_fits w t true e p h = h
+cast_form_fits w t false e p h = h
+
+cast_integer_fits : (w : Context) (p : Place) (t : IntType) (b : Bool) (v : Rated) (s : Sort) → IsRvalue w (kind_of s) v.value → OnAnswer (IsOperand w) (Rules.cast_to_integer p t b v s)
+cast_integer_fits w p t b v (Sorts.Integer f g) h =
+    let e : RvalueTree = Typed.a_conversion f t v.value p in
+    integer_fits w t (Operands.fold_converted t g) (Rules.cast_form b e p) p (WellTypedMore.fold_converted_fits t g) (cast_form_fits w t b e p (refl, h))
+cast_integer_fits w p t b v (Sorts.Pointer q) h = tt
+cast_integer_fits w p t b v Sorts.Null h = tt
+cast_integer_fits w p t b v (Sorts.Structure k) h = tt
+cast_integer_fits w p t b v Sorts.Nothing h = tt
 
 -- a choice of two answers
 on_cond : {A : Type 0} (P : A → Type 0) (b : Bool) (x y : Result A Refusal) → OnAnswer P x → OnAnswer P y → OnAnswer P (cond b x y)
@@ -142,17 +149,17 @@ cast_pointer_fits w p q v Sorts.Null h = (refl, tt)
 cast_pointer_fits w p q v (Sorts.Structure k) h = tt
 cast_pointer_fits w p q v Sorts.Nothing h = tt
 
-cast_by_fits : (w : Context) (p : Place) (v : Rated) (r : CType) → IsRated w v → OnAnswer (IsOperand w) (Rules.cast_by w.scope p v r)
-cast_by_fits w p v Types.Void h = ((kind_of v.sort, refl, h.0), tt)
-cast_by_fits w p v (Types.Int t) h = cast_integer_fits w p t v v.sort h.0
-cast_by_fits w p v (Types.Pointer q) h = cast_pointer_fits w p q v v.sort h.0
-cast_by_fits w p v (Types.Array a b) h = tt
-cast_by_fits w p v (Types.Struct k) h = tt
+cast_by_fits : (w : Context) (p : Place) (b : Bool) (v : Rated) (r : CType) → IsRated w v → OnAnswer (IsOperand w) (Rules.cast_by w.scope p b v r)
+cast_by_fits w p b v Types.Void h = ((kind_of v.sort, refl, h.0), tt)
+cast_by_fits w p b v (Types.Int t) h = cast_integer_fits w p t b v v.sort h.0
+cast_by_fits w p b v (Types.Pointer q) h = cast_pointer_fits w p q v v.sort h.0
+cast_by_fits w p b v (Types.Array a n) h = tt
+cast_by_fits w p b v (Types.Struct k) h = tt
 
 cast_fits : (w : Context) (p : Place) (to : CastType) (v : Rated) → IsRated w v → OnAnswer (IsOperand w) (Rules.cast_rules w.scope p to v)
 cast_fits w p to v h =
-    null_cast w (to.is_void_pointer && Operands.is_integer v.sort && Operands.is_null v.sort) p Sorts.Null (row to.is_left_out RefusalKinds.Unsupported p (Rules.cast_by w.scope p v (ctype_of w.scope to.of.number))) refl tt
-    (on_row (IsOperand w) to.is_left_out RefusalKinds.Unsupported p (Rules.cast_by w.scope p v (ctype_of w.scope to.of.number)) (cast_by_fits w p v (ctype_of w.scope to.of.number) h))
+    null_cast w (to.is_void_pointer && Operands.is_integer v.sort && Operands.is_null v.sort) p Sorts.Null (row to.is_left_out RefusalKinds.Unsupported p (Rules.cast_by w.scope p (is_enumerated to.of.number) v (ctype_of w.scope to.of.number))) refl tt
+    (on_row (IsOperand w) to.is_left_out RefusalKinds.Unsupported p (Rules.cast_by w.scope p (is_enumerated to.of.number) v (ctype_of w.scope to.of.number)) (cast_by_fits w p (is_enumerated to.of.number) v (ctype_of w.scope to.of.number) h))
 
 -- ## Calls
 

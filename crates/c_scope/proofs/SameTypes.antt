@@ -1,9 +1,10 @@
--- The code compares types as the definition does.
-use Rattle.std.proofs.Common.{◌≡◌, refl, ap, ◌∙◌, sym, subst, ℕ, ◌+◌, ◌≤◌, List, [], ◌∷◌, length, not, cond, nat_lt, Option, Some, None, arith}
+-- The code compares types as the definition does, and its index gives the first row of each type.
+use Rattle.std.proofs.Common.{◌≡◌, refl, ap, ◌∙◌, sym, ℕ, ◌+◌, ◌<◌, ◌≤◌, List, [], ◌∷◌, length, not, cond, nat_lt, Option, Some, None, arith}
 use Rattle.std.proofs.lemmas.List.Sums.{prefix_len-le-length}
 use Rattle.std.proofs.lemmas.Bool.Decides.{nat_tests}
-use Rattle.std.specs.Prelude.{Bool, true, false, ◌&&◌, ◌||◌, ◌==◌, if◌then◌else◌, ◌++◌, suc}
-use Rattle.std.specs.List.{position, position_or_len, list_any}
+use Rattle.std.specs.Prelude.{Bool, true, false, ◌&&◌, ◌==◌, ◌++◌, suc, option_map}
+use Rattle.std.specs.List.{position, position_or_len}
+use Rattle.std.specs.Map.{lookup}
 use Rattle.tm_cint.specs.declared.int_types.IntType.{IntType}
 use Rattle.tm_cint.specs.declared.int_types.IntType.TheVariants as Ints
 use Rattle.tm_cint.specs.contracts.int_types.IntType.{the_type}
@@ -14,7 +15,9 @@ use Rattle.tm_typed.specs.declared.types.Qualified.{Qualified}
 use Rattle.tm_typed.specs.declared.types.CType.{CType}
 use Rattle.tm_typed.specs.declared.types.CType.TheVariants as Types
 use Rattle.tm_typed.specs.contracts.types.CTypePartialEq.TheImpl.{eq-value}
+use Rattle.tm_typed.specs.contracts.types.CTypeEq.TheImpl.Laws.{laws-law}
 use Rattle.tm_typed.specs.Types.{is_same_int}
+use Rattle.tm_typed.specs.Scopes.{or_else}
 use Rattle.tm_typed.specs.TypeRows.{is_same_bool, is_same_qualified, is_same_ctype}
 
 same_number : (m n : ℕ) → eqb m n ≡ (m == n)
@@ -53,11 +56,30 @@ same (Types.Array e n) (Types.Array f m) = refl
 same (Types.Struct k) (Types.Struct l) = refl
 same a b = refl
 
-pub place_by : (p q : CType → Bool) → ((t : CType) → p t ≡ q t) → (ts : List CType) → position_or_len p ts ≡ position_or_len q ts
+-- ## Types that are the same as one another
+
+-- what is the same as one of two same types is the same as the other
+same_class : (t q : CType) → is_same_ctype t q ≡ true → (u : CType) → is_same_ctype q u ≡ is_same_ctype t u
+same_class t q h u = sym (same q u) ∙ sym (laws-law.congr t q u (same t q ∙ h)) ∙ same t u
+
+same_turned : (t q : CType) → is_same_ctype t q ≡ is_same_ctype q t
+same_turned t q = sym (same t q) ∙ laws-law.symm t q ∙ same q t
+
+-- the index finds by the code's comparison what it finds by the definition's
+pub found_alike : (t : CType) (rows : List (CType × ℕ)) → lookup (eq-value.it t) rows ≡ lookup (is_same_ctype t) rows
+found_alike t [] = refl
+found_alike t (r ∷ rows) = ap (λ b. cond b (Some r.1) (lookup (eq-value.it t) rows)) (same t r.0) ∙ ap (λ o. cond (is_same_ctype t r.0) (Some r.1) o) (found_alike t rows)
+
+-- ## The first place of a type
+
+place_by : (p q : CType → Bool) → ((t : CType) → p t ≡ q t) → (ts : List CType) → position_or_len p ts ≡ position_or_len q ts
 place_by p q h [] = refl
 place_by p q h (t ∷ ts) = ap (λ b. cond (not b) (1 + position_or_len p ts) 0) (h t) ∙ ap (λ n. cond (not (q t)) (1 + n) 0) (place_by p q h ts)
 
-some_place : (b : Bool) (n i : ℕ) → cond b (Some n) None ≡ Some i → n ≡ i
+position_by : (p q : CType → Bool) → ((t : CType) → p t ≡ q t) → (ts : List CType) → position p ts ≡ position q ts
+position_by p q h ts = ap (λ n. cond (nat_lt n (length ts)) (Some n) None) (place_by p q h ts)
+
+some_place : (b : Bool) (n i : ℕ) → cond b (Some n) None ≡ Some i → i ≡ n
 some_place true n i e = cc
 some_place false n i e = absurd cc
 
@@ -65,37 +87,78 @@ no_place : (b : Bool) (n : ℕ) → cond b (Some n) None ≡ None → b ≡ fals
 no_place true n e = absurd cc
 no_place false n e = refl
 
-behind_all : (n m : ℕ) → n ≤ m → nat_lt n m ≡ false → n ≡ m
+behind_all : (n m : ℕ) → n ≤ m → nat_lt n m ≡ false → m ≡ n
 behind_all n m h e = grind (arith, nat_tests)
 
--- the code's look-up by an index set is the definition's number
-pub found_number : (t : CType) (keys ts : List CType) (r : Option ℕ) (i : ℕ) → r ≡ position (eq-value.it t) keys → r ≡ Some i → keys ≡ ts → i ≡ position_or_len (is_same_ctype t) ts
-found_number t keys ts r i h e k =
-    sym (some_place (nat_lt (position_or_len (eq-value.it t) keys) (length keys)) (position_or_len (eq-value.it t) keys) i (sym h ∙ e))
-    ∙ place_by (eq-value.it t) (is_same_ctype t) (same t) keys
-    ∙ ap (position_or_len (is_same_ctype t)) k
+-- what the index gives is the definition's number
+pub found_number : (t : CType) (ts : List CType) (i : ℕ) → position (is_same_ctype t) ts ≡ Some i → i ≡ position_or_len (is_same_ctype t) ts
+found_number t ts i e = let n = position_or_len (is_same_ctype t) ts in some_place (nat_lt n (length ts)) n i e
 
-pub no_number : (t : CType) (keys ts : List CType) (r : Option ℕ) → r ≡ position (eq-value.it t) keys → r ≡ None → keys ≡ ts → length ts ≡ position_or_len (is_same_ctype t) ts
-no_number t keys ts r h e k =
-    let P : List CType → Type 0 = λ ks. length ks ≡ position_or_len (is_same_ctype t) ks in
-    subst P k (sym (behind_all (position_or_len (eq-value.it t) keys) (length keys) (prefix_len-le-length (λ x. not (eq-value.it t x)) keys)
-    (no_place (nat_lt (position_or_len (eq-value.it t) keys) (length keys)) (position_or_len (eq-value.it t) keys) (sym h ∙ e)))
-    ∙ place_by (eq-value.it t) (is_same_ctype t) (same t) keys)
+pub no_number : (t : CType) (ts : List CType) → position (is_same_ctype t) ts ≡ None → length ts ≡ position_or_len (is_same_ctype t) ts
+no_number t ts e =
+    let n = position_or_len (is_same_ctype t) ts in
+    behind_all n (length ts) (prefix_len-le-length (λ x. not (is_same_ctype t x)) ts) (no_place (nat_lt n (length ts)) n e)
 
--- a type that no row has
-pub has_none : (p : CType → Bool) (ts : List CType) → position_or_len p ts ≡ length ts → list_any p ts ≡ false
-has_none p [] e = refl
-has_none p (t ∷ ts) e = by_test (p t) (has_none p ts) e
+-- ## One more type
+
+one_behind : (n m : ℕ) → cond (nat_lt (1 + n) (suc m)) (Some (1 + n)) None ≡ option_map suc (cond (nat_lt n m) (Some n) None)
+one_behind n m = by_test (nat_lt n m) refl
   where
-    by_test : (b : Bool) → (position_or_len p ts ≡ length ts → list_any p ts ≡ false) → cond (not b) (1 + position_or_len p ts) 0 ≡ suc (length ts) → (b || list_any p ts) ≡ false
-    by_test true k h = absurd (omega (arith, h))
-    by_test false k h = k (omega (arith, h))
+    below : nat_lt (1 + n) (suc m) ≡ nat_lt n m
+    below = grind (arith, nat_tests)
 
-if_none : {A : Type 0} (b : Bool) (x y : A) → b ≡ false → (if b then x else y) ≡ y
-if_none {A} b x y e = ap (λ (v : Bool). if v then x else y) e
+    by_test : (b : Bool) → nat_lt n m ≡ b → cond (nat_lt (1 + n) (suc m)) (Some (1 + n)) None ≡ option_map suc (cond (nat_lt n m) (Some n) None)
+    by_test true e = ap (λ c. cond c (Some (1 + n)) None) (below ∙ e) ∙ ap Some (omega arith) ∙ ap (λ c. option_map suc (cond c (Some n) None)) (sym e)
+    by_test false e = ap (λ c. cond c (Some (1 + n)) None) (below ∙ e) ∙ ap (λ c. option_map suc (cond c (Some n) None)) (sym e)
 
-pub keys_pushed : (t : CType) (keys ts new : List CType) (n : ℕ) → new ≡ (if list_any (eq-value.it t) keys then keys else (keys ++ t ∷ [])) → keys ≡ ts → position_or_len (is_same_ctype t) ts ≡ n → length ts ≡ n → new ≡ ts ++ t ∷ []
-keys_pushed t keys ts new n e k p l =
-    e ∙ if_none (list_any (eq-value.it t) keys) keys (keys ++ t ∷ []) (has_none (eq-value.it t) keys
-    (place_by (eq-value.it t) (is_same_ctype t) (same t) keys ∙ ap (position_or_len (is_same_ctype t)) k ∙ p ∙ sym l ∙ sym (ap length k)))
-    ∙ ap (λ ks. ks ++ t ∷ []) k
+position_first : (p : CType → Bool) (t : CType) (ts : List CType) → position p (t ∷ ts) ≡ cond (p t) (Some 0) (option_map suc (position p ts))
+position_first p t ts = by_test (p t)
+  where
+    by_test : (b : Bool) → cond (nat_lt (cond (not b) (1 + position_or_len p ts) 0) (suc (length ts))) (Some (cond (not b) (1 + position_or_len p ts) 0)) None ≡ cond b (Some 0) (option_map suc (position p ts))
+    by_test true = let first : nat_lt 0 (suc (length ts)) ≡ true = grind (arith, nat_tests) in ap (λ c. cond c (Some 0) None) first
+    by_test false = one_behind (position_or_len p ts) (length ts)
+
+behind_first : (b c : Bool) (o : Option ℕ) (k : ℕ) → cond b (Some 0) (option_map suc (or_else o (cond c (Some k) None))) ≡ or_else (cond b (Some 0) (option_map suc o)) (cond c (Some (suc k)) None)
+behind_first true c o k = refl
+behind_first false c (Some i) k = refl
+behind_first false true None k = refl
+behind_first false false None k = refl
+
+alone : (b : Bool) → cond b (Some 0) (option_map suc None) ≡ or_else None (cond b (Some 0) None)
+alone true = refl
+alone false = refl
+
+-- a type at the end is found there where no type before it is
+position_last : (p : CType → Bool) (ts : List CType) (t : CType) → position p (ts ++ t ∷ []) ≡ or_else (position p ts) (cond (p t) (Some (length ts)) None)
+position_last p [] t = position_first p t [] ∙ alone (p t)
+position_last p (x ∷ xs) t =
+    position_first p x (xs ++ t ∷ [])
+    ∙ ap (λ o. cond (p x) (Some 0) (option_map suc o)) (position_last p xs t)
+    ∙ behind_first (p x) (p t) (position p xs) (length xs)
+    ∙ ap (λ o. or_else o (cond (p t) (Some (suc (length xs))) None)) (sym (position_first p x xs))
+
+or_none : (o : Option ℕ) → or_else o None ≡ o
+or_none (Some i) = refl
+or_none None = refl
+
+-- the index with one entry more, for a type that had none
+pub found_pushed : (t q : CType) (ts : List CType) (k : ℕ) (before after : Option ℕ) → after ≡ cond (eq-value.it t q) (Some k) before → before ≡ position (is_same_ctype q) ts → k ≡ length ts → position_or_len (is_same_ctype t) ts ≡ length ts
+    → after ≡ position (is_same_ctype q) (ts ++ t ∷ [])
+found_pushed t q ts k before after u h l none =
+    u
+    ∙ ap (λ b. cond b (Some k) before) (same t q)
+    ∙ by_test (is_same_ctype t q) refl
+    ∙ sym (position_last (is_same_ctype q) ts t)
+  where
+    missing : (n m : ℕ) → n ≡ m → cond (nat_lt n m) (Some n) None ≡ None
+    missing n m e = let f : nat_lt n m ≡ false = grind (arith, nat_tests) in ap (λ b. cond b (Some n) None) f
+
+    by_test : (b : Bool) → is_same_ctype t q ≡ b → cond b (Some k) before ≡ or_else (position (is_same_ctype q) ts) (cond (is_same_ctype q t) (Some (length ts)) None)
+    by_test true e =
+        ap Some l
+        ∙ ap (λ o. or_else o (Some (length ts))) (sym (position_by (is_same_ctype q) (is_same_ctype t) (same_class t q e) ts ∙ missing (position_or_len (is_same_ctype t) ts) (length ts) none))
+        ∙ ap (λ b. or_else (position (is_same_ctype q) ts) (cond b (Some (length ts)) None)) (sym (sym (same_turned t q) ∙ e))
+    by_test false e =
+        h
+        ∙ sym (or_none (position (is_same_ctype q) ts))
+        ∙ ap (λ b. or_else (position (is_same_ctype q) ts) (cond b (Some (length ts)) None)) (sym (sym (same_turned t q) ∙ e))

@@ -1,6 +1,8 @@
 //! Declarations of ordinary names.
 ghost use Rattle.std.specs.Prelude.{◌≡◌, OnOk, OnErr, IfOk, ◌++◌, [], ◌∷◌, drop, length, take, option_map, slice_get};
+ghost use Rattle.std.specs.List.{list_all};
 ghost use Rattle.tm_typed.specs.Scopes.{last_declared};
+ghost use Rattle.tm_typed.specs.Structures.{is_from_zero};
 
 use crate::positions::Positions;
 use std::alloc::Global;
@@ -8,6 +10,20 @@ use std::marker::Model;
 use tm_lattice::NoMemory;
 use tm_terms::Name;
 use tm_typed::{Binding, Named};
+
+// Whether a name names no negative constant.
+fn is_from_zero(named: Named) -> bool
+    ensures { result ≡ is_from_zero named }
+{
+    match named {
+        Named::Enumerator(value) => value >= 0,
+        Named::Object { .. }
+        | Named::Function(_)
+        | Named::Alias(_)
+        | Named::Task
+        | Named::Mutex(_) => true,
+    }
+}
 
 /// Declarations of ordinary names, innermost last.
 #[derive(Drop)]
@@ -96,6 +112,20 @@ impl Bindings {
         ensures { result ≡ length self.now }
     {
         self.bindings.len()
+    }
+
+    /// Whether none of the declarations from the one at `start` on is that of a negative constant.
+    pub fn are_from_zero(&self, start: usize) -> bool
+        ensures { result ≡ list_all (λ d. is_from_zero d.named) (drop start self.now) }
+    {
+        if start <= self.bindings.len() {
+            for binding in &self.bindings[start..] {
+                if !is_from_zero(binding.named) {
+                    return false;
+                }
+            }
+        }
+        true
     }
 
     /// Only the first `len` declarations are left.

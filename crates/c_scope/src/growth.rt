@@ -3,7 +3,7 @@ ghost use Rattle.std.specs.Prelude.{◌≡◌, ◌*◌, ◌<◌, ◌≤◌, leng
 ghost use Rattle.std.specs.Prelude.{[], ◌∷◌, ◌++◌, OnOk, OnErr, IfOk};
 ghost use Rattle.tm_typed.specs.Scopes.{structure_of, function_of, structure, entry};
 ghost use Rattle.tm_typed.specs.TypeRows.{is_founded, apart_from_const, cells_in, abstract_cells_in, size_in};
-ghost use Rattle.tm_typed.specs.TypeRows.{alignment_in, of_pointers_in, row_in, number_in, with_row, with_type};
+ghost use Rattle.tm_typed.specs.TypeRows.{tight_size_in, alignment_in, of_pointers_in, row_in, number_in, with_row, with_type};
 ghost use Rattle.tm_typed.specs.TypeRows.{clipped, wrapped};
 ghost use Rattle.tm_typed.specs.Specifiers.{new_structure};
 ghost use Rattle.tm_typed.specs.Functions.{function, names_here};
@@ -185,6 +185,17 @@ impl Scope {
         }
     }
 
+    fn tight_size_in(&self, ctype: CType) -> u32
+        ensures { result ≡ tight_size_in self.now ctype }
+    {
+        match ctype {
+            CType::Int(of) => tm_typed::bytes_of(of),
+            CType::Pointer(_) => 4,
+            CType::Array { element, length } => wrapped_product(length, self.tight_size(element)),
+            CType::Void | CType::Struct(_) => 0,
+        }
+    }
+
     fn alignment_in(&self, ctype: CType) -> u32
         ensures { result ≡ alignment_in self.now ctype }
     {
@@ -207,7 +218,7 @@ impl Scope {
     }
 
     // The row of a type that is made of types of the table.
-    fn row_in(&self, ctype: CType) -> TypeEntry
+    pub(crate) fn row_in(&self, ctype: CType) -> TypeEntry
         ensures { result ≡ row_in self.now ctype }
     {
         TypeEntry {
@@ -216,6 +227,7 @@ impl Scope {
             cells: self.cells_in(ctype),
             abstract_cells: self.abstract_cells_in(ctype),
             size: self.size_in(ctype),
+            tight_size: self.tight_size_in(ctype),
             alignment: self.alignment_in(ctype),
             of_pointers: self.of_pointers_in(ctype),
         }

@@ -1,9 +1,10 @@
 //! Scopes: what is visible at a place of the text.
-ghost use Rattle.std.specs.Prelude.{◌≡◌, option_map, slice_get, IfSome, IfNone};
+ghost use Rattle.std.specs.Prelude.{◌≡◌, length, option_map, slice_get, IfSome, IfNone};
 ghost use Rattle.tm_typed.specs.Scopes.{function_of, structure_of, no_structure, named, named_here, tagged};
 ghost use Rattle.tm_typed.specs.Scopes.{tagged_here, entry, ctype_of, is_same_type, structure, is_complete, cells_of};
-ghost use Rattle.tm_typed.specs.Scopes.{abstract_cells_of, size_of, alignment_of, member_of};
+ghost use Rattle.tm_typed.specs.Scopes.{abstract_cells_of, size_of, tight_size_of, alignment_of, member_of};
 ghost use Rattle.tm_typed.specs.Operands.{scalar_of};
+ghost use Rattle.tm_typed.specs.Structures.{are_from_zero};
 ghost use Rattle.tm_typed.specs.TypeRows.{number_in};
 
 use crate::bindings::Bindings;
@@ -56,6 +57,20 @@ impl Scope {
         ensures { result ≡ named_here self.now name }
     {
         self.names.named_since(self.outer_names, name)
+    }
+
+    /// How many declarations of ordinary names are visible.
+    pub fn names_len(&self) -> usize
+        ensures { result ≡ length self.now.names }
+    {
+        self.names.len()
+    }
+
+    /// Whether none of the declarations of names from the one at `start` on is that of a negative constant.
+    pub fn are_from_zero(&self, start: usize) -> bool
+        ensures { result ≡ are_from_zero start self.now }
+    {
+        self.names.are_from_zero(start)
     }
 
     /// What a tag names.
@@ -140,6 +155,28 @@ impl Scope {
     {
         match self.structs.structure(number) {
             Some(structure) => structure.size,
+            None => 0,
+        }
+    }
+
+    /// The bytes of a type, modulo 2^32, where `long long` is aligned to 4.
+    pub fn tight_size(&self, number: u32) -> u32
+        ensures { result ≡ tight_size_of self.now number }
+    {
+        match self.ctype(number) {
+            CType::Struct(structure) => self.tight_structure_size(structure),
+            CType::Void | CType::Int(_) | CType::Pointer(_) | CType::Array { .. } => {
+                self.entry(number).tight_size
+            }
+        }
+    }
+
+    /// The bytes of a structure, modulo 2^32, where `long long` is aligned to 4.
+    pub fn tight_structure_size(&self, number: u32) -> u32
+        ensures { result ≡ (structure self.now number).tight_size }
+    {
+        match self.structs.structure(number) {
+            Some(structure) => structure.tight_size,
             None => 0,
         }
     }

@@ -1,5 +1,6 @@
 //! The scope with which every file begins, and what is left of one at the end of a file.
-ghost use Rattle.std.specs.Prelude.{◌≡◌, map, OnOk, IfOk};
+ghost use Rattle.std.specs.Prelude.{◌≡◌, ◌<◌, ◌++◌, [], ◌∷◌, length, map, OnOk, IfOk};
+ghost use Rattle.tm_typed.specs.TypeRows.{number_in, row_in};
 ghost use Rattle.tm_typed.specs.Scopes.{structure_of};
 ghost use Rattle.tm_typed.specs.Files.{first_scope};
 ghost use Rattle.c_scope.specs.reading.Starts.{with_types};
@@ -14,7 +15,7 @@ use tm_cint::IntType;
 use tm_lattice::NoMemory;
 use tm_typed::{CType, StructEntry, TypeEntry};
 
-// The types that every file has, in their order.
+// The types that every file has, in their order, but for `int` once more behind them.
 const FIRST_TYPES: [CType; 12] = [
     CType::Void,
     CType::Int(IntType::Bool),
@@ -52,7 +53,18 @@ impl Scope {
             functions: Vec::new(alloc),
         };
         scope.add_types(&FIRST_TYPES)?;
+        scope.add_int_again()?;
         Ok(scope)
+    }
+
+    // `int` once more, for enumerations.
+    fn add_int_again(&mut self) -> Result<(), NoMemory>
+        requires { number_in self.old (CType.Int IntType.Int) < length self.old.types }
+        ensures { OnOk result (self.new
+            ≡ record self.old { types = self.old.types ++ row_in self.old (CType.Int IntType.Int) ∷ [] }) }
+    {
+        let row = self.row_in(CType::Int(IntType::Int));
+        self.types.push_again(row)
     }
 
     // The table has these types from now on, each behind those before it.

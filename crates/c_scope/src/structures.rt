@@ -119,6 +119,7 @@ impl Structures {
             cells: 0,
             abstract_cells: 0,
             size: 0,
+            tight_size: 0,
             alignment: 0,
         };
         match self.entries.push(entry) {

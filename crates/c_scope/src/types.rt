@@ -4,7 +4,7 @@ ghost use Rattle.std.specs.List.{position_or_len};
 ghost use Rattle.tm_typed.specs.Types.{no_type};
 ghost use Rattle.tm_typed.specs.TypeRows.{is_same_ctype};
 
-use indexmap::IndexSet;
+use indexmap::IndexMap;
 use std::alloc::Global;
 use std::marker::Model;
 use tm_lattice::NoMemory;
@@ -16,26 +16,32 @@ const NO_TYPE: TypeEntry = TypeEntry {
     cells: 0,
     abstract_cells: 0,
     size: 0,
+    tight_size: 0,
     alignment: 0,
     of_pointers: false,
 };
 
-/// The table of types, each once, with a look-up of the number of a type.
+/// The table of types, with a look-up of the first row of each.
 #[derive(Drop)]
 pub struct Types {
     entries: Vec<TypeEntry>,
-    rows: IndexSet<CType>,
+    rows: IndexMap<CType, u32>,
 }
 
 impl Model for Types {
     ghost use Rattle.std.specs.Prelude.{◌≡◌, List, map, length, ◌≤◌};
+    ghost use Rattle.std.specs.List.{position};
+    ghost use Rattle.indexmap.specs.IndexMap.{get};
+    ghost use Rattle.tm_typed.specs.declared.types.CType.{CType as AType};
     ghost use Rattle.tm_typed.specs.declared.types.TypeEntry.{TypeEntry};
+    ghost use Rattle.tm_typed.specs.TypeRows.{is_same_ctype};
 
     ghost Value = { List TypeEntry };
 
     ghost view = { λ t. t.entries.items };
 
-    ghost invariant = { λ t. (t.rows.keys ≡ map (λ e. e.ctype) t.entries.items)
+    ghost invariant = { λ t. ((c : AType)
+        → get is_same_ctype t.rows c ≡ position (is_same_ctype c) (map (λ e. e.ctype) t.entries.items))
         × (length t.entries.items ≤ 4294967295) };
 }
 
@@ -46,7 +52,7 @@ impl Types {
     {
         Types {
             entries: Vec::new(alloc),
-            rows: IndexSet::new(alloc),
+            rows: IndexMap::new(alloc),
         }
     }
 
@@ -71,8 +77,8 @@ impl Types {
     pub fn number(&self, ctype: CType) -> u32
         ensures { result ≡ position_or_len (is_same_ctype ctype) (map (λ e. e.ctype) self.now) }
     {
-        match self.rows.get_index_of(&ctype) {
-            Some(index) => index as u32,
+        match self.rows.get(&ctype) {
+            Some(number) => *number,
             None => self.len(),
         }
     }
@@ -86,14 +92,30 @@ impl Types {
         if self.entries.len() >= 4294967295 {
             return Err(NoMemory);
         }
+        let number = self.len();
         match self.entries.push(entry) {
-            Ok(()) => match self.rows.insert(entry.ctype) {
+            Ok(()) => match self.rows.insert(entry.ctype, number) {
                 Ok(_) => Ok(()),
                 Err(_) => {
                     let _ = self.entries.pop();
                     Err(NoMemory)
                 }
             },
+            Err(_) => Err(NoMemory),
+        }
+    }
+
+    /// A further row of a type that has one. After want of memory all is as before.
+    pub fn push_again(&mut self, entry: TypeEntry) -> Result<(), NoMemory>
+        requires { position_or_len (is_same_ctype entry.ctype) (map (λ e. e.ctype) self.old) < length self.old }
+        ensures ok { OnOk result (self.new ≡ self.old ++ entry ∷ []) }
+        ensures err { OnErr result (self.new ≡ self.old) }
+    {
+        if self.entries.len() >= 4294967295 {
+            return Err(NoMemory);
+        }
+        match self.entries.push(entry) {
+            Ok(()) => Ok(()),
             Err(_) => Err(NoMemory),
         }
     }

@@ -1,19 +1,21 @@
 //! Enumerations (C99 6.7.2.2).
-ghost use Rattle.std.specs.Prelude.{◌≡◌, map, pos};
+ghost use Rattle.std.specs.Prelude.{◌≡◌, length, map, pos, OnOk};
 ghost use Rattle.tm_terms.specs.ExprTrees.{tree_of};
 ghost use Rattle.tm_trees.specs.DeclarationTrees.{enumerator_tree};
 ghost use Rattle.tm_typed.specs.Refusals.{row};
 ghost use Rattle.tm_typed.specs.Structures.{is_declared_here, with_enumerator, value_named, enumerator_rules};
-ghost use Rattle.tm_typed.specs.Structures.{enumerators, enumeration_tag, enumeration, enumeration_said};
+ghost use Rattle.tm_typed.specs.Structures.{enumerators, enumeration_tag, with_enumeration, enumeration};
+ghost use Rattle.tm_typed.specs.Structures.{enumeration_said};
+ghost use Rattle.tm_typed.specs.States.{in_scope};
 ghost use Rattle.c_typing_state.specs.Steps.{StepsTo, MovesTo};
 
-use c_type_names::{int_number, plain, refusal, said_type};
+use c_type_names::{plain, refusal, said_type};
 use c_typing_state::{State, folded_value, is_declared_here};
 use std::alloc::Global;
-use tm_cint::IntType;
+use tm_lattice::NoMemory;
 use tm_terms::{Expr, Fail, Kind};
 use tm_trees::{Enumerator, Tag};
-use tm_typed::{Named, Said};
+use tm_typed::{Named, Said, enumeration_number};
 
 // A value of `int`.
 fn int_named(value: Option<i128>) -> Option<i32>
@@ -119,13 +121,29 @@ fn enumeration_tag(state: &mut State, tag: Option<Tag>) -> Result<(), Fail>
             if state.scope().tagged_here(tag.name).is_some() {
                 return Err(refusal(Kind::Redeclared, tag.place));
             }
-            state.add_enum_tag(tag.name)?;
+            state.add_enum_tag(tag.name, false)?;
             Ok(())
         }
     }
 }
 
-/// An enumeration with its constants: its type is `int`.
+// What the tag names once the list has ended.
+fn add_enumeration(state: &mut State, tag: Option<Tag>, is_from_zero: bool) -> Result<(), NoMemory>
+    ensures { OnOk result (state.new ≡ in_scope state.old (with_enumeration tag is_from_zero state.old.scope)) }
+{
+    match tag {
+        None => Ok(()),
+        Some(tag) => {
+            if is_from_zero {
+                state.add_enum_tag(tag.name, true)
+            } else {
+                Ok(())
+            }
+        }
+    }
+}
+
+/// An enumeration with its constants: its type is `int`, in a row of its own where they are all from 0 on.
 #[tactic(auto, using(c_typing_state::proofs::Frames::passes, c_typing_state::proofs::Frames::goes_on))]
 pub(crate) fn enumeration(
     alloc: Global,
@@ -134,10 +152,13 @@ pub(crate) fn enumeration(
     tag: Option<Tag>,
     listed: &[Enumerator],
 ) -> Result<Said, Fail>
-    ensures { StepsTo (λ d. d) state.new result (enumeration_said said
+    ensures { StepsTo (λ d. d) state.new result (enumeration_said (length state.old.scope.names) said tag
         (enumeration state.old tag (map enumerator_tree listed.now))) }
 {
+    let before = state.scope().names_len();
     enumeration_tag(state, tag)?;
     enumerators_in(alloc, state, listed)?;
-    Ok(said_type(said, plain(int_number(IntType::Int))))
+    let is_from_zero = state.scope().are_from_zero(before);
+    add_enumeration(state, tag, is_from_zero)?;
+    Ok(said_type(said, plain(enumeration_number(is_from_zero))))
 }

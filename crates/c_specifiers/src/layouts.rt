@@ -2,7 +2,8 @@
 ghost use Rattle.std.specs.Prelude.{◌≡◌, ◌+◌, ◌++◌, [], ◌∷◌, true, false, OnOk};
 ghost use Rattle.tm_typed.specs.Scopes.{structure_of};
 ghost use Rattle.tm_typed.specs.TypeRows.{clipped, wrapped};
-ghost use Rattle.tm_typed.specs.Structures.{no_layout, padding, aligned, with_member, has_member, completed_structure};
+ghost use Rattle.tm_typed.specs.Structures.{no_layout, padding, aligned, tight, with_member, has_member};
+ghost use Rattle.tm_typed.specs.Structures.{completed_structure};
 
 use c_scope::Scope;
 use std::alloc::Global;
@@ -19,6 +20,7 @@ pub(crate) struct Layout {
     cells: u32,
     abstract_cells: u32,
     size: u32,
+    tight_size: u32,
     alignment: u32,
 }
 
@@ -33,6 +35,7 @@ impl Model for Layout {
       cells = l.cells;
       abstract_cells = l.abstract_cells;
       size = l.size;
+      tight_size = l.tight_size;
       alignment = l.alignment;
     } };
 
@@ -50,6 +53,7 @@ impl Layout {
             cells: 0,
             abstract_cells: 0,
             size: 0,
+            tight_size: 0,
             alignment: 1,
         }
     }
@@ -76,6 +80,10 @@ impl Layout {
         self.cells = clipped_sum(self.cells, scope.cells(of.number));
         self.abstract_cells = clipped_sum(self.abstract_cells, scope.abstract_cells(of.number));
         self.size = wrapped_sum(aligned(self.size, alignment), scope.size(of.number));
+        self.tight_size = wrapped_sum(
+            aligned(self.tight_size, tight(alignment)),
+            scope.tight_size(of.number),
+        );
         self.alignment = self.alignment.max(alignment);
         Ok(())
     }
@@ -108,6 +116,7 @@ impl Layout {
             cells,
             abstract_cells,
             size,
+            tight_size,
             alignment,
         } = self;
         StructEntry {
@@ -117,6 +126,7 @@ impl Layout {
             cells,
             abstract_cells,
             size: aligned(size, alignment),
+            tight_size: aligned(tight_size, tight(alignment)),
             alignment,
         }
     }
@@ -144,6 +154,13 @@ fn padding(size: u32, alignment: u32) -> u32
 {
     let step = alignment.max(1);
     (step - size % step) % step
+}
+
+// An alignment where that of `long long` is 4.
+fn tight(alignment: u32) -> u32
+    ensures { result ≡ tight alignment }
+{
+    alignment.min(4)
 }
 
 // The next multiple of the alignment, modulo 2^32.

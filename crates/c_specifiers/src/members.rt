@@ -79,7 +79,7 @@ fn opened_tag(
             state.open_structure(number);
             Ok(number)
         }
-        Some(Tagged::Enumeration) => Err(refusal(Kind::Redeclared, tag.place)),
+        Some(Tagged::Enumeration { .. }) => Err(refusal(Kind::Redeclared, tag.place)),
         Some(Tagged::Structure(number)) => {
             if state.scope().is_opened(number) {
                 return Err(refusal(Kind::Redeclared, tag.place));

@@ -6,11 +6,10 @@ ghost use Rattle.tm_typed.specs.Scopes.{named, tagged};
 ghost use Rattle.tm_typed.specs.Specifiers.{nothing_said, alias_rules, struct_rules, enum_rules, word_rules};
 ghost use Rattle.tm_typed.specs.TypeNames.{words_said};
 
-use crate::said::{int_number, nothing_said, plain, said_basic, said_qualifier, said_type};
+use crate::said::{nothing_said, plain, said_basic, said_qualifier, said_type};
 use c_scope::Scope;
-use tm_cint::IntType;
 use tm_terms::{Fail, Kind, Place, Refusal, Spec, SpecWord, TagKind};
-use tm_typed::{CType, Named, Said, Tagged};
+use tm_typed::{CType, Named, Said, Tagged, enumeration_number};
 
 /// A refusal of this kind at this place.
 pub fn refusal(kind: Kind, place: Place) -> Fail
@@ -45,7 +44,7 @@ fn tagged_struct(
             let number = scope.number(CType::Struct(structure));
             Ok(said_type(said, plain(number)))
         }
-        Some(Tagged::Enumeration) => Err(refusal(Kind::Redeclared, place)),
+        Some(Tagged::Enumeration { .. }) => Err(refusal(Kind::Redeclared, place)),
         None => Err(refusal(Kind::Undeclared, place)),
     }
 }
@@ -54,7 +53,9 @@ fn tagged_enum(said: Said, place: Place, tagged: Option<Tagged>) -> Result<Said,
     ensures { Gives (λ d. d) result (enum_rules said place tagged) }
 {
     match tagged {
-        Some(Tagged::Enumeration) => Ok(said_type(said, plain(int_number(IntType::Int)))),
+        Some(Tagged::Enumeration { is_from_zero }) => {
+            Ok(said_type(said, plain(enumeration_number(is_from_zero))))
+        }
         Some(Tagged::Structure(_)) => Err(refusal(Kind::Redeclared, place)),
         None => Err(refusal(Kind::Undeclared, place)),
     }

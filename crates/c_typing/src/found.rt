@@ -60,6 +60,7 @@ impl Found {
             lengths,
             constants,
             labels,
+            sizes,
         } = state.into_tables();
         TypedFile {
             types,
@@ -73,6 +74,7 @@ impl Found {
             lengths,
             constants,
             labels,
+            sizes,
             order,
         }
     }

@@ -5,6 +5,7 @@ ghost use Rattle.tm_typed.specs.TypedTrees.{operand_tree};
 ghost use Rattle.tm_typed.specs.Evaluation.{typed_in, measured, folded_value, value_of_fold};
 ghost use Rattle.c_typing_state.specs.Steps.{StepsTo};
 
+use crate::sizes::push_sizes;
 use crate::states::State;
 use c_expr_typing::typed_expr_at;
 use c_expr_uses::{push_constants, push_uses};
@@ -22,7 +23,10 @@ impl State {
         match typed_expr_at(alloc, expr, &self.scope, &mut self.site) {
             Ok(operand) => match push_uses(&self.scope, expr, &mut self.uses) {
                 Ok(()) => match push_constants(&operand, &mut self.constants) {
-                    Ok(()) => Ok(operand),
+                    Ok(()) => {
+                        push_sizes(alloc, &self.scope, expr, &mut self.sizes)?;
+                        Ok(operand)
+                    }
                     Err(_) => Err(Fail::NoMemory),
                 },
                 Err(_) => Err(Fail::NoMemory),
@@ -37,7 +41,13 @@ impl State {
     {
         prepare(alloc, &mut self.scope, expr)?;
         let mut site = self.site;
-        typed_expr_at(alloc, expr, &self.scope, &mut site)
+        match typed_expr_at(alloc, expr, &self.scope, &mut site) {
+            Ok(operand) => {
+                push_sizes(alloc, &self.scope, expr, &mut self.sizes)?;
+                Ok(operand)
+            }
+            Err(fail) => Err(fail),
+        }
     }
 }
 

@@ -9,6 +9,7 @@
 mod blocks;
 mod evaluation;
 mod names;
+mod sizes;
 mod states;
 mod statics;
 mod structures;

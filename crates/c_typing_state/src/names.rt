@@ -21,11 +21,13 @@ impl State {
         self.scope.add_name(name, named)
     }
 
-    /// The tag of an enumeration in the present block.
-    pub fn add_enum_tag(&mut self, tag: Name) -> Result<(), NoMemory>
-        ensures { OnOk result (self.new ≡ in_scope self.old (with_tag tag Tagged.Enumeration self.old.scope)) }
+    /// The tag of an enumeration in the present block, whose constants may all be from 0 on.
+    pub fn add_enum_tag(&mut self, tag: Name, is_from_zero: bool) -> Result<(), NoMemory>
+        ensures { OnOk result (self.new
+            ≡ in_scope self.old (with_tag tag (Tagged.Enumeration is_from_zero) self.old.scope)) }
     {
-        self.scope.add_tag(tag, Tagged::Enumeration)
+        self.scope
+            .add_tag(tag, Tagged::Enumeration { is_from_zero })
     }
 
     /// A new structure with this tag in the present block.

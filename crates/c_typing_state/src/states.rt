@@ -8,6 +8,7 @@ use c_scope::{Bindings, Scope};
 use std::alloc::Global;
 use std::marker::Model;
 use tm_lattice::NoMemory;
+use tm_terms::Place;
 use tm_typed::{LocalEntry, StructEntry, TypeEntry, TypedStatic, Use};
 
 /// What typing has found so far.
@@ -21,6 +22,7 @@ pub struct State {
     pub(crate) lengths: Vec<u32>,
     pub(crate) constants: Vec<i128>,
     pub(crate) labels: Vec<i128>,
+    pub(crate) sizes: Vec<Place>,
 }
 
 // By hand: a function that lets one go calls this, and its check does not go through the fields.
@@ -36,6 +38,7 @@ impl Drop for State {
             lengths: _lengths,
             constants: _constants,
             labels: _labels,
+            sizes: _sizes,
         } = self;
     }
 }
@@ -57,6 +60,7 @@ impl Model for State {
       lengths = s.lengths.items;
       constants = s.constants.items;
       labels = s.labels.items;
+      sizes = s.sizes.items;
     } };
 }
 
@@ -70,6 +74,7 @@ pub struct Tables {
     pub lengths: Vec<u32>,
     pub constants: Vec<i128>,
     pub labels: Vec<i128>,
+    pub sizes: Vec<Place>,
 }
 
 impl State {
@@ -88,6 +93,7 @@ impl State {
             lengths: Vec::new(alloc),
             constants: Vec::new(alloc),
             labels: Vec::new(alloc),
+            sizes: Vec::new(alloc),
         })
     }
 
@@ -107,6 +113,7 @@ impl State {
         ensures lengths { result.lengths.items ≡ self.lengths }
         ensures constants { result.constants.items ≡ self.constants }
         ensures labels { result.labels.items ≡ self.labels }
+        ensures sizes { result.sizes.items ≡ self.sizes }
     {
         let State {
             scope,
@@ -118,6 +125,7 @@ impl State {
             lengths,
             constants,
             labels,
+            sizes,
         } = self;
         let tables = scope.into_tables();
         Tables {
@@ -128,6 +136,7 @@ impl State {
             lengths,
             constants,
             labels,
+            sizes,
         }
     }
 

@@ -56,6 +56,7 @@ fn entry_at(file: &TypedFile, of: u32) -> TypeEntry
             cells: 0,
             abstract_cells: 0,
             size: 0,
+            tight_size: 0,
             alignment: 0,
             of_pointers: false,
         },

@@ -52,14 +52,15 @@ int = Scalars.Int Ints.Int
 abbrev of : ℕ → Qualified
 of n = record { number = n; constant = false; volatile = false }
 
--- the types 12, `int *`, and 13, `int[2]`, behind the first ones
+-- the types 13, `int *`, and 14, `int[2]`, behind the first ones
 abbrev pointer_entry : TypeEntry
 pointer_entry = record {
   ctype = Types.Pointer (of 6);
-  class = 12;
+  class = 13;
   cells = 1;
   abstract_cells = 1;
   size = 4;
+  tight_size = 4;
   alignment = 4;
   of_pointers = true;
 }
@@ -67,10 +68,11 @@ pointer_entry = record {
 abbrev array_entry : TypeEntry
 array_entry = record {
   ctype = Types.Array 6 2;
-  class = 13;
+  class = 14;
   cells = 2;
   abstract_cells = 2;
   size = 8;
+  tight_size = 8;
   alignment = 4;
   of_pointers = false;
 }
@@ -114,6 +116,7 @@ laid task callee = record {
     lengths = [];
     constants = [];
     labels = [];
+    sizes = [];
   };
   bodies = 0 ∷ [];
   first_paths = 0 ∷ [];
@@ -126,9 +129,9 @@ laid task callee = record {
   statics = 0 ∷ 1 ∷ 2 ∷ 3 ∷ [];
   objects =
       object 6 None 0 1
-      ∷ object 13 None 1 2
+      ∷ object 14 None 1 2
       ∷ object 2 None 3 1
-      ∷ object 12 None 4 1
+      ∷ object 13 None 4 1
       ∷ object 6 (Some 0) 5 1
       ∷ object 6 (Some 1) 6 1
       ∷ object 6 (Some 1) 7 1
@@ -138,7 +141,7 @@ laid task callee = record {
       ∷ cell 1 int 1
       ∷ cell 1 int 2
       ∷ cell 2 (Scalars.Int Ints.Char) 3
-      ∷ cell 3 (Scalars.Pointer 12) 4
+      ∷ cell 3 (Scalars.Pointer 13) 4
       ∷ cell 4 int 5
       ∷ cell 5 int 6
       ∷ cell 6 int 7
@@ -367,10 +370,10 @@ begins = an_address (an_object (Static 1) (at 5)) (at 5)
 
 abbrev moves : ℕ → TypedTrees
 moves n =
-    and_statement (performs (an_assignment (Scalars.Pointer 12) (p 1) (a_move false 1 false begins (number n) (at 7)) (at 3)))
-    (one (performs (an_assignment int (a_pointed (a_load (Scalars.Pointer 12) false (p 14)) 6 (at 13)) (number 4) (at 17))))
+    and_statement (performs (an_assignment (Scalars.Pointer 13) (p 1) (a_move false 1 false begins (number n) (at 7)) (at 3)))
+    (one (performs (an_assignment int (a_pointed (a_load (Scalars.Pointer 13) false (p 14)) 6 (at 13)) (number 4) (at 17))))
 
-moves_one : does (moves 1) [] ≡ Acts.Store 3 0 (Scalars.Pointer 12) (APointer (Pointers.To 1 1)) (at 3)
+moves_one : does (moves 1) [] ≡ Acts.Store 3 0 (Scalars.Pointer 13) (APointer (Pointers.To 1 1)) (at 3)
 unfolding next base pointer_in size_of shifted load_at store_at pointer_of moved number_of
 moves_one = refl
 
@@ -409,7 +412,7 @@ unfolding next base pointer_in size_of store_at pointer_of is_true
 short = refl
 
 -- an invalid pointer is no condition
-tested_invalid : does (one (branches (a_load (Scalars.Pointer 12) false (p 5)) (sets 1 20))) (Given (APointer Pointers.Invalid) ∷ [])
+tested_invalid : does (one (branches (a_load (Scalars.Pointer 13) false (p 5)) (sets 1 20))) (Given (APointer Pointers.Invalid) ∷ [])
     ≡ Acts.Fault Classes.Pointer (at 5)
 unfolding next base pointer_in size_of load_at pointer_of answer_of is_of usable
 tested_invalid = refl

@@ -91,6 +91,7 @@ program values priorities bodies main = record {
     lengths = [];
     constants = [];
     labels = [];
+    sizes = [];
   };
   bodies = from (λ k. k) 0 bodies;
   first_paths = from (λ k. k) 0 bodies;

@@ -534,7 +534,7 @@ pub tag_continues : (m : ℕ) (s : State) (t : Tag) (o : Option Tagged) → IsLa
 tag_continues m s t None h =
     scope_continues m s (with_struct_tag t.name s.scope) h (struct_tag_follows s.scope t.name h.tables)
 tag_continues m s t (Some (Tagging.Structure k)) h = continues_none m s h
-tag_continues m s t (Some Tagging.Enumeration) h = tt
+tag_continues m s t (Some (Tagging.Enumeration z)) h = tt
 
 form_cells : (m : ℕ) (s : State) (d : DeclarationTree) (t : Option Tag) → IsLawfulState m s
     → OnAnswer (LocatesCells m s) (local_form s d t)

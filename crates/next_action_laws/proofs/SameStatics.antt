@@ -70,7 +70,7 @@ pub measured_same : (s : State) (t : Tree) → OnAnswer (λ (a : OperandTree × 
     (measured s t)
 measured_same s t = then_any (λ (a : OperandTree × State). kept_in a.1 ≡ kept_in s)
     (typing type_of_name (prepared s.scope t) s.site t)
-    (λ o. Ok (o, record s { scope = prepared s.scope t })) (λ o. refl)
+    _ (λ o. refl)
 
 -- ## Declarators
 
@@ -130,7 +130,7 @@ members_same s l q (d ∷ ds) =
 tag_same : (s : State) (t : Tag) (o : Option Tagged) → OnAnswer (λ (a : ℕ × State). kept_in a.1 ≡ kept_in s)
     (opened_tag s t o)
 tag_same s t None = refl
-tag_same s t (Some Tagging.Enumeration) = tt
+tag_same s t (Some (Tagging.Enumeration z)) = tt
 tag_same s t (Some (Tagging.Structure k)) = on_row (λ (a : ℕ × State). kept_in a.1 ≡ kept_in s)
     (structure s.scope k).opened Kinds.Redeclared t.place (Ok (k, opened k s)) (λ e. refl)
 
@@ -254,4 +254,4 @@ typedef_same s t d e =
 pub tag_rules_same : (s : State) (t : Tag) (o : Option Tagged) → OnAnswer (SameState s) (tag_rules s t o)
 tag_rules_same s t None = refl
 tag_rules_same s t (Some (Tagging.Structure k)) = refl
-tag_rules_same s t (Some Tagging.Enumeration) = tt
+tag_rules_same s t (Some (Tagging.Enumeration z)) = tt

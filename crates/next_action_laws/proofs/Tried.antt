@@ -38,10 +38,11 @@ int = Scalars.Int Ints.Int
 abbrev array_entry : TypeEntry
 array_entry = record {
   ctype = Types.Array 6 2;
-  class = 12;
+  class = 13;
   cells = 2;
   abstract_cells = 2;
   size = 8;
+  tight_size = 8;
   alignment = 4;
   of_pointers = false;
 }
@@ -93,6 +94,7 @@ laid = record {
     lengths = [];
     constants = [];
     labels = [];
+    sizes = [];
   };
   bodies = 0 ∷ [];
   first_paths = 0 ∷ [];
@@ -100,7 +102,7 @@ laid = record {
   callees = [] ∷ [];
   first_objects = 2 ∷ [];
   statics = 0 ∷ 1 ∷ [];
-  objects = object 6 0 1 ∷ object 12 1 2 ∷ [];
+  objects = object 6 0 1 ∷ object 13 1 2 ∷ [];
   cells = cell 0 0 ∷ cell 1 1 ∷ cell 1 2 ∷ [];
   abstract_cells = [];
   initial = [];

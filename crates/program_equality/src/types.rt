@@ -5,11 +5,24 @@ ghost use Rattle.tm_typed.specs.TypedFiles.{typed_file_tree};
 ghost use Rattle.program_equations.specs.Readings.{read_file};
 
 use crate::alike::{Alike, are_alike};
-use tm_typed::{Member, MutexEntry, StructEntry, TypeEntry, TypedFile};
+use tm_typed::{CType, Member, MutexEntry, StructEntry, TypeEntry, TypedFile};
+
+impl Alike for CType {
+    fn is_alike(&self, other: &CType) -> bool {
+        *self == *other
+    }
+}
 
 impl Alike for TypeEntry {
     fn is_alike(&self, other: &TypeEntry) -> bool {
-        *self == *other
+        self.ctype.is_alike(&other.ctype)
+            && self.class == other.class
+            && self.cells == other.cells
+            && self.abstract_cells == other.abstract_cells
+            && self.size == other.size
+            && self.tight_size == other.tight_size
+            && self.alignment == other.alignment
+            && self.of_pointers == other.of_pointers
     }
 }
 
@@ -37,6 +50,7 @@ fn is_same_structure(one: &StructEntry, other: &StructEntry) -> bool
         && one.cells == other.cells
         && one.abstract_cells == other.abstract_cells
         && one.size == other.size
+        && one.tight_size == other.tight_size
         && one.alignment == other.alignment
 }
 

@@ -18,6 +18,7 @@ read_file file = record {
   lengths = [];
   constants = [];
   labels = [];
+  sizes = [];
 }
 
 -- Of a layout its call paths, objects, cells, abstract cells, and what cells of static storage hold at first.

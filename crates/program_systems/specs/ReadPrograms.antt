@@ -56,6 +56,7 @@ layout_from r = record {
     lengths = [];
     constants = [];
     labels = [];
+    sizes = [];
   };
   bodies = [];
   first_paths = [];

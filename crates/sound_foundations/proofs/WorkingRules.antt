@@ -26,7 +26,7 @@ use Rattle.operation_laws.specs.tm_typed.declared.operands.Sort.{Sort}
 use Rattle.operation_laws.specs.tm_typed.declared.operands.Sort.TheVariants as Sorts
 use Rattle.operation_laws.specs.tm_typed.declared.expressions.Step.{Step}
 use Rattle.operation_laws.specs.tm_typed.declared.expressions.Unary.TheVariants as Unaries
-use Rattle.operation_laws.specs.tm_typed.Types.{is_same_int}
+use Rattle.operation_laws.specs.tm_typed.Types.{is_same_int, is_enumerated}
 use Rattle.operation_laws.specs.tm_typed.Scopes.{Scope, Function, entry, ctype_of, is_same_type, is_complete, member_of}
 use Rattle.operation_laws.specs.tm_typed.TypedTrees.{RvalueTree, a_null, the_same, a_unary, a_binary, a_not, an_and}
 use Rattle.operation_laws.specs.tm_typed.TypedTrees.{an_or, a_choice}
@@ -504,14 +504,19 @@ compound_work scope op p (a_value x) v h k = compound_value_work scope op p x.so
 
 -- ## Casts
 
-cast_integer_work : (p : Place) (t : IntType) (v : Rated) (s : Sort) → Works v.value
-    → Gives (Rules.cast_to_integer p t v s)
-cast_integer_work p t v (Sorts.Integer from f) h = integer_work t (fold_converted t f)
-    (a_conversion from t v.value p) p h
-cast_integer_work p t v (Sorts.Pointer q) h = tt
-cast_integer_work p t v Sorts.Null h = tt
-cast_integer_work p t v (Sorts.Structure k) h = tt
-cast_integer_work p t v Sorts.Nothing h = tt
+cast_form_work : (b : Bool) (e : RvalueTree) (p : Place) → Works e → Works (Rules.cast_form b e p)
+cast_form_work true e p h = h
+cast_form_work false e p h = h
+
+cast_integer_work : (p : Place) (t : IntType) (b : Bool) (v : Rated) (s : Sort) → Works v.value
+    → Gives (Rules.cast_to_integer p t b v s)
+cast_integer_work p t b v (Sorts.Integer from f) h =
+    let e : RvalueTree = a_conversion from t v.value p in
+    integer_work t (fold_converted t f) (Rules.cast_form b e p) p (cast_form_work b e p h)
+cast_integer_work p t b v (Sorts.Pointer q) h = tt
+cast_integer_work p t b v Sorts.Null h = tt
+cast_integer_work p t b v (Sorts.Structure k) h = tt
+cast_integer_work p t b v Sorts.Nothing h = tt
 
 null_or : (b : Bool) (p : Place) (s : Sort) (r : Result OperandTree Refusal) → Gives r
     → Gives (cond b (made (a_null p) s p) r)
@@ -528,18 +533,19 @@ cast_pointer_work scope p q v Sorts.Null h = tt
 cast_pointer_work scope p q v (Sorts.Structure k) h = tt
 cast_pointer_work scope p q v Sorts.Nothing h = tt
 
-cast_by_work : (scope : Scope) (p : Place) (v : Rated) (t : CType) → Works v.value → Gives (Rules.cast_by scope p v t)
-cast_by_work scope p v Types.Void h = h
-cast_by_work scope p v (Types.Int t) h = cast_integer_work p t v v.sort h
-cast_by_work scope p v (Types.Pointer q) h = cast_pointer_work scope p q v v.sort h
-cast_by_work scope p v (Types.Array e n) h = tt
-cast_by_work scope p v (Types.Struct k) h = tt
+cast_by_work : (scope : Scope) (p : Place) (b : Bool) (v : Rated) (t : CType) → Works v.value
+    → Gives (Rules.cast_by scope p b v t)
+cast_by_work scope p b v Types.Void h = h
+cast_by_work scope p b v (Types.Int t) h = cast_integer_work p t b v v.sort h
+cast_by_work scope p b v (Types.Pointer q) h = cast_pointer_work scope p q v v.sort h
+cast_by_work scope p b v (Types.Array e n) h = tt
+cast_by_work scope p b v (Types.Struct k) h = tt
 
 pub cast_work : (scope : Scope) (p : Place) (to : CastType) (v : Rated) → Works v.value
     → Gives (Rules.cast_rules scope p to v)
 cast_work scope p to v h =
     null_or (to.is_void_pointer && is_integer v.sort && is_null v.sort) p Sorts.Null _
-    (on_row Says to.is_left_out Kinds.Unsupported p _ (λ e. cast_by_work scope p v (ctype_of scope to.of.number) h))
+    (on_row Says to.is_left_out Kinds.Unsupported p _ (λ e. cast_by_work scope p (is_enumerated to.of.number) v (ctype_of scope to.of.number) h))
 
 -- ## Calls
 

@@ -37,7 +37,7 @@ of : ℕ → Qualified
 of n = record { number = n; constant = false; volatile = false }
 
 row : CType → ℕ → ℕ → ℕ → TypeEntry
-row t n cells abstract = record { ctype = t; class = n; cells = cells; abstract_cells = abstract; size = 0; alignment = 0; of_pointers = false }
+row t n cells abstract = record { ctype = t; class = n; cells = cells; abstract_cells = abstract; size = 0; tight_size = 0; alignment = 0; of_pointers = false }
 
 static : ℕ → ℕ → Bool → List StaticCell → Static
 static n type defined given = record { name = name n; place = at; of = of type; defined = defined; initialised = false; given = given }
@@ -57,7 +57,7 @@ function n locals = record {
 file : TypedFileTree
 unfolding of
 file = record {
-  types = first_types ++ row (Types.Struct 0) 12 0 0 ∷ row (Types.Array 12 2) 13 4 4 ∷ row (Types.Array 6 64) 14 64 64 ∷ row (Types.Array 6 65) 15 65 1 ∷ row (Types.Pointer (of 6)) 16 1 1 ∷ [];
+  types = first_types ++ row (Types.Struct 0) 13 0 0 ∷ row (Types.Array 13 2) 14 4 4 ∷ row (Types.Array 6 64) 15 64 64 ∷ row (Types.Array 6 65) 16 65 1 ∷ row (Types.Pointer (of 6)) 17 1 1 ∷ [];
   structs = record {
     opened = true;
     complete = true;
@@ -65,11 +65,12 @@ file = record {
     cells = 2;
     abstract_cells = 2;
     size = 8;
+    tight_size = 8;
     alignment = 4;
   } ∷ [];
-  statics = static 10 13 true [] ∷ static 11 14 true [] ∷ static 12 6 false [] ∷ static 13 15 true []
-      ∷ static 14 16 true (record { cell = 0; value = Values.Address 1 3 } ∷ []) ∷ [];
-  functions = function 20 (local 21 6 ∷ []) ∷ function 22 (local 23 6 ∷ local 24 6 ∷ []) ∷ function 25 [] ∷ function 26 (local 27 12 ∷ []) ∷ function 28 [] ∷ [];
+  statics = static 10 14 true [] ∷ static 11 15 true [] ∷ static 12 6 false [] ∷ static 13 16 true []
+      ∷ static 14 17 true (record { cell = 0; value = Values.Address 1 3 } ∷ []) ∷ [];
+  functions = function 20 (local 21 6 ∷ []) ∷ function 22 (local 23 6 ∷ local 24 6 ∷ []) ∷ function 25 [] ∷ function 26 (local 27 13 ∷ []) ∷ function 28 [] ∷ [];
   calls = [] ∷ (0 ∷ 0 ∷ []) ∷ (1 ∷ 0 ∷ []) ∷ (1 ∷ []) ∷ (0 ∷ []) ∷ [];
   tasks = record { function = 2; priority = 1 } ∷ record { function = 3; priority = 2 } ∷ [];
   mutexes = [];
@@ -77,6 +78,7 @@ file = record {
   lengths = [];
   constants = [];
   labels = [];
+  sizes = [];
 }
 
 -- the functions in which the paths end, and their first objects
@@ -129,7 +131,7 @@ cells = refl
 
 abstracts : abstract_at (layout_of file) 3 ∷ abstract_at (layout_of file) 67 ∷ abstract_at (layout_of file) 68 ∷ abstract_at (layout_of file) 69 ∷ []
     ≡ record { object = 0; offset = 3; scalar = Scalars.Int Ints.Char; smashed = false } ∷ record { object = 1; offset = 63; scalar = Scalars.Int Ints.Int; smashed = false }
-    ∷ record { object = 2; offset = 0; scalar = Scalars.Int Ints.Int; smashed = true } ∷ record { object = 3; offset = 0; scalar = Scalars.Pointer 16; smashed = false } ∷ []
+    ∷ record { object = 2; offset = 0; scalar = Scalars.Int Ints.Int; smashed = true } ∷ record { object = 3; offset = 0; scalar = Scalars.Pointer 17; smashed = false } ∷ []
 unfolding layout_of call_tree file function static local row of cell_count abstract_count type_cells type_abstracts
 abstracts = refl
 
@@ -148,7 +150,7 @@ unfolding layout_of call_tree file function static local row of cell_count abstr
 initial = refl
 
 -- the structure stands at even offsets of `a`, and `int` at every offset of `b` but that behind it
-standing : map (λ k. stands_at (layout_of file) 0 k 12) (0 ∷ 1 ∷ 2 ∷ 3 ∷ []) ++ map (λ k. stands_at (layout_of file) 1 k 6) (0 ∷ 63 ∷ 64 ∷ []) ≡ true ∷ false ∷ true ∷ false ∷ true ∷ true ∷ false ∷ []
+standing : map (λ k. stands_at (layout_of file) 0 k 13) (0 ∷ 1 ∷ 2 ∷ 3 ∷ []) ++ map (λ k. stands_at (layout_of file) 1 k 6) (0 ∷ 63 ∷ 64 ∷ []) ≡ true ∷ false ∷ true ∷ false ∷ true ∷ true ∷ false ∷ []
 unfolding layout_of call_tree file function static local row of cell_count abstract_count type_cells type_abstracts
 standing = refl
 

@@ -298,7 +298,7 @@ lone_tag xs ds = None
 abbrev pub tag_rules : State → Tag → Option Tagged → Result State Refusal
 tag_rules s t None = Ok (record s { scope = with_struct_tag t.name s.scope })
 tag_rules s t (Some (Tagging.Structure k)) = Ok s
-tag_rules s t (Some Tagging.Enumeration) = refused Kinds.Redeclared t.place
+tag_rules s t (Some (Tagging.Enumeration z)) = refused Kinds.Redeclared t.place
 
 abbrev pub file_form : State → DeclarationTree → Option Tag → Result State Refusal
 file_form s d (Some t) = tag_rules s t (tagged_here s.scope t.name)

@@ -10,6 +10,7 @@ use Rattle.tm_typed.specs.Operands.{fold_of}
 use Rattle.tm_typed.specs.Typing.{typing, calls}
 use Rattle.tm_typed.specs.TypeNames.{type_of_name, prepared}
 use Rattle.tm_typed.specs.Uses.{uses_of}
+use Rattle.tm_typed.specs.Sizes.{sizes_of}
 use Rattle.tm_typed.specs.Constants.{operand_constants}
 use Rattle.tm_typed.specs.States.{State}
 use Rattle.tm_typed.specs.Refusals.{then_with}
@@ -21,6 +22,7 @@ evaluated s scope t o = record s {
   site = s.site + calls t;
   uses = s.uses ++ uses_of scope t;
   constants = s.constants ++ operand_constants o;
+  sizes = s.sizes ++ sizes_of scope t;
 }
 
 -- an expression that is evaluated: a statement's, an argument's, an initialiser's
@@ -31,7 +33,7 @@ typed_in s t = let scope = prepared s.scope t in
 -- an expression for a number that the text fixes: a length, an enumerator, a priority
 abbrev pub measured : State → Tree → Result (OperandTree × State) Refusal
 measured s t = let scope = prepared s.scope t in
-    then_with (typing type_of_name scope s.site t) (λ o. Ok (o, record s { scope = scope }))
+    then_with (typing type_of_name scope s.site t) (λ o. Ok (o, record s { scope = scope; sizes = s.sizes ++ sizes_of scope t }))
 
 abbrev pub value_of_fold : Fold → Option ℤ
 value_of_fold (Folds.Value z) = Some z

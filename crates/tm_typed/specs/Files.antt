@@ -77,6 +77,7 @@ first_state = record {
   lengths = [];
   constants = [];
   labels = [];
+  sizes = [];
 }
 
 abbrev pub first_file_state : FileState
@@ -224,7 +225,8 @@ items_in f (i ∷ is) = then_with (item_in f i) (λ g. items_in g is)
 
 -- ## Whole files
 
--- what is typed: the tables, the objects, functions, tasks and mutexes, the function `main`, and what thresholds need
+-- what is typed: the tables, the objects, functions, tasks and mutexes, the function `main`, what thresholds need,
+-- and the places of `sizeof` that depend on the alignment of `long long`
 pub record TypedFileTree : Type 0 where
   pub types : List TypeEntry
   pub structs : List Structure
@@ -237,6 +239,7 @@ pub record TypedFileTree : Type 0 where
   pub lengths : List ℕ
   pub constants : List ℤ
   pub labels : List ℤ
+  pub sizes : List Place
 
 -- a function of this name that is defined
 abbrev pub defined_by : FileState → Option Named → Option ℕ
@@ -261,6 +264,7 @@ file_of f main = record {
   lengths = f.state.lengths;
   constants = f.state.constants;
   labels = f.state.labels;
+  sizes = f.state.sizes;
 }
 
 -- what the file does not define

@@ -16,6 +16,7 @@ pub mod Typing
 pub mod WellTyped
 -- Statements and files.
 pub mod Uses
+pub mod Sizes
 pub mod Constants
 pub mod TypedStatements
 pub mod CallGraph

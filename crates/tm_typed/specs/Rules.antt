@@ -33,7 +33,7 @@ use Rattle.tm_typed.specs.declared.operands.Fold.{Fold}
 use Rattle.tm_typed.specs.declared.operands.Fold.TheVariants as Folds
 use Rattle.tm_typed.specs.declared.operands.Sort.{Sort}
 use Rattle.tm_typed.specs.declared.operands.Sort.TheVariants as Sorts
-use Rattle.tm_typed.specs.Types.{bytes_of}
+use Rattle.tm_typed.specs.Types.{bytes_of, is_enumerated}
 use Rattle.tm_typed.specs.Scopes.{Scope, Function, entry, ctype_of, is_complete, cells_of, size_of, structure}
 use Rattle.tm_typed.specs.Scopes.{is_same_type, member_of}
 use Rattle.tm_typed.specs.TypedTrees.{RvalueTree, a_constant, a_null, an_address, the_same, a_unary, a_binary}
@@ -495,10 +495,16 @@ compound_rules scope op p (a_value to) v = compound_value scope op p to.sort v.s
 
 -- ## Casts (C99 6.5.4)
 
+-- A cast to an enumeration has a form of its own, which makes no operation: so later layers tell it from one to `int`.
+abbrev pub cast_form : Bool → RvalueTree → Place → RvalueTree
+cast_form true e p = the_same e p
+cast_form false e p = e
+
 -- to an integer type from an integer; from a pointer it is left out
-abbrev pub cast_to_integer : Place → IntType → Rated → Sort → Result OperandTree Refusal
-cast_to_integer p t v (Sorts.Integer from f) = integer_made t (fold_converted t f) (a_conversion from t v.value p) p
-cast_to_integer p t v s = row (is_pointer s) Kinds.Unsupported p (refused Kinds.Mismatch p)
+abbrev pub cast_to_integer : Place → IntType → Bool → Rated → Sort → Result OperandTree Refusal
+cast_to_integer p t b v (Sorts.Integer from f) =
+    integer_made t (fold_converted t f) (cast_form b (a_conversion from t v.value p) p) p
+cast_to_integer p t b v s = row (is_pointer s) Kinds.Unsupported p (refused Kinds.Mismatch p)
 
 -- to the own pointer type, or from a null constant; from another pointer or an integer it is left out
 abbrev pub cast_to_pointer : Scope → Place → Qualified → Rated → Sort → Result OperandTree Refusal
@@ -509,18 +515,19 @@ cast_to_pointer scope p q v s =
     cond (is_null s) (made (a_null p) (Sorts.Pointer q) p)
     (row (is_integer s) Kinds.Unsupported p (refused Kinds.Mismatch p))
 
-abbrev pub cast_by : Scope → Place → Rated → CType → Result OperandTree Refusal
+abbrev pub cast_by : Scope → Place → Bool → Rated → CType → Result OperandTree Refusal
 -- to void, from anything
-cast_by scope p v Types.Void = made (a_discard v.value p) Sorts.Nothing p
-cast_by scope p v (Types.Int t) = cast_to_integer p t v v.sort
-cast_by scope p v (Types.Pointer q) = cast_to_pointer scope p q v v.sort
-cast_by scope p v _ = refused Kinds.Mismatch p
+cast_by scope p b v Types.Void = made (a_discard v.value p) Sorts.Nothing p
+cast_by scope p b v (Types.Int t) = cast_to_integer p t b v v.sort
+cast_by scope p b v (Types.Pointer q) = cast_to_pointer scope p q v v.sort
+cast_by scope p b v _ = refused Kinds.Mismatch p
 
 -- `(void*)` of a folded 0 is the null constant; any other void pointer, and a volatile one, is left out
 abbrev pub cast_rules : Scope → Place → CastType → Rated → Result OperandTree Refusal
 cast_rules scope p to v =
     cond (to.is_void_pointer && is_integer v.sort && is_null v.sort) (made (a_null p) Sorts.Null p)
-    (row to.is_left_out Kinds.Unsupported p (cast_by scope p v (ctype_of scope to.of.number)))
+    (row to.is_left_out Kinds.Unsupported p
+    (cast_by scope p (is_enumerated to.of.number) v (ctype_of scope to.of.number)))
 
 -- ## Calls (C99 6.5.2.2)
 

@@ -25,6 +25,7 @@ pub record Structure : Type 0 where
   pub cells : ℕ
   pub abstract_cells : ℕ
   pub size : ℕ
+  pub tight_size : ℕ
   pub alignment : ℕ
 
 -- a function: the numbers of its result's and its parameters' types, and whether it has a body so far
@@ -50,10 +51,10 @@ structure_of s = record {
   opened = s.opened;
   complete = s.complete;
   members = s.members.items;
-  cells =
-      s.cells;
+  cells = s.cells;
   abstract_cells = s.abstract_cells;
   size = s.size;
+  tight_size = s.tight_size;
   alignment = s.alignment;
 }
 
@@ -109,8 +110,8 @@ no_structure = record {
   members = [];
   cells = 0;
   abstract_cells = 0;
-  size =
-      0;
+  size = 0;
+  tight_size = 0;
   alignment = 0;
 }
 
@@ -149,6 +150,14 @@ size_by scope e _ = e.size
 -- the bytes of a type, modulo 2^32
 abbrev pub size_of : Scope → ℕ → ℕ
 size_of scope n = size_by scope (entry scope n) (ctype_of scope n)
+
+abbrev pub tight_size_by : Scope → TypeEntry → CType → ℕ
+tight_size_by scope e (Types.Struct k) = (structure scope k).tight_size
+tight_size_by scope e _ = e.tight_size
+
+-- .. where `long long` is aligned to 4, as on i386
+abbrev pub tight_size_of : Scope → ℕ → ℕ
+tight_size_of scope n = tight_size_by scope (entry scope n) (ctype_of scope n)
 
 abbrev pub alignment_by : Scope → TypeEntry → CType → ℕ
 alignment_by scope e (Types.Struct k) = (structure scope k).alignment

@@ -21,7 +21,7 @@ use Rattle.tm_typed.specs.declared.scopes.Named.TheVariants as Names
 use Rattle.tm_typed.specs.declared.scopes.Tagged.{Tagged}
 use Rattle.tm_typed.specs.declared.scopes.Tagged.TheVariants as Tagging
 use Rattle.tm_typed.specs.declared.specifiers.Said.{Said}
-use Rattle.tm_typed.specs.Types.{void_number, int_number}
+use Rattle.tm_typed.specs.Types.{void_number, int_number, enumeration_number}
 use Rattle.tm_typed.specs.Scopes.{Scope, no_structure, named, tagged}
 use Rattle.tm_typed.specs.TypeRows.{number_in, with_type}
 use Rattle.tm_typed.specs.States.{with_tag}
@@ -101,12 +101,12 @@ alias_rules said p _ = refused Kinds.Undeclared p
 -- `struct S`, S being declared: a tag of the other kind is refused at the tag (C99 6.7.2.3)
 abbrev pub struct_rules : Scope → Said → Place → Option Tagged → Result Said Refusal
 struct_rules scope said p (Some (Tagging.Structure k)) = Ok (said_type said (plain (number_in scope (Types.Struct k))))
-struct_rules scope said p (Some Tagging.Enumeration) = refused Kinds.Redeclared p
+struct_rules scope said p (Some (Tagging.Enumeration z)) = refused Kinds.Redeclared p
 struct_rules scope said p None = refused Kinds.Undeclared p
 
--- `enum E` without a list names a declared enumeration, whose type is `int`
+-- `enum E` without a list names a declared enumeration (C99 6.7.2.2)
 abbrev pub enum_rules : Said → Place → Option Tagged → Result Said Refusal
-enum_rules said p (Some Tagging.Enumeration) = Ok (said_type said (plain (int_number Ints.Int)))
+enum_rules said p (Some (Tagging.Enumeration z)) = Ok (said_type said (plain (enumeration_number z)))
 enum_rules said p (Some (Tagging.Structure k)) = refused Kinds.Redeclared p
 enum_rules said p None = refused Kinds.Undeclared p
 

@@ -23,7 +23,8 @@ pub record Static : Type 0 where
 
 -- What is visible; the objects of static storage, and the names with linkage, which all their declarations share (C99
 -- 6.2.2); of the body that is typed the parameters and local objects, and how many calls stand before; the functions
--- and objects that are used; and the lengths of arrays, the values of folded expressions and the labels of the text.
+-- and objects that are used; the lengths of arrays, the values of folded expressions and the labels of the text; and the
+-- places of `sizeof` that depend on the alignment of `long long`.
 pub record State : Type 0 where
   pub scope : Scope
   pub statics : List Static
@@ -34,6 +35,7 @@ pub record State : Type 0 where
   pub lengths : List ℕ
   pub constants : List ℤ
   pub labels : List ℤ
+  pub sizes : List Place
 
 -- ## Names
 

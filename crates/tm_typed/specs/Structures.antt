@@ -1,7 +1,7 @@
 -- Structures and enumerations (C99 6.7.2.1, 6.7.2.2), and so specifiers with everything that stands in their braces.
-use Rattle.std.specs.Prelude.{ℕ, ◌+◌, ◌-◌, ◌%◌, max, ℤ, pos, ◌+ℤ◌, Bool, true, cond, ◌||◌, not, is_some, List, [], ◌∷◌}
-use Rattle.std.specs.Prelude.{◌++◌, length, map, slice_set, Option, Some, None, Result, Ok}
-use Rattle.std.specs.List.{list_any}
+use Rattle.std.specs.Prelude.{ℕ, ◌+◌, ◌-◌, ◌%◌, min, max, ℤ, pos, negsuc, ◌+ℤ◌, Bool, true, false, cond, ◌||◌, not, is_some}
+use Rattle.std.specs.Prelude.{List, [], ◌∷◌, ◌++◌, length, map, drop, slice_set, Option, Some, None, Result, Ok}
+use Rattle.std.specs.List.{list_any, list_all}
 use Rattle.tm_trees.specs.tm_cint.declared.int_types.IntType.TheVariants as Ints
 use Rattle.tm_trees.specs.tm_cint.IntTypes.{is_in}
 use Rattle.tm_trees.specs.tm_terms.declared.places.Place.{Place}
@@ -17,15 +17,16 @@ use Rattle.tm_trees.specs.DeclarationTrees.{SpecifierTree, a_plain, a_struct, an
 use Rattle.tm_trees.specs.DeclarationTrees.{and_specifier, MemberTrees, no_members, and_members}
 use Rattle.tm_typed.specs.declared.types.Qualified.{Qualified}
 use Rattle.tm_typed.specs.declared.types.CType.TheVariants as Types
+use Rattle.tm_typed.specs.declared.scopes.Named.{Named}
 use Rattle.tm_typed.specs.declared.scopes.Named.TheVariants as Names
 use Rattle.tm_typed.specs.declared.scopes.Tagged.{Tagged}
 use Rattle.tm_typed.specs.declared.scopes.Tagged.TheVariants as Tagging
 use Rattle.tm_typed.specs.declared.scopes.Member.{Member}
 use Rattle.tm_typed.specs.declared.specifiers.Said.{Said}
 use Rattle.tm_typed.specs.declared.specifiers.Shape.{Shape}
-use Rattle.tm_typed.specs.Types.{int_number}
+use Rattle.tm_typed.specs.Types.{enumeration_number}
 use Rattle.tm_typed.specs.Scopes.{Scope, Structure, structure, named_here, tagged_here, is_complete, cells_of}
-use Rattle.tm_typed.specs.Scopes.{abstract_cells_of, size_of, alignment_of}
+use Rattle.tm_typed.specs.Scopes.{abstract_cells_of, size_of, tight_size_of, alignment_of}
 use Rattle.tm_typed.specs.TypeRows.{number_in, clipped, wrapped}
 use Rattle.tm_typed.specs.States.{State, with_name, with_tag}
 use Rattle.tm_typed.specs.Evaluation.{measured, folded_value}
@@ -51,10 +52,11 @@ pub record Layout : Type 0 where
   pub cells : ℕ
   pub abstract_cells : ℕ
   pub size : ℕ
+  pub tight_size : ℕ
   pub alignment : ℕ
 
 abbrev pub no_layout : Layout
-no_layout = record { members = []; cells = 0; abstract_cells = 0; size = 0; alignment = 1 }
+no_layout = record { members = []; cells = 0; abstract_cells = 0; size = 0; tight_size = 0; alignment = 1 }
 
 -- the bytes that are left out before a multiple of a, at least 1
 abbrev pub padding : ℕ → ℕ → ℕ
@@ -64,6 +66,10 @@ padding n a = let b = max 1 a in (b - n % b) % b
 abbrev pub aligned : ℕ → ℕ → ℕ
 aligned n a = wrapped (n + padding n a)
 
+-- an alignment where that of `long long` is 4
+abbrev pub tight : ℕ → ℕ
+tight a = min 4 a
+
 -- one more member: it begins at the next cell, and at the next byte that its alignment allows
 abbrev pub with_member : Scope → Layout → Name → Qualified → Layout
 with_member scope l n q = record {
@@ -71,6 +77,7 @@ with_member scope l n q = record {
   cells = clipped (l.cells + cells_of scope q.number);
   abstract_cells = clipped (l.abstract_cells + abstract_cells_of scope q.number);
   size = wrapped (aligned l.size (alignment_of scope q.number) + size_of scope q.number);
+  tight_size = wrapped (aligned l.tight_size (tight (alignment_of scope q.number)) + tight_size_of scope q.number);
   alignment = max l.alignment (alignment_of scope q.number);
 }
 
@@ -109,6 +116,7 @@ completed_structure l = record {
   cells = l.cells;
   abstract_cells = l.abstract_cells;
   size = aligned l.size l.alignment;
+  tight_size = aligned l.tight_size (tight l.alignment);
   alignment = l.alignment;
 }
 
@@ -119,7 +127,7 @@ completed k l s = cond (structure s.scope k).complete s (with_structure k (compl
 abbrev pub opened_tag : State → Tag → Option Tagged → Result (ℕ × State) Refusal
 opened_tag s t None = let k = length s.scope.structs in
     Ok (k, opened k (record s { scope = with_struct_tag t.name s.scope }))
-opened_tag s t (Some Tagging.Enumeration) = refused Kinds.Redeclared t.place
+opened_tag s t (Some (Tagging.Enumeration z)) = refused Kinds.Redeclared t.place
 opened_tag s t (Some (Tagging.Structure k)) =
     row (structure s.scope k).opened Kinds.Redeclared t.place (Ok (k, opened k s))
 
@@ -161,7 +169,21 @@ enumerators s next (e ∷ es) = then_with (enumerator_rules s next e e.value) (�
 abbrev pub enumeration_tag : State → Option Tag → Result State Refusal
 enumeration_tag s None = Ok s
 enumeration_tag s (Some t) = row (is_some (tagged_here s.scope t.name)) Kinds.Redeclared t.place
-    (Ok (record s { scope = with_tag t.name Tagging.Enumeration s.scope }))
+    (Ok (record s { scope = with_tag t.name (Tagging.Enumeration false) s.scope }))
+
+-- whether a name names no negative constant
+abbrev pub is_from_zero : Named → Bool
+is_from_zero (Names.Enumerator (negsuc n)) = false
+is_from_zero _ = true
+
+-- whether all constants are from 0 on among the names of a scope behind so many others
+abbrev pub are_from_zero : ℕ → Scope → Bool
+are_from_zero before scope = list_all (λ b. is_from_zero b.named) (drop before scope.names)
+
+-- what the tag of an enumeration names from its `}` on
+abbrev pub with_enumeration : Option Tag → Bool → Scope → Scope
+with_enumeration (Some t) true scope = with_tag t.name (Tagging.Enumeration true) scope
+with_enumeration _ _ scope = scope
 
 abbrev pub enumeration : State → Option Tag → List EnumeratorTree → Result State Refusal
 enumeration s tag es = then_with (enumeration_tag s tag) (λ t. enumerators t (pos 0) es)
@@ -173,8 +195,10 @@ abbrev pub plain_rules : State → Said → Spec → Result (Said × State) Refu
 plain_rules s said spec = let scope = mentioned s.scope spec.word in
     then_with (word_rules scope said spec.place spec.word) (λ d. Ok (d, record s { scope = scope }))
 
-abbrev pub enumeration_said : Said → Result State Refusal → Result (Said × State) Refusal
-enumeration_said said r = then_with r (λ s. Ok (said_type said (plain (int_number Ints.Int)), s))
+-- what is said of an enumeration whose constants stand behind so many names
+abbrev pub enumeration_said : ℕ → Said → Option Tag → Result State Refusal → Result (Said × State) Refusal
+enumeration_said before said tag r = then_with r (λ s. let z = are_from_zero before s.scope in
+    Ok (said_type said (plain (enumeration_number z)), record s { scope = with_enumeration tag z s.scope }))
 
 -- what is said of the structure k, whose members are laid out
 abbrev pub structure_said : Said → ℕ → Layout × State → Said × State
@@ -184,7 +208,7 @@ abbrev mutual
   -- what a specifier says besides what is said so far
   pub specifier : State → Said → SpecifierTree → Result (Said × State) Refusal
   specifier s said (a_plain spec) = plain_rules s said spec
-  specifier s said (an_enum tag es p) = enumeration_said said (enumeration s tag es)
+  specifier s said (an_enum tag es p) = enumeration_said (length s.scope.names) said tag (enumeration s tag es)
   specifier s said (a_struct tag members p) = then_with (opened_by s tag) (λ o.
       then_with (laid_out o.1 no_layout members) (λ m. Ok (structure_said said o.0 m)))
 

@@ -7,7 +7,7 @@ use Rattle.tm_typed.specs.declared.types.CType.{CType}
 use Rattle.tm_typed.specs.declared.types.CType.TheVariants as Types
 use Rattle.tm_typed.specs.declared.types.TypeEntry.{TypeEntry}
 use Rattle.tm_typed.specs.Types.{no_type, is_same_int, bytes_of}
-use Rattle.tm_typed.specs.Scopes.{Scope, entry, cells_of, abstract_cells_of, size_of, alignment_of}
+use Rattle.tm_typed.specs.Scopes.{Scope, entry, cells_of, abstract_cells_of, size_of, tight_size_of, alignment_of}
 
 -- ## Numbers of cells and bytes
 
@@ -74,6 +74,13 @@ size_in scope (Types.Pointer q) = 4
 size_in scope (Types.Array e n) = wrapped (n * size_of scope e)
 size_in scope _ = 0
 
+-- .. where `long long` is aligned to 4
+abbrev pub tight_size_in : Scope → CType → ℕ
+tight_size_in scope (Types.Int t) = bytes_of t
+tight_size_in scope (Types.Pointer q) = 4
+tight_size_in scope (Types.Array e n) = wrapped (n * tight_size_of scope e)
+tight_size_in scope _ = 0
+
 abbrev pub alignment_in : Scope → CType → ℕ
 alignment_in scope (Types.Int t) = bytes_of t
 alignment_in scope (Types.Pointer q) = 4
@@ -97,6 +104,7 @@ row_in scope t = record {
   cells = cells_in scope t;
   abstract_cells = abstract_cells_in scope t;
   size = size_in scope t;
+  tight_size = tight_size_in scope t;
   alignment = alignment_in scope t;
   of_pointers = of_pointers_in scope t;
 }

@@ -50,4 +50,5 @@ typed_file_tree f = record {
   lengths = f.lengths.items;
   constants = f.constants.items;
   labels = f.labels.items;
+  sizes = f.sizes.items;
 }

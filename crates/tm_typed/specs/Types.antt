@@ -1,5 +1,5 @@
 -- The types that every file has: the table begins with them.
-use Rattle.std.specs.Prelude.{ℕ, ◌+◌, ◌==◌, Bool, false, List, [], ◌∷◌}
+use Rattle.std.specs.Prelude.{ℕ, ◌+◌, ◌==◌, Bool, false, cond, List, [], ◌∷◌}
 use Rattle.tm_trees.specs.tm_cint.declared.int_types.IntType.{IntType}
 use Rattle.tm_trees.specs.tm_cint.declared.int_types.IntType.TheVariants as Ints
 use Rattle.tm_typed.specs.declared.types.CType.TheVariants as Types
@@ -44,8 +44,8 @@ no_type = record {
   cells = 0;
   abstract_cells = 0;
   size = 0;
-  alignment =
-      0;
+  tight_size = 0;
+  alignment = 0;
   of_pointers = false;
 }
 
@@ -57,19 +57,31 @@ void_number = 0
 abbrev pub int_number : IntType → ℕ
 int_number t = int_index t + 1
 
+-- The number of the type of enumerations whose constants are all from 0 on. It is `int`; it has a row of its own since
+-- some compilers make it `unsigned int` (C99 6.7.2.2p4).
+abbrev pub enumerated_number : ℕ
+enumerated_number = 12
+
+-- the number of the type of an enumeration
+abbrev pub enumeration_number : Bool → ℕ
+enumeration_number is_from_zero = cond is_from_zero enumerated_number (int_number Ints.Int)
+
+abbrev pub is_enumerated : ℕ → Bool
+is_enumerated n = n == enumerated_number
+
 abbrev pub int_entry : IntType → TypeEntry
 int_entry t = record {
   ctype = Types.Int t;
   class = int_number t;
   cells = 1;
   abstract_cells = 1;
-  size =
-      bytes_of t;
+  size = bytes_of t;
+  tight_size = bytes_of t;
   alignment = bytes_of t;
   of_pointers = false;
 }
 
--- the types with which the table begins: `void`, and the integer types
+-- the types with which the table begins: `void`, the integer types, and `int` once more for enumerations
 abbrev pub first_types : List TypeEntry
 first_types =
     no_type
@@ -84,4 +96,5 @@ first_types =
     ∷ int_entry Ints.ULong
     ∷ int_entry Ints.LLong
     ∷ int_entry Ints.ULLong
+    ∷ int_entry Ints.Int
     ∷ []

@@ -131,6 +131,8 @@ pub struct TypedFile {
     pub constants: Vec<i128>,
     /// The labels of all `switch`es, converted.
     pub labels: Vec<i128>,
+    /// The places of each `sizeof` of a type whose size is another one where `long long` is aligned to 4.
+    pub sizes: Vec<Place>,
     /// All functions, each behind those that it calls.
     pub order: Vec<u32>,
 }
@@ -150,6 +152,7 @@ impl Drop for TypedFile {
             lengths: _lengths,
             constants: _constants,
             labels: _labels,
+            sizes: _sizes,
             order: _order,
         } = self;
     }

@@ -36,8 +36,8 @@ pub struct Binding {
 pub enum Tagged {
     /// A structure, by its number.
     Structure(u32),
-    /// An enumeration, whose type is `int`.
-    Enumeration,
+    /// An enumeration, whose type is `int`, and whether all its constants are from 0 on.
+    Enumeration { is_from_zero: bool },
 }
 
 /// A declaration of a tag.
@@ -73,6 +73,8 @@ pub struct StructEntry {
     pub abstract_cells: u32,
     /// Bytes modulo 2^32.
     pub size: u32,
+    /// Bytes likewise, where `long long` is aligned to 4, as on i386.
+    pub tight_size: u32,
     /// Bytes to a multiple of which its address is aligned.
     pub alignment: u32,
 }
@@ -87,6 +89,7 @@ impl Drop for StructEntry {
             cells: _cells,
             abstract_cells: _abstract_cells,
             size: _size,
+            tight_size: _tight_size,
             alignment: _alignment,
         } = self;
     }

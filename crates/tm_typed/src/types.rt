@@ -1,6 +1,6 @@
 //! Types (C99 6.2.5): numbers of rows in one table.
 ghost use Rattle.std.specs.Prelude.{◌≡◌};
-ghost use Rattle.tm_typed.specs.Types.{int_index, is_same_int, bytes_of};
+ghost use Rattle.tm_typed.specs.Types.{int_index, is_same_int, bytes_of, is_enumerated, enumeration_number};
 
 use tm_trees::IntType;
 
@@ -54,6 +54,8 @@ pub struct TypeEntry {
     pub abstract_cells: u32,
     /// Bytes modulo 2^32, likewise.
     pub size: u32,
+    /// Bytes likewise, where `long long` is aligned to 4, as on i386.
+    pub tight_size: u32,
     /// Bytes to a multiple of which an object's address is aligned, likewise.
     pub alignment: u32,
     /// A pointer, or an array of such.
@@ -112,4 +114,20 @@ pub fn bytes_of(of: IntType) -> u32
         IntType::Int | IntType::UInt | IntType::Long | IntType::ULong => 4,
         IntType::LLong | IntType::ULLong => 8,
     }
+}
+
+/// The number of the type of an enumeration (C99 6.7.2.2p4): that of `int`, or the row of its own for those whose
+/// constants are all from 0 on.
+pub fn enumeration_number(is_from_zero: bool) -> u32
+    ensures { result ≡ enumeration_number is_from_zero }
+{
+    if is_from_zero { 12 } else { 6 }
+}
+
+/// Whether this is the number of the type of the enumerations whose constants are all from 0 on, which is `int` here and
+/// `unsigned int` for some compilers.
+pub fn is_enumerated(number: u32) -> bool
+    ensures { result ≡ is_enumerated number }
+{
+    number == 12
 }

@@ -19,13 +19,14 @@ empty_file = record {
   lengths = [];
   constants = [];
   labels = [];
+  sizes = [];
 }
 
 -- a file is empty where none of its lists has an element
 pub empty : (f : TypedFile) → f.types.items ≡ [] → f.structs.items ≡ [] → f.statics.items ≡ [] → f.functions.items ≡ []
     → f.calls.items ≡ [] → f.tasks.items ≡ [] → f.mutexes.items ≡ [] → f.lengths.items ≡ [] → f.constants.items ≡ []
-    → f.labels.items ≡ [] → f.main ≡ None → typed_file_tree f ≡ empty_file
-empty f types structs statics functions calls tasks mutexes lengths constants labels main = cc
+    → f.labels.items ≡ [] → f.sizes.items ≡ [] → f.main ≡ None → typed_file_tree f ≡ empty_file
+empty f types structs statics functions calls tasks mutexes lengths constants labels sizes main = cc
 
 no_array : (element count : ℕ) → Types.Void ≡ Types.Array element count → 0 < 0
 no_array element count e = absurd (cc)

@@ -40,6 +40,7 @@ fn file(alloc: Global) -> TypedFile
         lengths: Vec::new(alloc),
         constants: Vec::new(alloc),
         labels: Vec::new(alloc),
+        sizes: Vec::new(alloc),
         order: Vec::new(alloc),
     }
 }

@@ -20,6 +20,7 @@ fn empty_file(alloc: Global) -> TypedFile {
         lengths: Vec::new(alloc),
         constants: Vec::new(alloc),
         labels: Vec::new(alloc),
+        sizes: Vec::new(alloc),
         order: Vec::new(alloc),
     }
 }

@@ -545,7 +545,7 @@ local_declared_locates m s said found (d ∷ ds) h k =
 tag_rules_continue : (m : ℕ) (s : State) (t : Tag) (o : Option Tagged) → IsLawfulState m s → OnAnswer (Continues m s) (tag_rules s t o)
 tag_rules_continue m s t None h = scope_continues m s (with_struct_tag t.name s.scope) h (struct_tag_follows s.scope t.name h.tables)
 tag_rules_continue m s t (Some (Tagging.Structure k)) h = continues_none m s h
-tag_rules_continue m s t (Some Tagging.Enumeration) h = tt
+tag_rules_continue m s t (Some (Tagging.Enumeration z)) h = tt
 
 file_form_continues : (m : ℕ) (s : State) (d : DeclarationTree) (t : Option Tag) → IsLawfulState m s → OnAnswer (Continues m s) (file_form s d t)
 file_form_continues m s d (Some t) h = tag_rules_continue m s t (tagged_here s.scope t.name) h

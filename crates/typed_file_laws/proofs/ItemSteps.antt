@@ -327,7 +327,7 @@ items_lawful f (i ∷ is) h = then_on IsLawfulFile IsLawfulFile (item_in f i) (�
 -- ## Before the first item
 
 int_row : (t : IntType) → IsRow first_scope (int_entry t)
-int_row t = record { made = tt; class = int_basic t; alike = form_of t; cells = refl; abstract_cells = refl; size = bytes_small t }
+int_row t = record { made = tt; class = omega (arith, int_basic t); alike = form_of t; cells = refl; abstract_cells = refl; size = bytes_small t }
   where
     form_of : (t : IntType) → form (ctype_of first_scope (int_number t)) ≡ form (Types.Int t)
     form_of Ints.Bool = refl
@@ -352,12 +352,12 @@ IsBasic (Types.Int t) = Unit {0}
 IsBasic t = ⊥
 
 abbrev all_ints : List IntType
-all_ints = Ints.Bool ∷ Ints.Char ∷ Ints.UChar ∷ Ints.Short ∷ Ints.UShort ∷ Ints.Int ∷ Ints.UInt ∷ Ints.Long ∷ Ints.ULong ∷ Ints.LLong ∷ Ints.ULLong ∷ []
+all_ints = Ints.Bool ∷ Ints.Char ∷ Ints.UChar ∷ Ints.Short ∷ Ints.UShort ∷ Ints.Int ∷ Ints.UInt ∷ Ints.Long ∷ Ints.ULong ∷ Ints.LLong ∷ Ints.ULLong ∷ Ints.Int ∷ []
 
 first_all : (P : TypeEntry → Type 0) → P no_type → ((t : IntType) → P (int_entry t)) → All P first_types
 first_all P v i = All-cons P no_type (map int_entry all_ints) v (All-map P int_entry all_ints (λ k d l. i (get_or all_ints k d)))
 
-first_basic : (n : ℕ) → n < 12 → IsBasic (ctype_of first_scope n)
+first_basic : (n : ℕ) → n < 13 → IsBasic (ctype_of first_scope n)
 first_basic n l = All-get_or (λ (e : TypeEntry). IsBasic e.ctype) first_types n no_type l (first_all (λ (e : TypeEntry). IsBasic e.ctype) tt (λ t. tt))
 
 first_tables : AreLawfulTables first_scope

@@ -26,7 +26,7 @@ use Rattle.tm_laid.specs.tm_typed.declared.operands.Sort.{Sort}
 use Rattle.tm_laid.specs.tm_typed.declared.operands.Sort.TheVariants as Sorts
 use Rattle.tm_laid.specs.tm_typed.declared.expressions.Step.{Step}
 use Rattle.tm_laid.specs.tm_typed.declared.expressions.Unary.TheVariants as Unaries
-use Rattle.tm_laid.specs.tm_typed.Types.{is_same_int}
+use Rattle.tm_laid.specs.tm_typed.Types.{is_same_int, is_enumerated}
 use Rattle.tm_laid.specs.tm_typed.Scopes.{Scope, Function, entry, ctype_of, is_same_type, is_complete, member_of}
 use Rattle.tm_laid.specs.tm_typed.TypedTrees.{RvalueTree, a_null, the_same, a_unary, a_binary, a_not, an_and, an_or}
 use Rattle.tm_laid.specs.tm_typed.TypedTrees.{a_choice, an_input_value, a_conversion, LvalueTree, an_object, an_element}
@@ -423,12 +423,18 @@ module _ (o : ℕ → Bool) (c : List ℕ) where
 
   -- ## Casts
 
-  cast_integer_mentions : (p : Place) (t : IntType) (v : Rated) (s : Sort) → Mentions o c v.value → Gives (Rules.cast_to_integer p t v s)
-  cast_integer_mentions p t v (Sorts.Integer from f) h = integer_mentions t (fold_converted t f) (a_conversion from t v.value p) p h
-  cast_integer_mentions p t v (Sorts.Pointer q) h = tt
-  cast_integer_mentions p t v Sorts.Null h = tt
-  cast_integer_mentions p t v (Sorts.Structure k) h = tt
-  cast_integer_mentions p t v Sorts.Nothing h = tt
+  cast_form_mentions : (b : Bool) (e : RvalueTree) (p : Place) → Mentions o c e → Mentions o c (Rules.cast_form b e p)
+  cast_form_mentions true e p h = h
+  cast_form_mentions false e p h = h
+
+  cast_integer_mentions : (p : Place) (t : IntType) (b : Bool) (v : Rated) (s : Sort) → Mentions o c v.value → Gives (Rules.cast_to_integer p t b v s)
+  cast_integer_mentions p t b v (Sorts.Integer from f) h =
+      let e : RvalueTree = a_conversion from t v.value p in
+      integer_mentions t (fold_converted t f) (Rules.cast_form b e p) p (cast_form_mentions b e p h)
+  cast_integer_mentions p t b v (Sorts.Pointer q) h = tt
+  cast_integer_mentions p t b v Sorts.Null h = tt
+  cast_integer_mentions p t b v (Sorts.Structure k) h = tt
+  cast_integer_mentions p t b v Sorts.Nothing h = tt
 
   null_or : (b : Bool) (p : Place) (s : Sort) (r : Result OperandTree Refusal) → Gives r → Gives (cond b (made (a_null p) s p) r)
   null_or true p s r h = tt
@@ -443,17 +449,17 @@ module _ (o : ℕ → Bool) (c : List ℕ) where
   cast_pointer_mentions scope p q v (Sorts.Structure k) h = tt
   cast_pointer_mentions scope p q v Sorts.Nothing h = tt
 
-  cast_by_mentions : (scope : Scope) (p : Place) (v : Rated) (t : CType) → Mentions o c v.value → Gives (Rules.cast_by scope p v t)
-  cast_by_mentions scope p v Types.Void h = h
-  cast_by_mentions scope p v (Types.Int t) h = cast_integer_mentions p t v v.sort h
-  cast_by_mentions scope p v (Types.Pointer q) h = cast_pointer_mentions scope p q v v.sort h
-  cast_by_mentions scope p v (Types.Array e n) h = tt
-  cast_by_mentions scope p v (Types.Struct k) h = tt
+  cast_by_mentions : (scope : Scope) (p : Place) (b : Bool) (v : Rated) (t : CType) → Mentions o c v.value → Gives (Rules.cast_by scope p b v t)
+  cast_by_mentions scope p b v Types.Void h = h
+  cast_by_mentions scope p b v (Types.Int t) h = cast_integer_mentions p t b v v.sort h
+  cast_by_mentions scope p b v (Types.Pointer q) h = cast_pointer_mentions scope p q v v.sort h
+  cast_by_mentions scope p b v (Types.Array e n) h = tt
+  cast_by_mentions scope p b v (Types.Struct k) h = tt
 
   pub cast_mentions : (scope : Scope) (p : Place) (to : CastType) (v : Rated) → Mentions o c v.value → Gives (Rules.cast_rules scope p to v)
   cast_mentions scope p to v h =
       null_or (to.is_void_pointer && is_integer v.sort && is_null v.sort) p Sorts.Null _
-      (on_row Says to.is_left_out Kinds.Unsupported p _ (λ e. cast_by_mentions scope p v (ctype_of scope to.of.number) h))
+      (on_row Says to.is_left_out Kinds.Unsupported p _ (λ e. cast_by_mentions scope p (is_enumerated to.of.number) v (ctype_of scope to.of.number) h))
 
   -- ## Calls
 

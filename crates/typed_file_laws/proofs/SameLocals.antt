@@ -73,7 +73,7 @@ typed_same s t = then_any (λ (a : OperandTree × State). a.1.locals ≡ s.local
 
 measured_same : (s : State) (t : Tree) → OnAnswer (λ (a : OperandTree × State). a.1.locals ≡ s.locals) (measured s t)
 measured_same s t = then_any (λ (a : OperandTree × State). a.1.locals ≡ s.locals) (typing type_of_name (prepared s.scope t) s.site t)
-    (λ o. Ok (o, record s { scope = prepared s.scope t })) (λ o. refl)
+    _ (λ o. refl)
 
 -- ## Declarators
 
@@ -115,7 +115,7 @@ members_same s l q (d ∷ ds) =
 
 tag_same : (s : State) (t : Tag) (o : Option Tagged) → OnAnswer (λ (a : ℕ × State). a.1.locals ≡ s.locals) (opened_tag s t o)
 tag_same s t None = refl
-tag_same s t (Some Tagging.Enumeration) = tt
+tag_same s t (Some (Tagging.Enumeration z)) = tt
 tag_same s t (Some (Tagging.Structure k)) = on_row (λ (a : ℕ × State). a.1.locals ≡ s.locals) (structure s.scope k).opened Kinds.Redeclared t.place (Ok (k, opened k s)) (λ e. refl)
 
 opens_same : (s : State) (t : Option Tag) → OnAnswer (λ (a : ℕ × State). a.1.locals ≡ s.locals) (opened_by s t)
@@ -282,7 +282,7 @@ file_declared_same s said (d ∷ ds) =
 tag_rules_same : (s : State) (t : Tag) (o : Option Tagged) → OnAnswer (SameState s) (tag_rules s t o)
 tag_rules_same s t None = refl
 tag_rules_same s t (Some (Tagging.Structure k)) = refl
-tag_rules_same s t (Some Tagging.Enumeration) = tt
+tag_rules_same s t (Some (Tagging.Enumeration z)) = tt
 
 file_form_same : (s : State) (d : DeclarationTree) (t : Option Tag) → OnAnswer (SameState s) (file_form s d t)
 file_form_same s d (Some t) = tag_rules_same s t (tagged_here s.scope t.name)

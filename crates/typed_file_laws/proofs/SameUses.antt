@@ -62,7 +62,7 @@ moved_state s t (Ok u) same h = h ∙ same
 
 pub measured_same : (s : State) (t : Tree) → OnAnswer (λ (a : OperandTree × State). kept_in a.1 ≡ kept_in s) (measured s t)
 measured_same s t = then_any (λ (a : OperandTree × State). kept_in a.1 ≡ kept_in s) (typing type_of_name (prepared s.scope t) s.site t)
-    (λ o. Ok (o, record s { scope = prepared s.scope t })) (λ o. refl)
+    _ (λ o. refl)
 
 -- ## Declarators
 
@@ -104,7 +104,7 @@ members_same s l q (d ∷ ds) =
 
 tag_same : (s : State) (t : Tag) (o : Option Tagged) → OnAnswer (λ (a : ℕ × State). kept_in a.1 ≡ kept_in s) (opened_tag s t o)
 tag_same s t None = refl
-tag_same s t (Some Tagging.Enumeration) = tt
+tag_same s t (Some (Tagging.Enumeration z)) = tt
 tag_same s t (Some (Tagging.Structure k)) = on_row (λ (a : ℕ × State). kept_in a.1 ≡ kept_in s) (structure s.scope k).opened Kinds.Redeclared t.place (Ok (k, opened k s)) (λ e. refl)
 
 opens_same : (s : State) (t : Option Tag) → OnAnswer (λ (a : ℕ × State). kept_in a.1 ≡ kept_in s) (opened_by s t)
@@ -202,4 +202,4 @@ linked_same s d b None = unless_same (with_linkage (new_static s d b) d (length 
 pub tag_rules_same : (s : State) (t : Tag) (o : Option Tagged) → OnAnswer (SameState s) (tag_rules s t o)
 tag_rules_same s t None = refl
 tag_rules_same s t (Some (Tagging.Structure k)) = refl
-tag_rules_same s t (Some Tagging.Enumeration) = tt
+tag_rules_same s t (Some (Tagging.Enumeration z)) = tt

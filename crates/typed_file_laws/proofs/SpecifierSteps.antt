@@ -25,7 +25,6 @@ use Rattle.tm_laid.specs.tm_typed.declared.scopes.Tagged.{Tagged}
 use Rattle.tm_laid.specs.tm_typed.declared.scopes.Tagged.TheVariants as Tagging
 use Rattle.tm_laid.specs.tm_typed.declared.specifiers.Said.{Said}
 use Rattle.tm_laid.specs.tm_typed.declared.specifiers.Shape.{Shape}
-use Rattle.tm_laid.specs.tm_typed.Types.{int_number}
 use Rattle.tm_laid.specs.tm_typed.Scopes.{Scope, structure, last_declared, tagged_here, is_complete}
 use Rattle.tm_laid.specs.tm_typed.TypeRows.{number_in}
 use Rattle.tm_laid.specs.tm_typed.TypedTrees.{OperandTree}
@@ -33,7 +32,7 @@ use Rattle.tm_laid.specs.tm_typed.Refusals.{then_with}
 use Rattle.tm_laid.specs.tm_typed.States.{State, in_scope, with_tag}
 use Rattle.tm_laid.specs.tm_typed.Evaluation.{measured, folded_value}
 use Rattle.tm_laid.specs.tm_typed.TypeNames.{bare, Made, pointed}
-use Rattle.tm_laid.specs.tm_typed.Specifiers.{nothing_said, said_type, plain, base, word_rules, mentioned}
+use Rattle.tm_laid.specs.tm_typed.Specifiers.{nothing_said, base, word_rules, mentioned}
 use Rattle.tm_laid.specs.tm_typed.Specifiers.{new_structure, with_struct_tag}
 use Rattle.tm_laid.specs.tm_typed.Declarators.{shaped, length_named, length_rules, lengths_behind, lengths_of, whole}
 use Rattle.tm_laid.specs.tm_typed.Declarators.{shape_in, declared, declared_pointers}
@@ -41,7 +40,7 @@ use Rattle.tm_laid.specs.tm_typed.Structures.{declared_place, is_no_object, Layo
 use Rattle.tm_laid.specs.tm_typed.Structures.{members_declared, with_structure, opened, completed_structure, completed}
 use Rattle.tm_laid.specs.tm_typed.Structures.{opened_tag, opened_by, value_named, with_enumerator, is_declared_here}
 use Rattle.tm_laid.specs.tm_typed.Structures.{enumerator_rules, enumerators, enumeration_tag, enumeration, plain_rules}
-use Rattle.tm_laid.specs.tm_typed.Structures.{enumeration_said, structure_said, specifier, specifiers, laid_out}
+use Rattle.tm_laid.specs.tm_typed.Structures.{are_from_zero, with_enumeration, enumeration_said, structure_said, specifier, specifiers, laid_out}
 use Rattle.tm_laid.specs.tm_typed.Structures.{specified}
 use Rattle.tm_laid.specs.tm_typed.WellTyped.{OnAnswer}
 use Rattle.typed_file_laws.specs.Tables.{IsType, IsTag, AreLawfulTables}
@@ -51,7 +50,7 @@ use Rattle.typed_file_laws.proofs.RuleSteps.{on_row, OnSome, on_row_unless, some
 use Rattle.typed_file_laws.proofs.TableGrowth.{type_stays}
 use Rattle.typed_file_laws.proofs.TableRows.{Follows, follows_none, follows_on}
 use Rattle.typed_file_laws.proofs.TableStructures.{new_structure_follows, struct_tag_follows, new_structure_count, struct_tag_count, IsUnknown, new_structure_unknown, struct_tag_unknown, restructured, opening, structure_at, opening_follows, IsLayout, no_members_yet, layout_stays, member_laid, laid_follows}
-use Rattle.typed_file_laws.proofs.TypeShapes.{last_stands, some_map, IsSaid, said_stays, int_is_type, base_type, word_said, word_follows, aliases_stay, shaped_makes, bare_makes, stars_make}
+use Rattle.typed_file_laws.proofs.TypeShapes.{last_stands, some_map, IsSaid, said_stays, enumeration_is_type, base_type, word_said, word_follows, aliases_stay, shaped_makes, bare_makes, stars_make}
 use Rattle.typed_file_laws.proofs.StateSteps.{rescoped_lawful, rescoped_grows, Continues, continues_none, continues_on, scope_continues, name_continues, lengths_noted, aliases_stand, Evaluates, measured_continues}
 
 -- ## One step after the other
@@ -179,7 +178,7 @@ tag_opens : (m : ℕ) (s : State) (t : Tag) (o : Option Tagged) → IsLawfulStat
 tag_opens m s t None h i =
     open_new m s (with_struct_tag t.name s.scope) h (struct_tag_follows s.scope t.name h.tables) (length s.scope.structs)
     (struct_tag_count s.scope t.name) (struct_tag_unknown s.scope t.name)
-tag_opens m s t (Some Tagging.Enumeration) h i = tt
+tag_opens m s t (Some (Tagging.Enumeration z)) h i = tt
 tag_opens m s t (Some (Tagging.Structure k)) h i =
     on_row (Opens m s) (structure s.scope k).opened Kinds.Redeclared t.place (Ok (k, opened k s)) (λ e.
     open_new m s s.scope h (follows_none s.scope h.tables) k i (unopened s.scope h.tables k i e))
@@ -238,8 +237,8 @@ tagged_follows v n t h i =
 enumeration_tag_continues : (m : ℕ) (s : State) (t : Option Tag) → IsLawfulState m s → OnAnswer (Continues m s) (enumeration_tag s t)
 enumeration_tag_continues m s None h = continues_none m s h
 enumeration_tag_continues m s (Some t) h =
-    on_row (Continues m s) (is_some (tagged_here s.scope t.name)) Kinds.Redeclared t.place (Ok (record s { scope = with_tag t.name Tagging.Enumeration s.scope }))
-    (λ a. scope_continues m s (with_tag t.name Tagging.Enumeration s.scope) h (tagged_follows s.scope t.name Tagging.Enumeration h.tables tt))
+    on_row (Continues m s) (is_some (tagged_here s.scope t.name)) Kinds.Redeclared t.place (Ok (record s { scope = with_tag t.name (Tagging.Enumeration false) s.scope }))
+    (λ a. scope_continues m s (with_tag t.name (Tagging.Enumeration false) s.scope) h (tagged_follows s.scope t.name (Tagging.Enumeration false) h.tables tt))
 
 enumeration_continues : (m : ℕ) (s : State) (t : Option Tag) (es : List EnumeratorTree) → IsLawfulState m s → OnAnswer (Continues m s) (enumeration s t es)
 enumeration_continues m s t es h =
@@ -260,9 +259,20 @@ plain_says m s said spec h i =
     (word_said w f.lawful (aliases_stay s.scope w f (aliases_stand m s h)) said spec.place spec.word (said_stays s.scope w f.grown said i))
     (λ d k. (scope_continues m s w h f, k))
 
-enumeration_says : (m : ℕ) (s : State) (said : Said) (r : Result State Refusal) → OnAnswer (Continues m s) r → OnAnswer (Says m s) (enumeration_said said r)
-enumeration_says m s said r h =
-    then_on (Continues m s) (Says m s) r (λ t. Ok (said_type said (plain (int_number Ints.Int)), t)) h (λ t c. (c, int_is_type t.scope c.lawful.tables Ints.Int))
+with_enumeration_follows : (v : Scope) (t : Option Tag) (z : Bool) → AreLawfulTables v → Follows v (with_enumeration t z v)
+with_enumeration_follows v None z h = follows_none v h
+with_enumeration_follows v (Some t) false h = follows_none v h
+with_enumeration_follows v (Some t) true h = tagged_follows v t.name (Tagging.Enumeration true) h tt
+
+enumeration_says : (m n : ℕ) (s : State) (said : Said) (tag : Option Tag) (r : Result State Refusal) → OnAnswer (Continues m s) r → OnAnswer (Says m s) (enumeration_said n said tag r)
+enumeration_says m n s said tag r h =
+    then_on (Continues m s) (Says m s) r _ h (λ t c.
+    let z : Bool = are_from_zero n t.scope in
+    let w : Scope = with_enumeration tag z t.scope in
+    let f : Follows t.scope w = with_enumeration_follows t.scope tag z c.lawful.tables in (
+      continues_on m s t (record t { scope = w }) c (scope_continues m t w c.lawful f),
+      enumeration_is_type w f.lawful z,
+    ))
 
 -- what a structure's members make of its specifier
 structure_says : (m : ℕ) (s : State) (said : Said) (k : ℕ) (a : Layout × State) → Lays m s a → k < length a.1.scope.structs → Says m s (structure_said said k a)
@@ -275,7 +285,7 @@ structure_says m s said k a i o =
 mutual
   specifier_says : (m : ℕ) (s : State) (said : Said) (x : SpecifierTree) → IsLawfulState m s → IsSaid s.scope said → OnAnswer (Says m s) (specifier s said x)
   specifier_says m s said (a_plain spec) h i = plain_says m s said spec h i
-  specifier_says m s said (an_enum tag es p) h i = enumeration_says m s said (enumeration s tag es) (enumeration_continues m s tag es h)
+  specifier_says m s said (an_enum tag es p) h i = enumeration_says m (length s.scope.names) s said tag (enumeration s tag es) (enumeration_continues m s tag es h)
   specifier_says m s said (a_struct tag members p) h i =
       then_on (Opens m s) (Says m s) (opened_by s tag) (λ o. then_with (laid_out o.1 no_layout members) (λ a. Ok (structure_said said o.0 a))) (opens m s tag h) (λ o j.
       then_on (Lays m o.1) (Says m s) (laid_out o.1 no_layout members) (λ a. Ok (structure_said said o.0 a)) (members_are_laid m o.1 no_layout members j.0.lawful (no_members_yet o.1.scope)) (λ a k.

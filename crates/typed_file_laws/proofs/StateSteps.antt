@@ -37,6 +37,7 @@ use Rattle.tm_laid.specs.tm_typed.TypedTrees.{OperandTree}
 use Rattle.tm_laid.specs.tm_typed.States.{Static, State, in_scope, with_name}
 use Rattle.tm_laid.specs.tm_typed.Typing.{typing, calls}
 use Rattle.tm_laid.specs.tm_typed.TypeNames.{type_of_name, prepared}
+use Rattle.tm_laid.specs.tm_typed.Sizes.{sizes_of}
 use Rattle.tm_laid.specs.tm_typed.Uses.{uses_of, argument_uses, named_use, called_use, prefix_uses}
 use Rattle.tm_laid.specs.tm_typed.Constants.{operand_constants}
 use Rattle.tm_laid.specs.tm_typed.Evaluation.{evaluated, typed_in, measured}
@@ -248,13 +249,13 @@ name_continues m s n x h b =
     }
 
 -- what else a state keeps
-abbrev pub noted : State → ℕ → List Use → List ℕ → List ℤ → List ℤ → State
-noted s site uses lengths constants labels = record s { site = site; uses = uses; lengths = lengths; constants = constants; labels = labels }
+abbrev pub noted : State → ℕ → List Use → List ℕ → List ℤ → List ℤ → List Place → State
+noted s site uses lengths constants labels sizes = record s { site = site; uses = uses; lengths = lengths; constants = constants; labels = labels; sizes = sizes }
 
-pub noted_continues : (m : ℕ) (s : State) (site : ℕ) (uses : List Use) (lengths : List ℕ) (constants labels : List ℤ) → IsLawfulState m s → AreUses s uses
-    → All IsNumber constants → All IsNumber labels → Continues m s (noted s site uses lengths constants labels)
-noted_continues m s site uses lengths constants labels h us cs ls =
-    let t : State = noted s site uses lengths constants labels in
+pub noted_continues : (m : ℕ) (s : State) (site : ℕ) (uses : List Use) (lengths : List ℕ) (constants labels : List ℤ) (sizes : List Place) → IsLawfulState m s → AreUses s uses
+    → All IsNumber constants → All IsNumber labels → Continues m s (noted s site uses lengths constants labels sizes)
+noted_continues m s site uses lengths constants labels sizes h us cs ls =
+    let t : State = noted s site uses lengths constants labels sizes in
     let k : Keeps s t = record { grown = grow_none s.scope; functions = omega arith; objects = λ o n e. e; statics = omega arith } in record {
       lawful = record {
         tables = h.tables;
@@ -276,17 +277,21 @@ noted_continues m s site uses lengths constants labels h us cs ls =
       locals = sym (append-nil s.locals);
     }
 
--- an evaluated expression leaves its calls, uses and constants behind
-pub noted_from : (m : ℕ) (s : State) (site : ℕ) (uses : List Use) (constants : List ℤ) → IsLawfulState m s → AreUses s uses → All IsNumber constants
-    → Continues m s (record s { site = site; uses = s.uses ++ uses; constants = s.constants ++ constants })
-noted_from m s site uses constants h us cs = noted_continues m s site (s.uses ++ uses) s.lengths (s.constants ++ constants) s.labels h
+-- an evaluated expression leaves its calls, uses, constants and sizes behind
+pub noted_from : (m : ℕ) (s : State) (site : ℕ) (uses : List Use) (constants : List ℤ) (sizes : List Place) → IsLawfulState m s → AreUses s uses → All IsNumber constants
+    → Continues m s (record s { site = site; uses = s.uses ++ uses; constants = s.constants ++ constants; sizes = s.sizes ++ sizes })
+noted_from m s site uses constants sizes h us cs = noted_continues m s site (s.uses ++ uses) s.lengths (s.constants ++ constants) s.labels (s.sizes ++ sizes) h
     (All-append (λ (u : Use). IsUse s u.used) s.uses uses h.uses us) (All-append IsNumber s.constants constants h.constants cs) h.labels
 
 pub lengths_noted : (m : ℕ) (s : State) (lengths : List ℕ) → IsLawfulState m s → Continues m s (record s { lengths = lengths })
-lengths_noted m s lengths h = noted_continues m s s.site s.uses lengths s.constants s.labels h h.uses h.constants h.labels
+lengths_noted m s lengths h = noted_continues m s s.site s.uses lengths s.constants s.labels s.sizes h h.uses h.constants h.labels
 
 pub label_noted : (m : ℕ) (s : State) (z : ℤ) → IsLawfulState m s → IsNumber z → Continues m s (record s { labels = s.labels ++ z ∷ [] })
-label_noted m s z h n = noted_continues m s s.site s.uses s.lengths s.constants (s.labels ++ z ∷ []) h h.uses h.constants (All-push IsNumber s.labels z h.labels n)
+label_noted m s z h n = noted_continues m s s.site s.uses s.lengths s.constants (s.labels ++ z ∷ []) s.sizes h h.uses h.constants (All-push IsNumber s.labels z h.labels n)
+
+-- a measured one leaves its sizes behind
+pub sizes_noted : (m : ℕ) (s : State) (sizes : List Place) → IsLawfulState m s → Continues m s (record s { sizes = s.sizes ++ sizes })
+sizes_noted m s sizes h = noted_continues m s s.site s.uses s.lengths s.constants s.labels (s.sizes ++ sizes) h h.uses h.constants h.labels
 
 -- ## Uses
 
@@ -445,7 +450,7 @@ typed_continues m s t h =
     (typing_fits type_of_name (context m u) (lawful_context m u c.lawful) s.site t)
     (λ o w. (
       continues_on m s u (evaluated s u.scope t o) c
-          (noted_from m u (s.site + calls t) (uses_of u.scope t) (operand_constants o) c.lawful
+          (noted_from m u (s.site + calls t) (uses_of u.scope t) (operand_constants o) (sizes_of u.scope t) c.lawful
           (uses_stand m u (names_stand m u c.lawful) t) (operand_numbers (context m u) o w)),
       w,
     ))
@@ -454,6 +459,6 @@ pub measured_continues : (m : ℕ) (s : State) (t : Tree) → IsLawfulState m s 
 measured_continues m s t h =
     let u : State = prepared_state s t in
     let c : Continues m s u = prepared_continues m s t h in
-    then_on (IsOperand (context m u)) (Evaluates m s) (typing type_of_name u.scope s.site t) (λ o. Ok (o, record s { scope = u.scope }))
+    then_on (IsOperand (context m u)) (Evaluates m s) (typing type_of_name u.scope s.site t) _
     (typing_fits type_of_name (context m u) (lawful_context m u c.lawful) s.site t)
-    (λ o w. (c, w))
+    (λ o w. (continues_on m s u (record u { sizes = u.sizes ++ sizes_of u.scope t }) c (sizes_noted m u (sizes_of u.scope t) c.lawful), w))

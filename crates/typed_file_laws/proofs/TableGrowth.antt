@@ -178,7 +178,7 @@ members_known v start (m ∷ ms) h = All-cons (λ (m : Member). is_complete v m.
 
 pub tag_stays : (v w : Scope) → TablesGrow v w → (t : Tagged) → IsTag v t → IsTag w t
 tag_stays v w g (Tagging.Structure k) h = omega (arith, h, g.count)
-tag_stays v w g Tagging.Enumeration h = tt
+tag_stays v w g (Tagging.Enumeration z) h = tt
 
 -- ## Numbers
 

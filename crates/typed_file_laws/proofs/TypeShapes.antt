@@ -35,7 +35,7 @@ use Rattle.tm_laid.specs.tm_typed.declared.scopes.Tagged.{Tagged}
 use Rattle.tm_laid.specs.tm_typed.declared.scopes.Tagged.TheVariants as Tagging
 use Rattle.tm_laid.specs.tm_typed.declared.specifiers.Said.{Said}
 use Rattle.tm_laid.specs.tm_typed.declared.specifiers.Shape.{Shape}
-use Rattle.tm_laid.specs.tm_typed.Types.{void_number, int_number}
+use Rattle.tm_laid.specs.tm_typed.Types.{void_number, int_number, enumeration_number}
 use Rattle.tm_laid.specs.tm_typed.Scopes.{Scope, or_else, last_declared, named, tagged, is_complete}
 use Rattle.tm_laid.specs.tm_typed.TypeRows.{with_type}
 use Rattle.tm_laid.specs.tm_typed.Specifiers.{nothing_said, said_qualifier, said_basic, integer_said, type_said, base}
@@ -130,6 +130,10 @@ int_basic Ints.ULLong = omega arith
 pub int_is_type : (v : Scope) → AreLawfulTables v → (t : IntType) → IsType v (int_number t)
 int_is_type v h t = let b = h.basic in let l = int_basic t in omega (arith, b, l)
 
+pub enumeration_is_type : (v : Scope) → AreLawfulTables v → (z : Bool) → IsType v (enumeration_number z)
+enumeration_is_type v h true = let b = h.basic in omega (arith, b)
+enumeration_is_type v h false = int_is_type v h Ints.Int
+
 pub void_is_type : (v : Scope) → AreLawfulTables v → IsType v void_number
 void_is_type v h = let b = h.basic in omega (arith, b)
 
@@ -172,12 +176,12 @@ alias_said v said p (Some (Names.Enumerator z)) h = tt
 struct_said : (v : Scope) → AreLawfulTables v → (said : Said) (p : Place) (t : Option Tagged) → OnSome (IsTag v) t → OnAnswer (IsSaid v) (struct_rules v said p t)
 struct_said v h said p None k = tt
 struct_said v h said p (Some (Tagging.Structure j)) k = h.numbers j k
-struct_said v h said p (Some Tagging.Enumeration) k = tt
+struct_said v h said p (Some (Tagging.Enumeration z)) k = tt
 
 enum_said : (v : Scope) → AreLawfulTables v → (said : Said) (p : Place) (t : Option Tagged) → OnAnswer (IsSaid v) (enum_rules said p t)
 enum_said v h said p None = tt
 enum_said v h said p (Some (Tagging.Structure j)) = tt
-enum_said v h said p (Some Tagging.Enumeration) = int_is_type v h Ints.Int
+enum_said v h said p (Some (Tagging.Enumeration z)) = enumeration_is_type v h z
 
 pub word_said : (v : Scope) → AreLawfulTables v → AreAliased v → (said : Said) (p : Place) (w : SpecWord) → IsSaid v said → OnAnswer (IsSaid v) (word_rules v said p w)
 word_said v h a said p (Specs.Storage storage) k = k

@@ -62,7 +62,7 @@ pub record IsStructure (scope : Scope) (s : Structure) : Type 0 where
 -- a tag of a structure names one
 abbrev pub IsTag : Scope → Tagged → Type 0
 IsTag scope (Tagging.Structure k) = k < length scope.structs
-IsTag scope Tagging.Enumeration = Unit {0}
+IsTag scope (Tagging.Enumeration z) = Unit {0}
 
 -- how many structures are complete
 abbrev pub complete_count : List Structure → ℕ
@@ -82,7 +82,7 @@ pub record AreRanked (scope : Scope) : Type 0 where
 
 -- The basic types, rows and structures are as they should be, each structure has a type, and tags name structures.
 pub record AreLawfulTables (scope : Scope) : Type 0 where
-  pub basic : 12 ≤ length scope.types
+  pub basic : 13 ≤ length scope.types
   pub rows : All (IsRow scope) scope.types
   pub structures : All (IsStructure scope) scope.structs
   pub numbers : (k : ℕ) → k < length scope.structs → IsType scope (number_in scope (Types.Struct k))

@@ -42,7 +42,7 @@ use Rattle.tm_typed.specs.TypeNames.{bare, pointed}
 use Rattle.tm_typed.specs.TypeRows.{with_type, clipped}
 use Rattle.tm_typed.specs.Specifiers.{base, nothing_said, word_rules, mentioned, new_structure, with_struct_tag}
 use Rattle.tm_typed.specs.Declarators.{length_named, length_rules, lengths_behind, lengths_of, shaped, whole, shape_in, declared, declared_pointers}
-use Rattle.tm_typed.specs.Structures.{Layout, no_layout, is_no_object, has_member, with_member, declared_place, member_rules, members_declared, with_structure, opened, completed_structure, completed, opened_tag, opened_by, value_named, with_enumerator, is_declared_here, enumerator_rules, enumerators, enumeration_tag, enumeration, plain_rules, enumeration_said, structure_said, specifier, specifiers, laid_out, specified}
+use Rattle.tm_typed.specs.Structures.{Layout, no_layout, is_no_object, has_member, with_member, declared_place, member_rules, members_declared, with_structure, opened, completed_structure, completed, opened_tag, opened_by, value_named, with_enumerator, is_declared_here, enumerator_rules, enumerators, enumeration_tag, are_from_zero, with_enumeration, enumeration, plain_rules, enumeration_said, structure_said, specifier, specifiers, laid_out, specified}
 use Rattle.tm_typed.specs.WellTyped.{OnAnswer}
 use Rattle.typing_laws.proofs.SameNames.{SameNames, same, same_then, type_same, structure_same, struct_tag_same, mentioned_same, pointed_same, shaped_same}
 use Rattle.typing_laws.proofs.Steps.{then_on, then_any}
@@ -126,7 +126,7 @@ completed_within n k l s h = completed_unless n (structure s.scope k).complete s
 opened_tag_within : (n : ℕ) (s : State) (t : Tag) (o : Option Tagged) → IsWithin n s → OnAnswer (Within n) (opened_tag s t o)
 opened_tag_within n s t None h =
     opened_within n (length s.scope.structs) (in_scope s (with_struct_tag t.name s.scope)) (in_same_scope n s (with_struct_tag t.name s.scope) (struct_tag_same t.name s.scope) h)
-opened_tag_within n s t (Some Tagging.Enumeration) h = tt
+opened_tag_within n s t (Some (Tagging.Enumeration z)) h = tt
 opened_tag_within n s t (Some (Tagging.Structure k)) h = row_on (Within {A = ℕ} n) (structure s.scope k).opened Kinds.Redeclared t.place (Ok (k, opened k s)) (opened_within n k s h)
 
 opened_by_within : (n : ℕ) (s : State) (tag : Option Tag) → IsWithin n s → OnAnswer (Within n) (opened_by s tag)
@@ -153,11 +153,16 @@ enumerators_within n s next (e ∷ es) h =
 enumeration_tag_within : (n : ℕ) (s : State) (tag : Option Tag) → IsWithin n s → OnAnswer (IsWithin n) (enumeration_tag s tag)
 enumeration_tag_within n s None h = h
 enumeration_tag_within n s (Some t) h =
-    row_on (IsWithin n) (is_some (tagged_here s.scope t.name)) Kinds.Redeclared t.place (Ok (in_scope s (with_tag t.name Tagging.Enumeration s.scope)))
+    row_on (IsWithin n) (is_some (tagged_here s.scope t.name)) Kinds.Redeclared t.place (Ok (in_scope s (with_tag t.name (Tagging.Enumeration false) s.scope)))
     (record { functions = h.functions; names = h.names; uses = h.uses })
 
 enumeration_within : (n : ℕ) (s : State) (tag : Option Tag) (es : List EnumeratorTree) → IsWithin n s → OnAnswer (IsWithin n) (enumeration s tag es)
 enumeration_within n s tag es h = then_on (IsWithin n) (IsWithin n) (enumeration_tag s tag) _ (enumeration_tag_within n s tag h) (λ t k. enumerators_within n t _ es k)
+
+with_enumeration_within : (n : ℕ) (s : State) (tag : Option Tag) (z : Bool) → IsWithin n s → IsWithin n (in_scope s (with_enumeration tag z s.scope))
+with_enumeration_within n s None z h = h
+with_enumeration_within n s (Some t) false h = h
+with_enumeration_within n s (Some t) true h = record { functions = h.functions; names = h.names; uses = h.uses }
 
 -- ## Specifiers
 
@@ -169,7 +174,8 @@ plain_within n s said spec h =
 mutual
   specifier_within : (n : ℕ) (s : State) (said : Said) (x : SpecifierTree) → IsWithin n s → OnAnswer (Within n) (specifier s said x)
   specifier_within n s said (a_plain spec) h = plain_within n s said spec h
-  specifier_within n s said (an_enum tag es p) h = then_on (IsWithin n) (Within n) (enumeration s tag es) _ (enumeration_within n s tag es h) (λ t k. k)
+  specifier_within n s said (an_enum tag es p) h = then_on (IsWithin n) (Within n) (enumeration s tag es) _ (enumeration_within n s tag es h)
+      (λ t k. with_enumeration_within n t tag (are_from_zero (length s.scope.names) t.scope) k)
   specifier_within n s said (a_struct tag members p) h =
       then_on (Within n) (Within n) (opened_by s tag) _ (opened_by_within n s tag h) (λ o k.
       then_on (Within n) (Within n) (laid_out o.1 no_layout members) _ (laid_out_within n o.1 no_layout members k) (λ m j.

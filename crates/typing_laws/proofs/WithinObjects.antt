@@ -213,7 +213,7 @@ local_declared_within n s said found (d ∷ ds) h =
 tag_within : (n : ℕ) (s : State) (t : Tag) (o : Option Tagged) → IsWithin n s → OnAnswer (IsWithin n) (tag_rules s t o)
 tag_within n s t None h = in_same_scope n s (with_struct_tag t.name s.scope) (struct_tag_same t.name s.scope) h
 tag_within n s t (Some (Tagging.Structure k)) h = h
-tag_within n s t (Some Tagging.Enumeration) h = tt
+tag_within n s t (Some (Tagging.Enumeration z)) h = tt
 
 file_form_within : (n : ℕ) (s : State) (d : DeclarationTree) (t : Option Tag) → IsWithin n s → OnAnswer (IsWithin n) (file_form s d t)
 file_form_within n s d (Some t) h = tag_within n s t (tagged_here s.scope t.name) h

@@ -171,5 +171,6 @@ typed_within n s t h =
 
 pub measured_within : (n : ℕ) (s : State) (t : Tree) → IsWithin n s → OnAnswer (Within n) (measured s t)
 measured_within n s t h =
-    then_any (Within n) (typing type_of_name (prepared s.scope t) s.site t) (λ o. Ok (o, in_scope s (prepared s.scope t)))
-    (λ o. in_same_scope n s (prepared s.scope t) (prepared_same s.scope t) h)
+    then_any (Within n) (typing type_of_name (prepared s.scope t) s.site t) _ (λ o.
+    let k = in_same_scope n s (prepared s.scope t) (prepared_same s.scope t) h in
+    record { functions = k.functions; names = k.names; uses = k.uses })

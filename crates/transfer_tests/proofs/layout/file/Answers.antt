@@ -17,8 +17,9 @@ returns c =
       lengths = c.new-8.result;
       constants = c.new-9.result;
       labels = c.new-10.result;
-      order = c.new-11.result;
+      sizes = c.new-11.result;
+      order = c.new-12.result;
     } in
     layable file
     (empty file c.new.ensures.items c.new-2.ensures.items c.new-3.ensures.items c.new-4.ensures.items c.new-5.ensures.items c.new-6.ensures.items
-    c.new-7.ensures.items c.new-8.ensures.items c.new-9.ensures.items c.new-10.ensures.items refl) c.new-11.ensures.items
+    c.new-7.ensures.items c.new-8.ensures.items c.new-9.ensures.items c.new-10.ensures.items c.new-11.ensures.items refl) c.new-12.ensures.items
