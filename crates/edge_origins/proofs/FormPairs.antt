@@ -1,16 +1,17 @@
 -- Operations and their forms.
-use Rattle.std.proofs.Common.{◌≡◌, ◌↔◌, IsTrue, true, false, ℕ, zero, suc, ◌+◌, ◌<◌, ◌≤◌, List, [], ◌∷◌, ◌++◌}
+use Rattle.std.proofs.Common.{◌≡◌, ◌↔◌, IsTrue, Bool, true, false, ℕ, zero, suc, ◌+◌, ◌<◌, ◌≤◌, List, [], ◌∷◌, ◌++◌}
 use Rattle.std.proofs.Common.{length, get_or, take, refl, sym, ap, subst, arith}
 use Rattle.std.proofs.lemmas.Bool.{false≢true}
 use Rattle.std.proofs.lemmas.List.{take_more, take_all}
 use Rattle.flow_graph.specs.declared.operations.Test.{Test}
+use Rattle.flow_graph.specs.declared.operations.Test.TheVariants as Tests
 use Rattle.flow_graph.specs.declared.operations.Operation.{Operation}
 use Rattle.flow_graph.specs.declared.operations.Operation.TheVariants as Op
 use Rattle.flow_graph.specs.declared.graphs.Edge.{Edge}
 use Rattle.path_origins.specs.declared.origins.Form.{Form}
 use Rattle.path_origins.specs.declared.origins.Form.TheVariants as Forms
 use Rattle.edge_origins.specs.declared.origins.EdgeOrigin.{EdgeOrigin}
-use Rattle.edge_origins.specs.Bodies.{HasForm, test_form, a_test, AreOf, of_none, of_more}
+use Rattle.edge_origins.specs.Bodies.{HasForm, a_test, AreOf, of_none, of_more}
 use Rattle.edge_origins.specs.Bodies.{a_base, a_binary, a_clear, a_constant, a_conversion, a_copy, a_follow, a_load}
 use Rattle.edge_origins.specs.Bodies.{a_lock, a_move, a_part, a_probe, a_skip, a_store, a_unary}
 use Rattle.edge_origins.specs.Bodies.{a_usable, a_volatile_load, a_yield, an_element, an_equality}
@@ -27,8 +28,8 @@ abbrev pub IsOf : Operation → Form → Type 0
 IsOf Op.Skip g = g ≡ Forms.Skip
 IsOf (Op.Const _ _) g = g ≡ Forms.Constant
 IsOf (Op.Copy _ _) g = g ≡ Forms.Copy
-IsOf (Op.Un _ _ _ _ _) g = g ≡ Forms.Unary
-IsOf (Op.Bin _ _ _ _ _ _) g = g ≡ Forms.Binary
+IsOf (Op.Un _ _ _ _ _) g = (b : Bool) × (g ≡ Forms.Unary b)
+IsOf (Op.Bin _ _ _ _ _ _) g = (b : Bool) × (g ≡ Forms.Binary b)
 IsOf (Op.BinPointers _ _ _ _) g = g ≡ Forms.Equality
 IsOf (Op.Convert _ _ _ _) g = g ≡ Forms.Conversion
 IsOf (Op.Base _ _) g = g ≡ Forms.Base
@@ -50,8 +51,8 @@ pub is_of : {op : Operation} {f : Form} → HasForm op f → IsOf op f
 is_of a_skip = refl
 is_of a_constant = refl
 is_of a_copy = refl
-is_of a_unary = refl
-is_of a_binary = refl
+is_of a_unary = (_, refl)
+is_of a_binary = (_, refl)
 is_of an_equality = refl
 is_of a_conversion = refl
 is_of a_base = refl
@@ -70,7 +71,7 @@ is_of a_probe = refl
 is_of a_move = tt
 is_of a_store = tt
 is_of an_initialiser = tt
-is_of a_test = tt
+is_of (a_test _) = tt
 
 -- an operation has not this form
 pub unformed : {op o : Operation} {form : Form} → op ≡ o → (HasForm o form → ⊥) → IsTrue false ↔ HasForm op form
@@ -78,9 +79,31 @@ unformed {op} {o} {form} same none =
     let At : Operation → Type 0 = λ p. HasForm p form in
     (λ no. absurd (false≢true no), λ h. absurd (none (subst At same h)))
 
--- a test has one form
-pub of_test : {t : Test} {f : Form} → HasForm (Op.Assume t) f → test_form t ≡ f
-of_test a_test = refl
+-- a test has this form
+pub test_formed : {test t : Test} {form f : Form} → test ≡ t → form ≡ f → HasForm (Op.Assume t) f
+    → IsTrue true ↔ HasForm (Op.Assume test) form
+test_formed {test} {t} {form} {f} same same_form h =
+    let At : Test → Type 0 = λ u. HasForm (Op.Assume u) form in
+    let Of : Form → Type 0 = λ g. HasForm (Op.Assume t) g in
+    (λ _. subst At (sym same) (subst Of (sym same_form) h), λ _. refl)
+
+-- the forms that a test has
+abbrev pub IsTestOf : Test → Form → Type 0
+IsTestOf (Tests.Pointers _ _ _) g = g ≡ Forms.EqualityTest
+IsTestOf test g = (b : Bool) × (g ≡ Forms.Test b)
+
+pub of_test : (t : Test) {f : Form} → HasForm (Op.Assume t) f → IsTestOf t f
+of_test (Tests.Numbers _ _ _ _) (a_test b) = (b, refl)
+of_test (Tests.Pointers _ _ _) (a_test b) = refl
+of_test (Tests.Truth _ _) (a_test b) = (b, refl)
+of_test (Tests.Case _ _ _) (a_test b) = (b, refl)
+
+-- a test has not this form
+pub test_unformed : {test t : Test} {form : Form} → test ≡ t → (HasForm (Op.Assume t) form → ⊥)
+    → IsTrue false ↔ HasForm (Op.Assume test) form
+test_unformed {test} {t} {form} same none =
+    let At : Test → Type 0 = λ u. HasForm (Op.Assume u) form in
+    (λ no. absurd (false≢true no), λ h. absurd (none (subst At same h)))
 
 -- ## In order
 

@@ -27,17 +27,17 @@ use Rattle.edge_origins.specs.declared.origins.BodyOrigins.{BodyOrigins}
 
 -- ## The forms of operations
 
--- the form of a test, and of an operation; a move tells of any type
-abbrev pub test_form : Test → Form
-test_form (Tests.Pointers equal left right) = Forms.EqualityTest
-test_form _ = Forms.Test
+-- the form of a test, and of an operation; a move tells of any type, and an operator of any operands
+abbrev pub test_form : Bool → Test → Form
+test_form b (Tests.Pointers equal left right) = Forms.EqualityTest
+test_form b _ = Forms.Test b
 
 pub data HasForm : Operation → Form → Type 0 where
   a_skip : HasForm Op.Skip Forms.Skip
   a_constant : {t : _} {v : _} → HasForm (Op.Const t v) Forms.Constant
   a_copy : {t f : _} → HasForm (Op.Copy t f) Forms.Copy
-  a_unary : {t o of f p : _} → HasForm (Op.Un t o of f p) Forms.Unary
-  a_binary : {t o of l r p : _} → HasForm (Op.Bin t o of l r p) Forms.Binary
+  a_unary : {t o of f p b : _} → HasForm (Op.Un t o of f p) (Forms.Unary b)
+  a_binary : {t o of l r p b : _} → HasForm (Op.Bin t o of l r p) (Forms.Binary b)
   an_equality : {t q l r : _} → HasForm (Op.BinPointers t q l r) Forms.Equality
   a_conversion : {t w of f : _} → HasForm (Op.Convert t w of f) Forms.Conversion
   a_base : {t o : _} → HasForm (Op.Base t o) Forms.Base
@@ -52,7 +52,7 @@ pub data HasForm : Operation → Form → Type 0 where
   any_value : {t l h : _} → HasForm (Op.Any t l h) Forms.Any
   a_clear : {o : _} → HasForm (Op.Clear o) Forms.Clear
   a_usable : {t p : _} → HasForm (Op.Usable t p) Forms.Usable
-  a_test : {t : _} → HasForm (Op.Assume t) (test_form t)
+  a_test : {t : _} → (b : _) → HasForm (Op.Assume t) (test_form b t)
   a_lock : {m p : _} → HasForm (Op.Lock m p) Forms.Lock
   an_unlock : {m p : _} → HasForm (Op.Unlock m p) Forms.Unlock
   a_yield : HasForm Op.Yield Forms.Yield

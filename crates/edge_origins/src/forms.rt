@@ -1,6 +1,6 @@
 //! The forms of operations.
-ghost use Rattle.std.specs.Prelude.{◌≡◌, ◌↔◌, IsTrue};
-ghost use Rattle.edge_origins.specs.Bodies.{HasForm, test_form};
+ghost use Rattle.std.specs.Prelude.{◌↔◌, IsTrue};
+ghost use Rattle.edge_origins.specs.Bodies.{HasForm};
 
 use flow_graph::{Operation, Test};
 use path_origins::Form;
@@ -13,8 +13,8 @@ pub(crate) fn has_form(operation: Operation, form: Form) -> bool
         Operation::Skip => matches!(form, Form::Skip),
         Operation::Const { .. } => matches!(form, Form::Constant),
         Operation::Copy { .. } => matches!(form, Form::Copy),
-        Operation::Un { .. } => matches!(form, Form::Unary),
-        Operation::Bin { .. } => matches!(form, Form::Binary),
+        Operation::Un { .. } => matches!(form, Form::Unary(_)),
+        Operation::Bin { .. } => matches!(form, Form::Binary(_)),
         Operation::BinPointers { .. } => matches!(form, Form::Equality),
         Operation::Convert { .. } => matches!(form, Form::Conversion),
         Operation::Base { .. } => matches!(form, Form::Base),
@@ -38,10 +38,12 @@ pub(crate) fn has_form(operation: Operation, form: Form) -> bool
 
 // Whether a test has a form.
 fn is_test(test: Test, form: Form) -> bool
-    ensures { IsTrue result ↔ test_form test ≡ form }
+    ensures { IsTrue result ↔ HasForm (Operation.Assume test) form }
 {
     match test {
         Test::Pointers { .. } => matches!(form, Form::EqualityTest),
-        Test::Numbers { .. } | Test::Truth { .. } | Test::Case { .. } => matches!(form, Form::Test),
+        Test::Numbers { .. } => matches!(form, Form::Test(_)),
+        Test::Truth { .. } => matches!(form, Form::Test(_)),
+        Test::Case { .. } => matches!(form, Form::Test(_)),
     }
 }

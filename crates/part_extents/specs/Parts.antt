@@ -1,9 +1,10 @@
 -- The parts of an object, from the whole down to a cell (C99 6.2.5p20): the type of a cell, whether it is declared
--- `const`, and the arrays into which pointers point.
+-- `const` or of an enumeration, and the arrays into which pointers point.
 use Rattle.std.specs.Prelude.{ℕ, zero, suc, ◌+◌, ◌*◌, ◌-◌, Bool, false, ◌&&◌, ◌==◌, cond, nat_lt}
 use Rattle.std.specs.Prelude.{Option, Some, None}
 use Rattle.tm_typed.specs.declared.types.CType.{CType}
 use Rattle.tm_typed.specs.declared.types.Qualified.{Qualified}
+use Rattle.tm_typed.specs.Types.{is_enumerated, enumeration_number}
 use Rattle.tm_laid.specs.TypeCells.{entry_of, cells_of_type}
 use Rattle.tm_laid.specs.Layouts.{LaidTree, object_at, abstract_at}
 use Rattle.source_names.specs.declared.steps.Inside.{Inside}
@@ -15,6 +16,10 @@ use Rattle.part_extents.specs.declared.extents.Extent.{Extent}
 -- types are made of others at most so deep
 abbrev pub deepest : ℕ
 deepest = 1024
+
+-- the number of a type, enumerations being `int` as they are here
+abbrev pub unenumerated : ℕ → ℕ
+unenumerated n = cond (is_enumerated n) (enumeration_number false) n
 
 -- ## Cells
 
@@ -39,6 +44,10 @@ module _ (laid : LaidTree) where
   -- the scalar is declared `const`, or what it is a part of: the qualifiers go down with the steps (C99 6.5.2.3p3)
   abbrev pub is_constant : Inside → Bool
   is_constant inside = (let i = innermost inside in (let q = i.of in q.constant))
+
+  -- the scalar is of an enumeration that compilers may make unsigned (C99 6.7.2.2p4)
+  abbrev pub is_of_enumeration : Inside → Bool
+  is_of_enumeration inside = (let i = innermost inside in (let q = i.of in is_enumerated q.number))
 
   -- an abstract cell in its object
   abbrev pub inside_of : ℕ → Inside

@@ -1,13 +1,13 @@
 //! The smallest parts of objects.
 ghost use Rattle.std.specs.Prelude.{◌≡◌};
 ghost use Rattle.tm_laid.specs.Layouts.{laid_tree};
-ghost use Rattle.part_extents.specs.Parts.{innermost, cell_type, is_constant};
+ghost use Rattle.part_extents.specs.Parts.{innermost, cell_type, is_constant, is_of_enumeration, unenumerated};
 ghost use Rattle.part_extents.specs.reading.Sought.{part_in};
 
 use crate::sizes::type_at;
 use source_names::{Down, Inside, step_down};
 use tm_laid::Laid;
-use tm_typed::CType;
+use tm_typed::{CType, enumeration_number, is_enumerated};
 
 // How deep types are made of others at most.
 const DEEPEST: usize = 1024;
@@ -48,4 +48,21 @@ pub fn is_constant(laid: &Laid, inside: Inside) -> bool
     ensures { result ≡ is_constant (laid_tree laid.now) inside }
 {
     innermost(laid, inside).of.constant
+}
+
+/// Whether the scalar in a part is of an enumeration that compilers may make unsigned (C99 6.7.2.2p4).
+pub fn is_of_enumeration(laid: &Laid, inside: Inside) -> bool
+    ensures { result ≡ is_of_enumeration (laid_tree laid.now) inside }
+{
+    is_enumerated(innermost(laid, inside).of.number)
+}
+
+/// The number of a type, enumerations being `int` as they are here.
+pub fn unenumerated(number: u32) -> u32
+    ensures { result ≡ unenumerated number }
+{
+    if is_enumerated(number) {
+        return enumeration_number(false);
+    }
+    number
 }

@@ -11,8 +11,10 @@ use Rattle.path_origins.specs.declared.origins.Span.{Span}
 use Rattle.path_origins.specs.declared.origins.Unsequenced.{Unsequenced}
 use Rattle.path_origins.specs.declared.origins.Reload.{Reload}
 use Rattle.path_origins.specs.declared.origins.Life.{Life}
+use Rattle.path_origins.specs.declared.origins.Passed.{Passed}
+use Rattle.path_origins.specs.declared.origins.Passed.TheVariants as Passes
 use Rattle.path_origins.specs.Noted.{Noted, span_by, operands_by, reload_by, overwrite_by, life_by, behind, span_of}
-use Rattle.path_origins.specs.Noted.{both, sequenced, scoped, ending, passing_if, overwrites_of, stored, one}
+use Rattle.path_origins.specs.Noted.{both, sequenced, scoped, ending, given_if, passing_if, overwrites_of, stored, one}
 use Rattle.path_origins.specs.Expressions.{against}
 use Rattle.path_origins.specs.Bodies.{fall}
 use Rattle.path_origins.specs.reading.Walks.{operands_added, reload_added, sequenced_from, stored_from, scoped_from}
@@ -173,13 +175,14 @@ life_behind l k a x e =
     same (life_added l (behind a x)) (behind a (life_added k x)) refl refl refl refl refl refl refl refl refl refl
     (pushed (life_by a.size) a.unended x.unended l k e)
 
--- ## Pointers that are given, and ends without `return`
+-- ## What is given, and ends without `return`
 
-pub passing_behind : (b : Bool) (p : Place) (a x : Noted) → passing_if b p (behind a x) ≡ behind a (passing_if b p x)
-passing_behind true p a x =
-    same (passing_if true p (behind a x)) (behind a (passing_if true p x)) refl refl refl refl refl refl refl refl
-    (append_assoc a.passings x.passings (record { place = p } ∷ [])) refl refl
-passing_behind false p a x = refl
+pub given_behind : (b : Bool) (g : Passed) (p : Place) (a x : Noted)
+    → given_if b g p (behind a x) ≡ behind a (given_if b g p x)
+given_behind true g p a x =
+    same (given_if true g p (behind a x)) (behind a (given_if true g p x)) refl refl refl refl refl refl refl refl
+    (append_assoc a.passings x.passings (record { place = p; passed = g } ∷ [])) refl refl
+given_behind false g p a x = refl
 
 pub fall_behind : (p : Place) (f : Form) (a : Noted) → behind (fall_added a) (one p f) ≡ behind a (fall p f)
 fall_behind p f a =
@@ -225,9 +228,13 @@ pub scoped_noted : (n : ℕ) (a b c x : Noted) → n ≡ length a.unended → b 
     → c ≡ behind a (scoped x)
 scoped_noted n a b c x e f g = g ∙ ap (scoped_from n) f ∙ scoped_behind n a x e
 
+pub given_noted : (is : Bool) (g : Passed) (p : Place) (a b c x : Noted) → b ≡ behind a x → c ≡ given_if is g p b
+    → c ≡ behind a (given_if is g p x)
+given_noted is g p a b c x e f = f ∙ ap (given_if is g p) e ∙ given_behind is g p a x
+
 pub passing_noted : (is : Bool) (p : Place) (a b c x : Noted) → b ≡ behind a x → c ≡ passing_if is p b
     → c ≡ behind a (passing_if is p x)
-passing_noted is p a b c x e f = f ∙ ap (passing_if is p) e ∙ passing_behind is p a x
+passing_noted is p a b c x e f = given_noted is Passes.Pointer p a b c x e f
 
 pub life_noted : (l k : Life) (a b c x : Noted) → l ≡ life_by a.size k → b ≡ behind a x → c ≡ life_added l b
     → c ≡ behind a (life_added k x)

@@ -1,29 +1,37 @@
 -- Local objects and their cells, one behind another, by numbers that are counted from the first edge of the body.
-use Rattle.std.proofs.Common.{◌≡◌, ℕ, zero, suc, ◌+◌, ◌-◌, ◌<◌, ◌≤◌, Bool, not, ◌&&◌, cond, List}
+use Rattle.std.proofs.Common.{◌≡◌, ℕ, zero, suc, ◌+◌, ◌-◌, ◌<◌, ◌≤◌, Bool, true, not, ◌&&◌, cond, List, [], ◌∷◌}
 use Rattle.std.proofs.Common.{length, map, drop, get_or, Option, Some, None, option_map, refl, ap, sym, ◌∙◌}
-use Rattle.std.proofs.Common.{add-zero, arith}
+use Rattle.std.proofs.Common.{add-zero, arith, ap₂, Result}
+use Rattle.std.specs.Prelude.{OnOk}
 use Rattle.std.proofs.lemmas.List.{drop_all}
+use Rattle.std.proofs.lemmas.Result.{on_ok_weaker}
 use Rattle.tm_terms.specs.declared.places.Place.{Place}
 use Rattle.tm_typed.specs.declared.types.Qualified.{Qualified}
+use Rattle.tm_typed.specs.declared.types.CType.{CType}
 use Rattle.tm_typed.specs.declared.statements.LocalObject.{LocalObject}
 use Rattle.tm_typed.specs.TypedStatements.{GivenTree, LocalInitialiserTree, LocalTree, local_tree}
 use Rattle.tm_laid.specs.Layouts.{LaidTree, object_of, object_at}
 use Rattle.tm_typed.specs.declared.scopes.ObjectNumber.TheVariants as Numbers
 use Rattle.body_builder.specs.concrete_steps.NextAction.{is_given, rest_of}
+use Rattle.body_builder.specs.concrete_steps.Places.{rvalue_place}
+use Rattle.part_extents.specs.Parts.{cell_type}
 use Rattle.body_builder.specs.lowering.Table.{is_scalar_object}
 use Rattle.path_origins.specs.declared.origins.Form.TheVariants as Forms
 use Rattle.path_origins.specs.declared.origins.Span.{Span}
 use Rattle.path_origins.specs.declared.origins.Life.{Life}
 use Rattle.path_origins.specs.declared.origins.Notes.{Notes}
-use Rattle.path_origins.specs.Noted.{Noted, nothing, behind, both, one, one_if, life_by, span_by}
-use Rattle.path_origins.specs.Statements.{cell_value, cell_stored, cells_stored, is_first, initialised}
+use Rattle.path_origins.specs.declared.types.Given.{Given}
+use Rattle.path_origins.specs.Types.{given, differs}
+use Rattle.path_origins.specs.Noted.{Noted, nothing, behind, both, one, one_if, passing_if, life_by, span_by}
+use Rattle.path_origins.specs.Expressions.{walked}
+use Rattle.path_origins.specs.Statements.{nowhere, cell_value, cell_stored, cells_stored, is_first, initialised}
 use Rattle.path_origins.specs.Statements.{initialiser_span, declared, all_declared}
 use Rattle.path_origins.specs.Shown.{shown}
 use Rattle.path_origins.specs.reading.Walks.{IsBehind, life_added}
 use Rattle.path_origins.specs.reading.Ends.{against_before}
 use Rattle.path_origins.specs.reading.Leaving.{span_from}
 use Rattle.path_origins.proofs.Laws.{nothing_behind, behind_still, then_behind}
-use Rattle.path_origins.proofs.Beside.{both_noted, life_noted}
+use Rattle.path_origins.proofs.Beside.{both_noted, passing_noted, life_noted}
 use Rattle.path_origins.proofs.Leaving.{next}
 
 -- what two edges span
@@ -32,6 +40,23 @@ span_at s first end e f = λ i. record { first = e i; end = f i }
 
 module _ (laid : LaidTree) (is_open : Place → Bool) (sizes : ℕ → ℕ) (path : ℕ) where
   -- ## Cells
+
+  -- the given value of a cell of an object of a type
+  pub given_cell_noted : {T E : Type 0} (q : Qualified) (g : GivenTree) (v : Given) (t : CType) (p : Place)
+      (r : Result T E) (a b c : Notes) → p ≡ rvalue_place g.value → v ≡ given laid is_open path g.value
+      → t ≡ cell_type laid (record { of = q; cell = g.cell })
+      → IsBehind a b (walked laid is_open sizes path true g.value).value
+      → OnOk r (shown c ≡ passing_if (differs v t) p (shown b))
+      → OnOk r (IsBehind a c (cell_value laid is_open sizes path q nowhere true (g ∷ [])))
+  given_cell_noted q g v t p r a b c ep ev et h k =
+      let x = (walked laid is_open sizes path true g.value).value in
+      let of = cell_type laid (record { of = q; cell = g.cell }) in
+      let own = rvalue_place g.value in
+      let is = differs (given laid is_open path g.value) of in
+      let same : differs v t ≡ is = ap₂ (λ (z : Given) (u : CType). differs z u) ev et in
+      on_ok_weaker r (λ (e : shown c ≡ passing_if (differs v t) p (shown b)).
+      passing_noted is own (shown a) (shown b) (shown c) x h
+      (e ∙ ap₂ (λ z (o : Place). passing_if z o (shown b)) same ep)) k
 
   -- a cell behind its base, its part and its value
   pub cell_noted : (o : ℕ) (q : Qualified) (p : Place) (k : ℕ) (gs : List GivenTree) (is found : Bool)

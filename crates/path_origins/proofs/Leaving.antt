@@ -228,7 +228,7 @@ module _ (laid : LaidTree) (is_open : Place → Bool) (sizes : ℕ → ℕ) (pat
 
   labels_by : (c : TypedCase) (cs : TypedCases) → labels_noted cs ≡ labels_tested laid is_open sizes path cs
       → labels_noted (and_typed_case c cs) ≡ labels_tested laid is_open sizes path (and_typed_case c cs)
-  labels_by (a_label z p) cs e = ap (behind (tests p Forms.Test)) e
+  labels_by (a_label z p) cs e = ap (behind (tests p (Forms.Test false))) e
   labels_by (a_default_label p) cs e = nothing_behind (labels_noted cs) ∙ e
   labels_by (a_labelled_step s) cs e = nothing_behind (labels_noted cs) ∙ e
 

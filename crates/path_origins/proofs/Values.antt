@@ -1,12 +1,14 @@
 -- What is noted of expressions for their values and as branches, step by step: a was noted before, and each further
 -- name stands for what is noted behind the next step.
 use Rattle.std.proofs.Common.{◌≡◌, ◌⊎◌, inl, inr, ℕ, suc, Bool, true, false, List, [], ◌∷◌, length, refl, ap, sym, ◌∙◌}
+use Rattle.std.proofs.Common.{ap₂}
 use Rattle.std.specs.Prelude.{ℤ, cond}
 use Rattle.tm_terms.specs.declared.places.Place.{Place}
 use Rattle.tm_typed.specs.declared.expressions.Rvalue.{Rvalue}
 use Rattle.tm_typed.specs.declared.expressions.Lvalue.{Lvalue}
 use Rattle.tm_typed.specs.declared.types.Qualified.{Qualified}
-use Rattle.tm_typed.specs.TypedTrees.{RvalueTree, a_folded, a_function_call, as_rvalues, rvalue_tree, lvalue_tree}
+use Rattle.tm_typed.specs.TypedTrees.{RvalueTree, RvalueTrees, a_folded, a_function_call, as_rvalues, rvalue_tree}
+use Rattle.tm_typed.specs.TypedTrees.{lvalue_tree}
 use Rattle.tm_laid.specs.Layouts.{LaidTree, callee}
 use Rattle.body_builder.specs.concrete_steps.NextAction.{function_at}
 use Rattle.body_builder.specs.concrete_steps.Places.{rvalue_place, result_type}
@@ -206,10 +208,19 @@ module _ (laid : LaidTree) (is_open : Place → Bool) (sizes : ℕ → ℕ) (pat
       (scoped (stores_and_body laid is_open sizes path to used count p)) same eb
       (ec ∙ ap (λ k. behind b (scoped (stores_and_body laid is_open sizes path to used k p))) (sym counted)) ed
 
+  -- what a call gives, by the path to which it leads
+  pub call_given : (u : RvalueTree) (f site : ℕ) (p : Place) (es : RvalueTrees) (to : ℕ) (g : Given)
+      → u ≡ a_function_call f site es p → to ≡ callee laid path site
+      → g ≡ given_by (function_at laid to).result (result_type laid (function_at laid to))
+      → g ≡ given laid is_open path u
+  call_given u f site p es to g tree goes e =
+      e ∙ ap (λ n. given_by (function_at laid n).result (result_type laid (function_at laid n))) goes
+      ∙ sym (ap (given laid is_open path) tree)
+
   -- the same of a list of arguments, for the path to which the call leads
   pub call_read : (w : Wanted) (used : Bool) (u : RvalueTree) (f site : ℕ) (p : Place) (xs : List Rvalue) (to n : ℕ)
       (is : Bool) (a b c d : Noted) → u ≡ a_function_call f site (as_rvalues xs) p → to ≡ callee laid path site
-      → is ≡ is_pointer (given_by (result_type laid (function_at laid (callee laid path site)))) → n ≡ length xs
+      → is ≡ is_pointer (given laid is_open path u) → n ≡ length xs
       → b ≡ behind a (sequenced (all_arguments laid is_open sizes path p (function_at laid to).parameters true nothing
       (as_rvalues xs)))
       → c ≡ behind b (scoped (stores_and_body laid is_open sizes path to used n p)) → d ≡ behind c (end_by w is p)
@@ -218,8 +229,9 @@ module _ (laid : LaidTree) (is_open : Place → Bool) (sizes : ℕ → ℕ) (pat
       let at : ℕ = callee laid path site in
       let x : Noted = all_arguments laid is_open sizes path p (function_at laid at).parameters true nothing
       (as_rvalues xs) in
-      call_noted w is (is_pointer (given_by (result_type laid (function_at laid at)))) p at (count_of (as_rvalues xs)) n
-      used a b c d x pointer (count_of-length xs ∙ sym counted)
+      let leads = a_function_call f site (as_rvalues xs) p in
+      call_noted w is (is_pointer (given laid is_open path leads)) p at (count_of (as_rvalues xs)) n used a b c d x
+      (pointer ∙ ap (λ v. is_pointer (given laid is_open path v)) tree) (count_of-length xs ∙ sym counted)
       (eb ∙ ap (λ k. behind a (sequenced (all_arguments laid is_open sizes path p (function_at laid k).parameters true
       nothing (as_rvalues xs)))) goes)
       (ec ∙ ap (λ k. behind b (scoped (stores_and_body laid is_open sizes path k used n p))) goes) ed
@@ -227,28 +239,29 @@ module _ (laid : LaidTree) (is_open : Place → Bool) (sizes : ℕ → ℕ) (pat
 
   -- ## Operators
 
-  operator_ended : (comparison : Bool) (w : Wanted) (p : Place) (x : Noted)
-      → behind x (operator_end comparison w p) ≡ by_wanted w (operated laid is_open sizes path comparison p x)
-  operator_ended true Wants.Value p x = refl
-  operator_ended true Wants.Bare p x = refl
-  operator_ended true Wants.Branch p x = refl
-  operator_ended false w p x =
-      sym (behind_behind x (one p Forms.Binary) (end_by w false p))
-      ∙ value_ended laid is_open sizes path w false p (behind x (one p Forms.Binary))
+  operator_ended : (comparison unsigned : Bool) (w : Wanted) (p : Place) (x : Noted)
+      → behind x (operator_end comparison unsigned w p)
+      ≡ by_wanted w (operated laid is_open sizes path comparison unsigned p x)
+  operator_ended true unsigned Wants.Value p x = refl
+  operator_ended true unsigned Wants.Bare p x = refl
+  operator_ended true unsigned Wants.Branch p x = refl
+  operator_ended false unsigned w p x =
+      sym (behind_behind x (one p (Forms.Binary unsigned)) (end_by w false p))
+      ∙ value_ended laid is_open sizes path w false p (behind x (one p (Forms.Binary unsigned)))
 
   -- both operands with their edges, the conversions of both, and the operator
-  pub binary_noted : (comparison : Bool) (w : Wanted) (p pl pr : Place) (il ir : Bool) (a b c d f x : Noted)
+  pub binary_noted : (comparison unsigned : Bool) (w : Wanted) (p pl pr : Place) (il ir : Bool) (a b c d f x : Noted)
       → b ≡ behind a x → c ≡ behind b (one_if il pl Forms.Conversion)
-      → d ≡ behind c (one_if ir pr Forms.Conversion) → f ≡ behind d (operator_end comparison w p)
-      → f ≡ behind a (by_wanted w (operated laid is_open sizes path comparison p
+      → d ≡ behind c (one_if ir pr Forms.Conversion) → f ≡ behind d (operator_end comparison unsigned w p)
+      → f ≡ behind a (by_wanted w (operated laid is_open sizes path comparison unsigned p
       (behind (behind x (one_if il pl Forms.Conversion)) (one_if ir pr Forms.Conversion))))
-  binary_noted comparison w p pl pr il ir a b c d f x eb ec ed ef =
+  binary_noted comparison unsigned w p pl pr il ir a b c d f x eb ec ed ef =
       let l = one_if il pl Forms.Conversion in
       let r = one_if ir pr Forms.Conversion in
       let z : Noted = behind (behind x l) r in
-      then_behind a d f z (operator_end comparison w p)
+      then_behind a d f z (operator_end comparison unsigned w p)
       (then_behind a c d (behind x l) r (then_behind a b c x l eb ec) ed) ef
-      ∙ ap (behind a) (operator_ended comparison w p z)
+      ∙ ap (behind a) (operator_ended comparison unsigned w p z)
 
   equality_ended : (w : Wanted) (p : Place) (x : Noted)
       → behind (behind x (behind (one p Forms.Usable) (one p Forms.Usable))) (equality_end w p)
@@ -301,31 +314,32 @@ module _ (laid : LaidTree) (is_open : Place → Bool) (sizes : ℕ → ℕ) (pat
       ∙ ap (λ z. behind z o) (sym (behind_behind y (behind k l) m)
       ∙ ap (λ z. behind z m) (sym (behind_behind y k l)))
 
-  pub change_noted : (p at behind_it : Place) (n : ℕ) (loaded operand back : Bool) (a b c x : Noted)
+  pub change_noted : (p at behind_it : Place) (n : ℕ) (unsigned loaded operand back : Bool) (a b c x : Noted)
       → n ≡ length a.pending → b ≡ behind a x
-      → c ≡ stored_from n p (behind b (change_end loaded at operand behind_it back p))
-      → c ≡ behind a (changed laid is_open sizes path loaded at operand behind_it back p x)
-  change_noted p at behind_it n loaded operand back a b c x before e f =
+      → c ≡ stored_from n p (behind b (change_end unsigned loaded at operand behind_it back p))
+      → c ≡ behind a (changed laid is_open sizes path unsigned loaded at operand behind_it back p x)
+  change_noted p at behind_it n unsigned loaded operand back a b c x before e f =
       let l = one_if loaded at Forms.Conversion in
       let r = one_if operand behind_it Forms.Conversion in
       let o = one_if back p Forms.Conversion in
-      let end : Noted = change_end loaded at operand behind_it back p in
-      stored_noted n p a (behind b end) c (behind (behind (behind (behind x l) r) (one p Forms.Binary)) o) before
-      (then_behind a b (behind b end) x end e refl
-      ∙ ap (behind a) (in_turn x l r (one p Forms.Binary) o)) f
+      let operator = one p (Forms.Binary unsigned) in
+      let end : Noted = change_end unsigned loaded at operand behind_it back p in
+      stored_noted n p a (behind b end) c (behind (behind (behind (behind x l) r) operator) o) before
+      (then_behind a b (behind b end) x end e refl ∙ ap (behind a) (in_turn x l r operator o)) f
 
   -- an operator with its operand is stored, and the end
-  pub compound_noted : (w : Wanted) (p at behind_it : Place) (n : ℕ) (loaded operand operates back : Bool)
-      (a b c d x : Noted) → operand ≡ operates → n ≡ length a.pending → b ≡ behind a x
-      → c ≡ stored_from n p (behind b (change_end loaded at operand behind_it back p))
+  pub compound_noted : (w : Wanted) (p at behind_it : Place) (n : ℕ) (found unsigned : Bool)
+      (loaded operand operates back : Bool) (a b c d x : Noted) → found ≡ unsigned → operand ≡ operates
+      → n ≡ length a.pending → b ≡ behind a x
+      → c ≡ stored_from n p (behind b (change_end found loaded at operand behind_it back p))
       → d ≡ behind c (end_by w false p)
       → d ≡ behind a (by_wanted w (valued laid is_open sizes path false p
-      (changed laid is_open sizes path loaded at operates behind_it back p x)))
-  compound_noted w p at behind_it n loaded operand operates back a b c d x same before eb ec ed =
+      (changed laid is_open sizes path unsigned loaded at operates behind_it back p x)))
+  compound_noted w p at behind_it n found unsigned loaded operand operates back a b c d x other same before eb ec ed =
       value_noted laid is_open sizes path w false p a c d
-      (changed laid is_open sizes path loaded at operates behind_it back p x)
-      (change_noted p at behind_it n loaded operates back a b c x before eb
-      (ec ∙ ap (λ k. stored_from n p (behind b (change_end loaded at k behind_it back p))) same)) ed
+      (changed laid is_open sizes path unsigned loaded at operates behind_it back p x)
+      (change_noted p at behind_it n unsigned loaded operates back a b c x before eb
+      (ec ∙ ap₂ (λ u k. stored_from n p (behind b (change_end u loaded at k behind_it back p))) other same)) ed
 
   -- a pointer is moved and stored, and the end
   pub moved_noted : (w : Wanted) (p : Place) (n k m : ℕ) (a b c d f x : Noted) → k ≡ m → n ≡ length a.pending

@@ -1,12 +1,14 @@
 -- What is noted of the edges of expressions, edge by edge as lowering places them: for their value; for their value
 -- without an implied conversion around it; as a branch.
-use Rattle.std.specs.Prelude.{ℕ, zero, suc, ◌+◌, Bool, true, false, cond, List, [], ◌∷◌, ◌++◌, drop, get_or}
+use Rattle.std.specs.Prelude.{ℕ, zero, suc, ◌+◌, Bool, true, false, cond, ◌&&◌, ◌||◌, List, [], ◌∷◌, ◌++◌, drop, get_or}
 use Rattle.std.specs.Prelude.{None, is_some}
 use Rattle.tm_terms.specs.declared.places.Place.{Place}
+use Rattle.tm_cint.specs.declared.int_types.IntType.{IntType}
 use Rattle.tm_cint.specs.declared.int_types.IntType.TheVariants as Ints
 use Rattle.tm_typed.specs.declared.types.CType.{CType}
 use Rattle.tm_typed.specs.declared.types.CType.TheVariants as Types
 use Rattle.tm_typed.specs.declared.scopes.ObjectNumber.TheVariants as Numbers
+use Rattle.tm_typed.specs.Types.{is_enumerated}
 use Rattle.tm_typed.specs.Rules.{is_comparison}
 use Rattle.tm_typed.specs.TypedTrees.{RvalueTree, a_constant, a_folded, a_null, a_load, an_address, a_structure}
 use Rattle.tm_typed.specs.TypedTrees.{the_same, a_unary, a_binary, a_comparison_of_pointers, a_move, a_not, an_and}
@@ -21,9 +23,10 @@ use Rattle.body_builder.specs.concrete_steps.NextAction.{function_at}
 use Rattle.body_builder.specs.lowering.Table.{conversion, is_same_place, implied}
 use Rattle.path_origins.specs.declared.origins.Form.TheVariants as Forms
 use Rattle.path_origins.specs.declared.origins.Life.{Life}
-use Rattle.path_origins.specs.Types.{given, type_of, differs, target_or, is_pointer, has_value}
+use Rattle.path_origins.specs.Types.{given, type_of, differs, target_or, is_pointer, has_value, is_unsigned_by_some}
+use Rattle.path_origins.specs.Types.{casts_number, is_signed_word, either}
 use Rattle.path_origins.specs.Noted.{Noted, nothing, behind, span_of, both, sequenced, scoped, passing_if, one, one_if}
-use Rattle.path_origins.specs.Noted.{tests, called_body, stored}
+use Rattle.path_origins.specs.Noted.{enumerating_if, tests, called_body, stored}
 
 -- how many arguments there are
 abbrev pub count_of : RvalueTrees → ℕ
@@ -47,8 +50,8 @@ module _ (laid : LaidTree) (is_open : Place → Bool) (sizes : ℕ → ℕ) (pat
 
   -- a value, where a pointer is tested once it is known to be usable
   abbrev pub tested : Bool → Place → Noted → Noted
-  tested true p x = behind x (behind (one p Forms.Usable) (tests p Forms.Test))
-  tested false p x = behind x (tests p Forms.Test)
+  tested true p x = behind x (behind (one p Forms.Usable) (tests p (Forms.Test false)))
+  tested false p x = behind x (tests p (Forms.Test false))
 
   abbrev pub valued : Bool → Place → Noted → Walked
   valued pointer p x = record { value = x; bare = x; fork = tested pointer p x }
@@ -71,14 +74,14 @@ module _ (laid : LaidTree) (is_open : Place → Bool) (sizes : ℕ → ℕ) (pat
   implied_both l r x =
       converted_if (is_some (implied r)) (rvalue_place r) (converted_if (is_some (implied l)) (rvalue_place l) x)
 
-  -- an operator, which as a branch is a test where it compares
-  abbrev pub operated : Bool → Place → Noted → Walked
-  operated true p x = record {
-    value = behind x (one p Forms.Binary);
-    bare = behind x (one p Forms.Binary);
-    fork = behind x (tests p Forms.Test);
+  -- an operator, which as a branch is a test where it compares; an operand may be a value of an enumeration
+  abbrev pub operated : Bool → Bool → Place → Noted → Walked
+  operated true b p x = record {
+    value = behind x (one p (Forms.Binary b));
+    bare = behind x (one p (Forms.Binary b));
+    fork = behind x (tests p (Forms.Test b));
   }
-  operated false p x = valued false p (behind x (one p Forms.Binary))
+  operated false b p x = valued false p (behind x (one p (Forms.Binary b)))
 
   abbrev pub compared : Place → Noted → Walked
   compared p x =
@@ -89,11 +92,16 @@ module _ (laid : LaidTree) (is_open : Place → Bool) (sizes : ℕ → ℕ) (pat
         fork = behind y (tests p Forms.EqualityTest);
       }
 
-  -- the operator of `op=`, `++` or `--` behind its operands: it converts both, and what it stores
-  abbrev pub changed : Bool → Place → Bool → Place → Bool → Place → Noted → Noted
-  changed loaded at operand behind_it back p x =
+  -- The operator of `op=`, `++` or `--` behind its operands: it converts both, and what it stores. An operand may be a
+  -- value of an enumeration.
+  abbrev pub changed : Bool → Bool → Place → Bool → Place → Bool → Place → Noted → Noted
+  changed b loaded at operand behind_it back p x =
       stored p (converted_if back p (behind (converted_if operand behind_it (converted_if loaded at x))
-      (one p Forms.Binary)))
+      (one p (Forms.Binary b))))
+
+  -- whether what an operator that works in a type changes is an enumeration
+  abbrev pub is_changed : IntType → LvalueTree → Bool
+  is_changed of l = is_signed_word of && is_enumerated (type_of laid is_open path l).number
 
   -- ## Operands
 
@@ -155,10 +163,13 @@ module _ (laid : LaidTree) (is_open : Place → Bool) (sizes : ℕ → ℕ) (pat
         (behind (addressed l) (one (lvalue_place l) Forms.Load))
     walked used (an_address l p) = valued true p (addressed l)
     walked used (a_structure l) = valued false (lvalue_place l) (addressed l)
-    walked used (the_same e p) = valued (is_pointer (given laid is_open path e)) p (walked true e).value
-    walked used (a_unary o t e p) = valued false p (behind (walked true e).value (one p Forms.Unary))
+    walked used (the_same e p) = valued (is_pointer (given laid is_open path e)) p
+        (enumerating_if (casts_number (is_open p) (given laid is_open path e)) p (walked true e).value)
+    walked used (a_unary o t e p) = valued false p (behind (walked true e).value
+        (one p (Forms.Unary (is_unsigned_by_some (given laid is_open path e)))))
     walked used (a_binary op t l r p) =
-        operated (is_comparison op) p (implied_both l r (both p (walked true l).bare (walked true r).bare))
+        operated (is_comparison op) (either (given laid is_open path l) (given laid is_open path r)) p
+        (implied_both l r (both p (walked true l).bare (walked true r).bare))
     walked used (a_comparison_of_pointers equal l r p) =
         compared p (both p (walked true l).value (walked true r).value)
     walked used (a_move minus cells false e i p) = valued true p
@@ -181,14 +192,16 @@ module _ (laid : LaidTree) (is_open : Place → Bool) (sizes : ℕ → ℕ) (pat
         (entry_of laid.file (type_of laid is_open path l).number).ctype) (rvalue_place e)
         (walked true e).value)))
     walked used (a_compound op cell of volatile l e p) = valued false p
-        (changed (is_some (conversion cell of)) (lvalue_place l) (is_some (implied e)) (rvalue_place e)
+        (changed (is_changed of l || is_unsigned_by_some (given laid is_open path e))
+        (is_some (conversion cell of)) (lvalue_place l) (is_some (implied e)) (rvalue_place e)
         (is_some (conversion of cell)) p
         (against p (addressed l) (one (lvalue_place l) Forms.Load) (walked true e).bare))
     walked used (a_compound_move minus cells class l e p) = valued true p
         (stored p (behind (against p (addressed l) (one (lvalue_place l) Forms.Load) (walked true e).value)
         (one p (Forms.Move (pointed_by (entry_of laid.file class).ctype)))))
     walked used (a_unit_step s cell of volatile l p) = valued false p
-        (changed (is_some (conversion cell of)) (lvalue_place l) (is_some (conversion Ints.Int of)) p
+        (changed (is_changed of l) (is_some (conversion cell of)) (lvalue_place l)
+        (is_some (conversion Ints.Int of)) p
         (is_some (conversion of cell)) p
         (behind (behind (addressed l) (one (lvalue_place l) Forms.Load)) (one p Forms.Constant)))
     walked used (a_pointer_step s cells class l p) = valued true p

@@ -12,6 +12,8 @@ use Rattle.path_origins.specs.declared.origins.Reload.{Reload}
 use Rattle.path_origins.specs.declared.origins.Overwrite.{Overwrite}
 use Rattle.path_origins.specs.declared.origins.Life.{Life}
 use Rattle.path_origins.specs.declared.origins.Passing.{Passing}
+use Rattle.path_origins.specs.declared.origins.Passed.{Passed}
+use Rattle.path_origins.specs.declared.origins.Passed.TheVariants as Passes
 
 pub record Noted : Type 0 where
   -- how many edges there are
@@ -159,10 +161,18 @@ ending n l = record l { scope = record l.scope { end = n } }
 abbrev pub scoped : Noted → Noted
 scoped x = record x { lives = x.lives ++ map (ending x.size) x.unended; unended = [] }
 
--- a pointer is given at a place, if it is so
+-- something is given at a place, if it is so
+abbrev pub given_if : Bool → Passed → Place → Noted → Noted
+given_if true g p x = record x { passings = x.passings ++ record { place = p; passed = g } ∷ [] }
+given_if false g p x = x
+
+-- a pointer
 abbrev pub passing_if : Bool → Place → Noted → Noted
-passing_if true p x = record x { passings = x.passings ++ record { place = p } ∷ [] }
-passing_if false p x = x
+passing_if is p x = given_if is Passes.Pointer p x
+
+-- a number by a cast to an enumeration
+abbrev pub enumerating_if : Bool → Place → Noted → Noted
+enumerating_if is p x = given_if is Passes.Enumeration p x
 
 -- a store behind operands, which overwrites those of their stores that no sequence point follows (C99 6.5p2)
 abbrev pub overwrites_of : Place → ℕ → List ℕ → List Overwrite

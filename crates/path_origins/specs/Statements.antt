@@ -149,7 +149,7 @@ module _ (laid : LaidTree) (is_open : Place → Bool) (sizes : ℕ → ℕ) (pat
 
   abbrev pub labels_tested : TypedCases → Noted
   labels_tested no_typed_cases = nothing
-  labels_tested (and_typed_case (a_label z p) cs) = behind (tests p Forms.Test) (labels_tested cs)
+  labels_tested (and_typed_case (a_label z p) cs) = behind (tests p (Forms.Test false)) (labels_tested cs)
   labels_tested (and_typed_case (a_default_label p) cs) = labels_tested cs
   labels_tested (and_typed_case (a_labelled_step s) cs) = labels_tested cs
 

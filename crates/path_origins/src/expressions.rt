@@ -5,9 +5,9 @@ ghost use Rattle.tm_laid.specs.TypeCells.{entry_of};
 ghost use Rattle.tm_laid.specs.Layouts.{laid_tree};
 ghost use Rattle.tm_terms.specs.declared.places.Place.{Place as APlace};
 ghost use Rattle.body_builder.specs.concrete_steps.NextAction.{function_at};
-ghost use Rattle.body_builder.specs.concrete_steps.Places.{rvalue_place};
+ghost use Rattle.body_builder.specs.concrete_steps.Places.{rvalue_place, result_type};
 ghost use Rattle.body_builder.specs.lowering.Table.{implied};
-ghost use Rattle.path_origins.specs.Types.{given, pointer_to};
+ghost use Rattle.path_origins.specs.Types.{given, given_by, pointer_to};
 ghost use Rattle.path_origins.specs.Noted.{behind, one_if, scoped, skips};
 ghost use Rattle.path_origins.specs.Expressions.{walked};
 ghost use Rattle.path_origins.specs.Shown.{shown, sizes_in};
@@ -22,12 +22,12 @@ use crate::lookups::{
     rvalue_place,
 };
 use crate::notes::{
-    end_scopes, note, note_against, note_body, note_end, note_fork_end, note_if, note_life,
-    note_passing, note_skips, sequence, since,
+    end_scopes, note, note_against, note_body, note_end, note_fork_end, note_given, note_if,
+    note_life, note_passing, note_skips, sequence, since,
 };
 use crate::operators::walk_operator;
-use crate::origins::{Form, Life, Notes, Span};
-use crate::types::{Given, given_by, held_by};
+use crate::origins::{Form, Life, Notes, Passed, Span};
+use crate::types::{Given, converted, given_by, held_by};
 use crate::walks::{Here, Wanted};
 use body_builder::{callee, more, object_of, result_type, type_at};
 use tm_laid::Laid;
@@ -137,8 +137,10 @@ fn walk_call(
     match rvalue {
         Rvalue::Same { value, place } => {
             let given = walk_rvalue(here, to, value, Wanted::Value, true)?;
+            let is_cast = here.opens.has(*place);
+            note_given(to, given.casts_number(is_cast), Passed::Enumeration, *place)?;
             note_end(to, wanted, given.is_pointer(), *place)?;
-            Ok(given.cast_if(here.opens.has(*place)))
+            Ok(given.cast_if(is_cast))
         }
         Rvalue::Call {
             site,
@@ -149,7 +151,7 @@ fn walk_call(
             let path = callee(here.laid, here.path, *site);
             walk_arguments(here, to, path, arguments, *place)?;
             note_call(here, to, path, arguments.len(), *place, used)?;
-            let given = given_by(result_type(here.laid, path));
+            let given = given_by_call(here.laid, path);
             note_end(to, wanted, given.is_pointer(), *place)?;
             Ok(given)
         }
@@ -160,9 +162,9 @@ fn walk_call(
             place,
         } => {
             let is_same = is_same_place(*place, rvalue_place(value));
-            let _given = walk_rvalue(here, to, value, Wanted::Value, true)?;
+            let given = walk_rvalue(here, to, value, Wanted::Value, true)?;
             conversion_ends(to, wanted, is_same, *place, is_conversion(*from, *of))?;
-            Ok(Given::Number)
+            Ok(converted(*of, is_same, given))
         }
         Rvalue::Discard { value, place } => {
             let _given = walk_rvalue(here, to, value, Wanted::Value, false)?;
@@ -338,6 +340,25 @@ fn pointer_to(laid: &Laid, is_bare: bool, of: Qualified) -> Given
 }
 
 // ## Calls
+
+// The number of the type of what the function of a path gives.
+fn result_number(laid: &Laid, path: u32) -> u32
+    ensures { result ≡ (function_at (laid_tree laid.now) path).result }
+{
+    match function_at(laid, path) {
+        Some(function) => function.result,
+        None => 0,
+    }
+}
+
+// What a call of a path gives.
+#[tactic(auto, unfolding(body_builder::specs::Fragments::tree_in))]
+fn given_by_call(laid: &Laid, path: u32) -> Given
+    ensures { result ≡ given_by (function_at (laid_tree laid.now) path).result
+        (result_type (laid_tree laid.now) (function_at (laid_tree laid.now) path)) }
+{
+    given_by(result_number(laid, path), result_type(laid, path))
+}
 
 // The number of the type of a parameter of the function of a path.
 fn parameter_number(laid: &Laid, path: u32, number: usize) -> u32

@@ -1,8 +1,9 @@
 //! From which expression or declaration each edge of the body of a call path comes. The statements of its function are
 //! walked as lowering goes over them, and of each edge the place and the form of its operation are noted; beside it,
 //! which edges each of two unsequenced operands gave (C99 6.5p2), where objects begin to live and how far the scopes of
-//! their declarations go, and where a pointer is given to what has another pointer type. The edges of the bodies of
-//! calls are counted, and no more: what they are, and what all this is noted for, this crate does not know.
+//! their declarations go, and where a pointer is given to what has another pointer type, or a number to an enumeration
+//! by a cast. The edges of the bodies of calls are counted, and no more: what they are, and what all this is noted for,
+//! this crate does not know.
 //!
 //! Of `x = f(y)` there are noted the address of `x`; the address and the load of `y`; the address and the store of the
 //! parameter; the call of `f`, whose body has as many edges as it is said to have; and the store, at the sign `=`.
@@ -24,5 +25,5 @@ mod walks;
 pub use bodies::noted_path;
 pub use opens::{Opens, opens_of};
 pub use origins::{
-    Form, Life, NotedCall, NotedEdge, Notes, Overwrite, Passing, Reload, Span, Unsequenced,
+    Form, Life, NotedCall, NotedEdge, Notes, Overwrite, Passed, Passing, Reload, Span, Unsequenced,
 };

@@ -1,15 +1,15 @@
 //! What a walk notes.
 ghost use Rattle.std.specs.Prelude.{◌≡◌, ◌++◌, map, drop, OnOk};
 ghost use Rattle.path_origins.specs.Types.{differs};
-ghost use Rattle.path_origins.specs.Noted.{nothing, one, one_if, tests, skips, called_body, passing_if, ending};
-ghost use Rattle.path_origins.specs.Noted.{overwrites_of};
+ghost use Rattle.path_origins.specs.Noted.{nothing, one, one_if, tests, skips, called_body, given_if, passing_if};
+ghost use Rattle.path_origins.specs.Noted.{ending, overwrites_of};
 ghost use Rattle.path_origins.specs.Shown.{shown};
 ghost use Rattle.path_origins.specs.reading.Walks.{IsBehind, end_by, decided_by, operands_added, reload_added};
 ghost use Rattle.path_origins.specs.reading.Ends.{against_before};
 ghost use Rattle.path_origins.specs.reading.Walks.{sequenced_from, scoped_from, stored_from, life_added, fall_added};
 
 use crate::origins::{
-    Form, Life, NotedCall, NotedEdge, Notes, Overwrite, Passing, Reload, Span, Unsequenced,
+    Form, Life, NotedCall, NotedEdge, Notes, Overwrite, Passed, Passing, Reload, Span, Unsequenced,
 };
 use crate::types::Given;
 use crate::walks::Wanted;
@@ -101,7 +101,7 @@ pub(crate) fn note_end(
             if pointer {
                 note(to, place, Form::Usable)?;
             }
-            note_tests(to, place, Form::Test)
+            note_tests(to, place, Form::Test(false))
         }
     }
 }
@@ -216,6 +216,21 @@ pub(crate) fn note_store(to: &mut Notes, place: Place, pending: usize) -> Result
     Ok(())
 }
 
+/// Something is given at a place, if it is so.
+pub(crate) fn note_given(
+    to: &mut Notes,
+    is: bool,
+    passed: Passed,
+    place: Place,
+) -> Result<(), NoMemory>
+    ensures { OnOk result (shown to.new ≡ given_if is passed place (shown to.old)) }
+{
+    if is {
+        to.passings.push(Passing { place, passed })?;
+    }
+    Ok(())
+}
+
 /// A pointer that is given to what has this type, if that has another target.
 pub(crate) fn note_passing(
     to: &mut Notes,
@@ -225,10 +240,7 @@ pub(crate) fn note_passing(
 ) -> Result<(), NoMemory>
     ensures { OnOk result (shown to.new ≡ passing_if (differs given of) place (shown to.old)) }
 {
-    if given.differs(of) {
-        to.passings.push(Passing { place })?;
-    }
-    Ok(())
+    note_given(to, given.differs(of), Passed::Pointer, place)
 }
 
 /// An end of a function without `return` stands here.

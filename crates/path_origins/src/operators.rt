@@ -18,7 +18,9 @@ use crate::notes::{
     since,
 };
 use crate::origins::{Form, Notes, Span};
-use crate::types::{Given, class_target, held_by};
+use crate::types::{
+    Given, class_target, computed, held_by, is_changed, is_either_changed, number_if,
+};
 use crate::walks::{Here, Wanted};
 use body_builder::type_at;
 use tm_cint::IntType;
@@ -42,10 +44,11 @@ pub(crate) fn walk_operator(
 {
     match rvalue {
         Rvalue::Unary { value, place, .. } => {
-            let _given = walk_rvalue(here, to, value, Wanted::Value, true)?;
-            note(to, *place, Form::Unary)?;
+            let given = walk_rvalue(here, to, value, Wanted::Value, true)?;
+            let is_enumeration = given.is_unsigned_by_some();
+            note(to, *place, Form::Unary(is_enumeration))?;
             note_end(to, wanted, false, *place)?;
-            Ok(Given::Number)
+            Ok(number_if(is_enumeration))
         }
         Rvalue::Binary {
             operator,
@@ -59,8 +62,9 @@ pub(crate) fn walk_operator(
             note_operands(to, *place, first.edges, second.edges)?;
             note_implied(to, left)?;
             note_implied(to, right)?;
-            operator_ends(to, is_comparison(*operator), wanted, *place)?;
-            Ok(Given::Number)
+            let is_either = first.given.either(second.given);
+            operator_ends(to, is_comparison(*operator), is_either, wanted, *place)?;
+            Ok(computed(*operator, first.given, second.given))
         }
         Rvalue::Pointers {
             left,
@@ -115,19 +119,26 @@ fn comparison_ends(
     }
 }
 
-// An operator on converted operands.
+// An operator on converted operands, of which one may be a value of an enumeration.
 fn operator_ends(
     to: &mut Notes,
     is_comparison: bool,
+    is_either: bool,
     wanted: Wanted,
     place: Place,
 ) -> Result<(), NoMemory>
-    ensures { OnOk result (IsBehind to.old to.new (operator_end is_comparison wanted place)) }
+    ensures { OnOk result (IsBehind to.old to.new (operator_end is_comparison is_either wanted place)) }
 {
     if is_comparison {
-        return comparison_ends(to, wanted, place, Form::Binary, Form::Test);
+        return comparison_ends(
+            to,
+            wanted,
+            place,
+            Form::Binary(is_either),
+            Form::Test(is_either),
+        );
     }
-    note(to, place, Form::Binary)?;
+    note(to, place, Form::Binary(is_either))?;
     note_end(to, wanted, false, place)
 }
 
@@ -150,11 +161,13 @@ fn move_ends(to: &mut Notes, wanted: Wanted, given: Given, place: Place) -> Resu
     note_end(to, wanted, true, place)
 }
 
-// The operator of `op=`, `++` or `--`: the type of what is changed and that in which it works.
+// The operator of `op=`, `++` or `--`: the type of what is changed and that in which it works, and whether one of its
+// operands is a value of an enumeration.
 #[derive(Clone, Copy)]
 struct Change {
     cell: IntType,
     of: IntType,
+    is_either: bool,
     load_place: Place,
     place: Place,
 }
@@ -168,14 +181,14 @@ fn change_ends(
     pending: usize,
 ) -> Result<(), NoMemory>
     ensures { OnOk result (shown to.new ≡ stored_from pending change.place (behind (shown to.old)
-        (change_end (is_some (conversion change.cell change.of)) change.load_place is_converted operand_place
-        (is_some (conversion change.of change.cell)) change.place))) }
+        (change_end change.is_either (is_some (conversion change.cell change.of)) change.load_place is_converted
+        operand_place (is_some (conversion change.of change.cell)) change.place))) }
 {
     let loaded = is_conversion(change.cell, change.of);
     let back = is_conversion(change.of, change.cell);
     note_if(to, loaded, change.load_place, Form::Conversion)?;
     note_if(to, is_converted, operand_place, Form::Conversion)?;
-    note(to, change.place, Form::Binary)?;
+    note(to, change.place, Form::Binary(change.is_either))?;
     note_if(to, back, change.place, Form::Conversion)?;
     note_store(to, change.place, pending)
 }
@@ -267,20 +280,21 @@ fn walk_change(
             place,
             ..
         } => {
-            let change = Change {
-                cell: *cell,
-                of: *of,
-                load_place: target.place(),
-                place: *place,
-            };
             let address = walk_target(here, to, target)?;
             let load = note_load(to, target)?;
             let right = walk_part(here, to, value, Wanted::Bare)?;
             note_right(to, *place, address, load, right.edges)?;
+            let change = Change {
+                cell: *cell,
+                of: *of,
+                is_either: is_either_changed(*of, address.of, right.given),
+                load_place: target.place(),
+                place: *place,
+            };
             let is_converted = is_implied(value);
             change_ends(to, change, rvalue_place(value), is_converted, pending)?;
             note_end(to, wanted, false, *place)?;
-            Ok(Given::Number)
+            Ok(held_by(here.laid, Scalar::Int(*cell), address.of))
         }
         Rvalue::CompoundMove {
             class,
@@ -325,19 +339,20 @@ fn walk_step(
             place,
             ..
         } => {
+            let address = walk_target(here, to, target)?;
+            let _load = note_load(to, target)?;
+            note(to, *place, Form::Constant)?;
             let change = Change {
                 cell: *cell,
                 of: *of,
+                is_either: is_changed(*of, address.of),
                 load_place: target.place(),
                 place: *place,
             };
-            let _address = walk_target(here, to, target)?;
-            let _load = note_load(to, target)?;
-            note(to, *place, Form::Constant)?;
             let is_converted = is_conversion(IntType::Int, *of);
             change_ends(to, change, *place, is_converted, pending)?;
             note_end(to, wanted, false, *place)?;
-            Ok(Given::Number)
+            Ok(held_by(here.laid, Scalar::Int(*cell), address.of))
         }
         Rvalue::StepMove {
             class,

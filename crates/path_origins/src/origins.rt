@@ -9,8 +9,11 @@ pub enum Form {
     Skip,
     Constant,
     Copy,
-    Unary,
-    Binary,
+    /// An operator on one operand, and whether that is a value of an enumeration that compilers may make unsigned (C99
+    /// 6.7.2.2p4), in `int` or `long`.
+    Unary(bool),
+    /// An operator on two operands, and whether one of them is such a value.
+    Binary(bool),
     /// `==` or `!=` of pointers for its value.
     Equality,
     Conversion,
@@ -27,7 +30,8 @@ pub enum Form {
     Any,
     Clear,
     Usable,
-    Test,
+    /// A test, and whether it compares such a value.
+    Test(bool),
     /// `==` or `!=` of pointers as a branch.
     EqualityTest,
     Lock,
@@ -98,11 +102,21 @@ pub struct Life {
     pub initialiser: Option<Span>,
 }
 
-/// The place of a pointer that is given to what has a pointer type with another target: one without `const`, or one
-/// that differs below (C99 6.5.16.1p1).
+/// What is given so that a compiler may make something else of it.
+#[derive(Clone, Copy, PartialEq, Eq)]
+pub enum Passed {
+    /// A pointer to what has a pointer type with another target: one without `const`, or one that differs below (C99
+    /// 6.5.16.1p1).
+    Pointer,
+    /// A number by a cast to an enumeration that compilers may make unsigned (C99 6.7.2.2p4).
+    Enumeration,
+}
+
+/// What is given so, and its place.
 #[derive(Clone, Copy, PartialEq, Eq)]
 pub struct Passing {
     pub place: Place,
+    pub passed: Passed,
 }
 
 /// What is noted of the body of a path. Edges are counted from its first one, with those of the bodies of calls, of

@@ -380,7 +380,7 @@ fn note_label(to: &mut Notes, part: &TypedSwitchPart) -> Result<(), NoMemory>
     ensures { OnOk result (IsBehind to.old to.new (label_noted (typed_case part.now))) }
 {
     match part {
-        TypedSwitchPart::Case { place, .. } => note_tests(to, *place, Form::Test),
+        TypedSwitchPart::Case { place, .. } => note_tests(to, *place, Form::Test(false)),
         TypedSwitchPart::Default { .. } | TypedSwitchPart::Statement(_) => Ok(()),
     }
 }

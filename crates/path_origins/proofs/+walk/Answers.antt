@@ -1,23 +1,25 @@
 use Rattle.body_builder.specs.concrete_steps.NextAction.{function_at}
-use Rattle.body_builder.specs.concrete_steps.Places.{rvalue_place, is_pointer_scalar, result_type}
+use Rattle.body_builder.specs.concrete_steps.Places.{rvalue_place, is_pointer_scalar}
 use Rattle.body_builder.specs.Fragments.{tree_in}
 use Rattle.body_builder.specs.lowering.Table.{conversion, is_same_place, implied}
 use Rattle.path_origins.proofs.+walk.Goals as goal
-use Rattle.path_origins.proofs.Beside.{sequenced_noted, against_noted, both_noted}
+use Rattle.path_origins.proofs.Beside.{sequenced_noted, against_noted, both_noted, given_noted}
 use Rattle.path_origins.proofs.Calls.{left_first, left_more, left_last}
 use Rattle.path_origins.proofs.Laws.{value_noted, fork_noted, then_behind}
 use Rattle.path_origins.proofs.Values.{as_read, given_as, value_given, value_placed, load_noted, folded_branch}
 use Rattle.path_origins.proofs.Values.{call_read, both_ways_noted, address_read, type_read, three_behind, element_noted}
 use Rattle.path_origins.proofs.Values.{folded_value, not_branch, comma_noted, conversion_read, choice_noted, as_one}
-use Rattle.path_origins.proofs.Values.{pointers_noted, move_noted}
+use Rattle.path_origins.proofs.Values.{pointers_noted, move_noted, call_given}
 use Rattle.path_origins.proofs.Values.{subscript_noted, assignment_noted, compound_noted, moved_noted, binary_noted}
 use Rattle.path_origins.specs.Expressions.{walked, addressed, against, pointed_by}
-use Rattle.path_origins.specs.Noted.{Noted, behind, one, sequenced, passing_if, both, one_if}
+use Rattle.path_origins.specs.Noted.{Noted, behind, one, sequenced, passing_if, enumerating_if, both, one_if}
 use Rattle.path_origins.specs.Opens.{is_among}
 use Rattle.path_origins.specs.Shown.{shown, sizes_in}
-use Rattle.path_origins.specs.Types.{given, type_of, held_by, given_by, is_pointer, has_value, cast_if, chosen}
+use Rattle.path_origins.specs.Types.{given, type_of, held_by, is_pointer, has_value, cast_if, casts_number, chosen}
 use Rattle.path_origins.specs.Types.{pointer_to, differs, followed, element_of, member_at, object_type, target_or}
+use Rattle.path_origins.specs.Types.{number_if, is_unsigned_by_some, is_signed_word, converted, computed, either}
 use Rattle.path_origins.specs.declared.origins.Form.TheVariants as Forms
+use Rattle.path_origins.specs.declared.origins.Passed.TheVariants as Passes
 use Rattle.path_origins.specs.declared.types.Given.TheVariants as Gives
 use Rattle.path_origins.specs.declared.types.Given.{Given}
 use Rattle.path_origins.specs.declared.walks.Wanted.TheVariants as Wants
@@ -26,13 +28,15 @@ use Rattle.path_origins.specs.reading.Reading.{IsRead, IsGiven, IsAddressed, IsT
 use Rattle.path_origins.specs.reading.Walks.{by_wanted, operands_added, stored_from}
 use Rattle.std.proofs.Common.{subst}
 use Rattle.std.proofs.Common.{◌≡◌, true, false, length, refl, sym, ap, ap₂, ◌∙◌, is_some, Bool, get_or, arith}
+use Rattle.std.proofs.Common.{◌&&◌, ◌||◌}
 use Rattle.std.proofs.lemmas.Result.{IfOk-weaker}
 use Rattle.tm_cint.specs.declared.int_types.IntType.TheVariants as Ints
-use Rattle.tm_laid.specs.Layouts.{laid_tree, callee}
+use Rattle.tm_laid.specs.Layouts.{laid_tree}
 use Rattle.tm_laid.specs.TypeCells.{entry_of}
 use Rattle.tm_terms.specs.declared.places.Place.{Place}
 use Rattle.tm_typed.proofs.CallTrees.{rvalue_tree-call}
 use Rattle.tm_typed.specs.Rules.{is_comparison}
+use Rattle.tm_typed.specs.Types.{is_enumerated}
 use Rattle.tm_typed.specs.TypedTrees.{a_binary, a_comparison_of_pointers, a_move}
 use Rattle.tm_typed.specs.TypedTrees.{an_assignment, a_compound, a_compound_move, a_unit_step, a_pointer_step, a_unary}
 use Rattle.tm_typed.specs.TypedTrees.{rvalue_tree, lvalue_tree, lvalue_place, as_rvalues, a_function_call, RvalueTree}
@@ -269,12 +273,18 @@ expressions::walk_call-returns-in_ok-note_end-in-Same-clause-noted t c =
     let gives : c.in_ok-given-in-Same.given ≡ given laid opens path (rvalue_tree i.value.value) =
     c.in_ok-given-in-Same.ensures.given
     ∙ ap (λ r. given laid opens path (rvalue_tree r)) c.deref.ensures in
+    let x = (walked laid opens sizes path true (rvalue_tree i.value.value)).value in
+    let is = casts_number (opens i.place) (given laid opens path (rvalue_tree i.value.value)) in
+    let found : c.casts_number.result ≡ is = c.casts_number.ensures ∙ ap₂ casts_number c.has-is_cast.ensures gives in
+    let enumerates : shown c.note_given.new.to ≡ behind old (enumerating_if is i.place x) =
+    given_noted is Passes.Enumeration i.place old (shown c.walk_rvalue.new.to) (shown c.note_given.new.to) x value
+    (c.in_ok-note_given-in-Same.ensures
+    ∙ ap (λ k. enumerating_if k i.place (shown c.walk_rvalue.new.to)) found) in
     as_read laid opens sizes path w c.args.used c.args.rvalue.now _ old (shown c.note_end.new.to) i.is
     (value_given laid opens sizes path w c.is_pointer.result (is_pointer (given laid opens path
     (rvalue_tree i.value.value)))
-    i.place old (shown c.walk_rvalue.new.to) (shown c.note_end.new.to)
-    (walked laid opens sizes path true (rvalue_tree i.value.value)).value (c.is_pointer.ensures ∙ ap is_pointer gives)
-    value c.in_ok-note_end-in-Same.ensures)
+    i.place old (shown c.note_given.new.to) (shown c.note_end.new.to) (enumerating_if is i.place x)
+    (c.is_pointer.ensures ∙ ap is_pointer gives) enumerates c.in_ok-note_end-in-Same.ensures)
 
 pub expressions::walk_call-returns-in_ok-note_end-in-Same-clause-given :
     goal.expressions::walk_call-returns-in_ok-note_end-in-Same-clause-given
@@ -289,7 +299,7 @@ expressions::walk_call-returns-in_ok-note_end-in-Same-clause-given t c =
     c.in_ok-given-in-Same.ensures.given
     ∙ ap (λ r. given laid opens path (rvalue_tree r)) c.deref.ensures in
     given_as laid opens sizes path c.args.rvalue.now _ c.cast_if.result i.is (c.cast_if.ensures
-    ∙ ap₂ cast_if c.has.ensures gives)
+    ∙ ap₂ cast_if c.has-is_cast.ensures gives)
 
 pub expressions::walk_call-returns-in_ok-note_end-in-Call-clause-noted :
     goal.expressions::walk_call-returns-in_ok-note_end-in-Call-clause-noted
@@ -306,10 +316,9 @@ expressions::walk_call-returns-in_ok-note_end-in-Call-clause-noted t c =
     ∙ ap (λ es. a_function_call i.function i.site (as_rvalues es) i.place) (sym c.deref-in-Call.ensures.value) in
     let es = c.deref-in-Call.result.now in
     let to = c.callee-path.result in
-    let goes = callee laid path i.site in
-    let gives : c.given_by-given.result ≡ given_by (result_type laid (function_at laid goes)) =
-    c.given_by-given.ensures ∙ ap given_by (c.result_type.ensures ∙ ap (λ n. result_type laid (function_at laid n))
-    c.callee-path.ensures) in
+    let gives : c.given_by_call-given.result ≡ given laid opens path (rvalue_tree c.args.rvalue.now) =
+    call_given laid opens sizes path (rvalue_tree c.args.rvalue.now) i.function i.site i.place (as_rvalues es) to
+    c.given_by_call-given.result tree c.callee-path.ensures c.given_by_call-given.ensures in
     call_read laid opens sizes path w c.args.used (rvalue_tree c.args.rvalue.now) i.function i.site i.place es to
     c.len.result c.is_pointer-in-Call.result old (shown c.walk_arguments.new.to) (shown c.note_call.new.to)
     (shown c.note_end-in-Call.new.to) tree c.callee-path.ensures
@@ -330,11 +339,8 @@ expressions::walk_call-returns-in_ok-note_end-in-Call-clause-given t c =
     ∙ ap (λ es. a_function_call i.function i.site (as_rvalues es) i.place) (sym c.deref-in-Call.ensures.value) in
     let es = c.deref-in-Call.result.now in
     let to = c.callee-path.result in
-    let goes = callee laid path i.site in
-    let gives : c.given_by-given.result ≡ given_by (result_type laid (function_at laid goes)) =
-    c.given_by-given.ensures ∙ ap given_by (c.result_type.ensures ∙ ap (λ n. result_type laid (function_at laid n))
-    c.callee-path.ensures) in
-    gives ∙ sym (ap (given laid opens path) tree)
+    call_given laid opens sizes path (rvalue_tree c.args.rvalue.now) i.function i.site i.place (as_rvalues es) to
+    c.given_by_call-given.result tree c.callee-path.ensures c.given_by_call-given.ensures
 
 pub expressions::walk_rvalue-returns-in_ok-note_end-in-Input-clause-noted :
     goal.expressions::walk_rvalue-returns-in_ok-note_end-in-Input-clause-noted
@@ -449,7 +455,7 @@ expressions::walk_call-returns-in_ok-conversion_ends-in-Convert-clause-noted t c
     let old = shown c.args.to.now in
     let value : shown c.walk_rvalue-in-Convert.new.to ≡ behind old (walked laid opens sizes path true
     (rvalue_tree i.value.value)).value =
-    c.in_ok-_given-in-Convert.ensures.noted
+    c.in_ok-given-in-Convert.ensures.noted
     ∙ ap (λ r. behind old (walked laid opens sizes path true (rvalue_tree r)).value) c.deref-in-Convert-2.ensures in
     as_read laid opens sizes path w c.args.used c.args.rvalue.now _ old (shown c.conversion_ends.new.to) i.is
     (conversion_read laid opens sizes path w c.is_same_place-is_same.result
@@ -470,7 +476,14 @@ expressions::walk_call-returns-in_ok-conversion_ends-in-Convert-clause-given t c
     let opens = is_among c.args.here.now.opens.now in
     let sizes = sizes_in c.args.here.now.sizes.now in
     let path = c.args.here.now.path in
-    given_as laid opens sizes path c.args.rvalue.now _ Gives.Number i.is (refl)
+    let e = rvalue_tree i.value.value in
+    let gives : c.in_ok-given-in-Convert.given ≡ given laid opens path e = c.in_ok-given-in-Convert.ensures.given
+    ∙ ap (λ r. given laid opens path (rvalue_tree r)) c.deref-in-Convert-2.ensures in
+    let same : c.is_same_place-is_same.result ≡ is_same_place i.place (rvalue_place e) =
+    c.is_same_place-is_same.ensures ∙ ap (is_same_place i.place) (c.rvalue_place.ensures
+    ∙ ap (λ r. rvalue_place (rvalue_tree r)) c.deref-in-Convert.ensures) in
+    given_as laid opens sizes path c.args.rvalue.now _ c.converted.result i.is (c.converted.ensures
+    ∙ ap₂ (converted i.of) same gives)
 
 pub expressions::walk_call-returns-in_ok-note_end-in-Discard-clause-noted :
     goal.expressions::walk_call-returns-in_ok-note_end-in-Discard-clause-noted
@@ -1002,15 +1015,15 @@ operators::walk_change-returns-in_ok-note_end-in-Compound-clause-noted t c =
     let b = shown c.walk_target-in-Compound.new.to in
     let at : b ≡ behind a (addressed laid is_open sizes path l) =
     c.in_ok-address-in-Compound.ensures.noted ∙ ap (λ t. behind a (addressed laid is_open sizes path
-    (lvalue_tree t))) c.deref-in-Compound-2.ensures in
+    (lvalue_tree t))) c.deref-in-Compound.ensures in
     let d = shown c.note_load.new.to in
     let loads : d ≡ behind b (one (lvalue_place l) Forms.Load) =
     c.in_ok-load-in-Compound.ensures.noted ∙ ap (λ t. behind b (one (lvalue_place
-    (lvalue_tree t)) Forms.Load)) c.deref-in-Compound-3.ensures in
+    (lvalue_tree t)) Forms.Load)) c.deref-in-Compound-2.ensures in
     let f = shown c.walk_part-in-Compound.new.to in
     let value : f ≡ behind d (walked laid is_open sizes path true e).bare =
     c.in_ok-right-in-Compound.ensures.noted ∙ ap (λ v. behind d (walked laid is_open sizes path true
-    (rvalue_tree v)).bare) c.deref-in-Compound-4.ensures in
+    (rvalue_tree v)).bare) c.deref-in-Compound-3.ensures in
     let r = c.in_ok-right-in-Compound.right in
     let edges = c.in_ok-address-in-Compound.address.edges in
     let k = c.in_ok-load-in-Compound.load in
@@ -1027,18 +1040,29 @@ operators::walk_change-returns-in_ok-note_end-in-Compound-clause-noted t c =
     let back = is_some (conversion i.of i.cell) in
     let is = c.is_implied-is_converted.result in
     let name : c.place.result ≡ lvalue_place l = c.place.ensures
-    ∙ ap (λ t. lvalue_place (lvalue_tree t)) c.deref-in-Compound.ensures in
+    ∙ ap (λ t. lvalue_place (lvalue_tree t)) c.deref-in-Compound-4.ensures in
     let operand : c.rvalue_place-in-Compound.result ≡ rvalue_place e = c.rvalue_place-in-Compound.ensures
     ∙ ap (λ v. rvalue_place (rvalue_tree v)) c.deref-in-Compound-6.ensures in
     let converts : is ≡ is_some (implied e) = c.is_implied-is_converted.ensures
     ∙ ap (λ v. is_some (implied (rvalue_tree v))) c.deref-in-Compound-5.ensures in
+    let of : c.in_ok-address-in-Compound.address.of ≡ type_of laid is_open path l =
+    c.in_ok-address-in-Compound.ensures.of
+    ∙ ap (λ t. type_of laid is_open path (lvalue_tree t)) c.deref-in-Compound.ensures in
+    let from : r.given ≡ given laid is_open path e = c.in_ok-right-in-Compound.ensures.given
+    ∙ ap (λ v. given laid is_open path (rvalue_tree v)) c.deref-in-Compound-3.ensures in
+    let found = c.is_either_changed.result in
+    let unsigned : Bool = (is_signed_word i.of && is_enumerated (type_of laid is_open path l).number)
+    || is_unsigned_by_some (given laid is_open path e) in
+    let finds : found ≡ unsigned = c.is_either_changed.ensures
+    ∙ ap₂ (λ (q : Qualified) (g : Given). (is_signed_word i.of && is_enumerated q.number) || is_unsigned_by_some g)
+    of from in
     subst (λ (u : RvalueTree). shown c.note_end-in-Compound.new.to
     ≡ behind a (by_wanted w (walked laid is_open sizes path c.args.used u)))
     (sym tree)
-    (compound_noted laid is_open sizes path w i.place (lvalue_place l) (rvalue_place e) n loaded is
-    (is_some (implied e)) back a g (shown c.change_ends.new.to) (shown c.note_end-in-Compound.new.to) sides converts
-    before stands (c.in_ok-change_ends-in-Compound.ensures
-    ∙ ap₂ (λ q o. stored_from n i.place (behind g (change_end loaded q is o back i.place))) name operand)
+    (compound_noted laid is_open sizes path w i.place (lvalue_place l) (rvalue_place e) n found unsigned loaded is
+    (is_some (implied e)) back a g (shown c.change_ends.new.to) (shown c.note_end-in-Compound.new.to) sides finds
+    converts before stands (c.in_ok-change_ends-in-Compound.ensures
+    ∙ ap₂ (λ q o. stored_from n i.place (behind g (change_end found loaded q is o back i.place))) name operand)
     c.in_ok-note_end-in-Compound.ensures)
 
 pub operators::walk_change-returns-in_ok-note_end-in-CompoundMove-clause-noted :
@@ -1127,12 +1151,12 @@ operators::walk_step-returns-in_ok-note_end-in-Step-clause-noted t c =
     let before : n ≡ length a.pending = c.len-pending.ensures ∙ c.args.to.now.pending.ok.0 in
     let b = shown c.walk_target.new.to in
     let at : b ≡ behind a (addressed laid is_open sizes path l) =
-    c.in_ok-_address-in-Step.ensures.noted ∙ ap (λ t. behind a (addressed laid is_open sizes path
-    (lvalue_tree t))) c.deref-in-Step.ensures in
+    c.in_ok-address-in-Step.ensures.noted ∙ ap (λ t. behind a (addressed laid is_open sizes path
+    (lvalue_tree t))) c.deref.ensures in
     let d = shown c.note_load.new.to in
     let loads : d ≡ behind b (one (lvalue_place l) Forms.Load) =
     c.in_ok-_load-in-Step.ensures.noted ∙ ap (λ t. behind b (one (lvalue_place
-    (lvalue_tree t)) Forms.Load)) c.deref-in-Step-2.ensures in
+    (lvalue_tree t)) Forms.Load)) c.deref-in-Step.ensures in
     let f = shown c.note.new.to in
     let sides : Noted = behind (behind (addressed laid is_open sizes path l) (one (lvalue_place l) Forms.Load))
     (one i.place Forms.Constant) in
@@ -1144,15 +1168,21 @@ operators::walk_step-returns-in_ok-note_end-in-Step-clause-noted t c =
     let back = is_some (conversion i.of i.cell) in
     let is = c.is_conversion-is_converted.result in
     let name : c.place.result ≡ lvalue_place l = c.place.ensures
-    ∙ ap (λ t. lvalue_place (lvalue_tree t)) c.deref.ensures in
+    ∙ ap (λ t. lvalue_place (lvalue_tree t)) c.deref-in-Step-2.ensures in
+    let of : c.in_ok-address-in-Step.address.of ≡ type_of laid is_open path l =
+    c.in_ok-address-in-Step.ensures.of ∙ ap (λ t. type_of laid is_open path (lvalue_tree t)) c.deref.ensures in
+    let found = c.is_changed.result in
+    let unsigned : Bool = is_signed_word i.of && is_enumerated (type_of laid is_open path l).number in
+    let finds : found ≡ unsigned = c.is_changed.ensures
+    ∙ ap (λ (q : Qualified). is_signed_word i.of && is_enumerated q.number) of in
     subst (λ (u : RvalueTree). shown c.note_end.new.to
     ≡ behind a (by_wanted w (walked laid is_open sizes path c.args.used u)))
     (sym tree)
-    (compound_noted laid is_open sizes path w i.place (lvalue_place l) i.place n loaded is
+    (compound_noted laid is_open sizes path w i.place (lvalue_place l) i.place n found unsigned loaded is
     (is_some (conversion Ints.Int i.of)) back a f (shown c.change_ends.new.to)
-    (shown c.note_end.new.to) sides c.is_conversion-is_converted.ensures before stands
+    (shown c.note_end.new.to) sides finds c.is_conversion-is_converted.ensures before stands
     (c.in_ok-change_ends-in-Step.ensures
-    ∙ ap (λ q. stored_from n i.place (behind f (change_end loaded q is i.place back i.place))) name)
+    ∙ ap (λ q. stored_from n i.place (behind f (change_end found loaded q is i.place back i.place))) name)
     c.in_ok-note_end-in-Step.ensures)
 
 pub operators::walk_step-returns-in_ok-note_end-in-StepMove-clause-noted :
@@ -1205,7 +1235,7 @@ operators::walk_step-returns-in_ok-note_end-in-StepMove-clause-given t c =
     let path = c.args.here.now.path in
     let l = lvalue_tree i.target.value in
     let tree : rvalue_tree c.args.rvalue.now ≡ a_pointer_step i.step i.cells i.class l i.place = ap rvalue_tree i.is in
-    c.held_by.ensures is_open path
+    c.held_by-in-StepMove.ensures is_open path
     ∙ ap (held_by laid is_open path (Scalars.Pointer i.class)) (c.in_ok-address-in-StepMove.ensures.of
     ∙ ap (λ t. type_of laid is_open path (lvalue_tree t)) c.deref-in-StepMove.ensures)
     ∙ sym (ap (given laid is_open path) tree)
@@ -1214,15 +1244,30 @@ pub operators::walk_change-returns-in_ok-note_end-in-Compound-clause-given :
     goal.operators::walk_change-returns-in_ok-note_end-in-Compound-clause-given
 unfolding IsRead IsGiven IsAddressed IsTyped
 operators::walk_change-returns-in_ok-note_end-in-Compound-clause-given t c =
-    sym (ap (λ v. given (laid_tree c.args.here.now.laid.now) (is_among c.args.here.now.opens.now) c.args.here.now.path
-    (rvalue_tree v)) c.in-Compound.is)
+    let i = c.in-Compound in
+    let laid = laid_tree c.args.here.now.laid.now in
+    let is_open = is_among c.args.here.now.opens.now in
+    let path = c.args.here.now.path in
+    let l = lvalue_tree i.target.value in
+    let of : c.in_ok-address-in-Compound.address.of ≡ type_of laid is_open path l =
+    c.in_ok-address-in-Compound.ensures.of
+    ∙ ap (λ t. type_of laid is_open path (lvalue_tree t)) c.deref-in-Compound.ensures in
+    c.held_by-in-Compound.ensures is_open path ∙ ap (held_by laid is_open path (Scalars.Int i.cell)) of
+    ∙ sym (ap (λ v. given laid is_open path (rvalue_tree v)) i.is)
 
 pub operators::walk_step-returns-in_ok-note_end-in-Step-clause-given :
     goal.operators::walk_step-returns-in_ok-note_end-in-Step-clause-given
 unfolding IsRead IsGiven IsAddressed IsTyped
 operators::walk_step-returns-in_ok-note_end-in-Step-clause-given t c =
-    sym (ap (λ v. given (laid_tree c.args.here.now.laid.now) (is_among c.args.here.now.opens.now) c.args.here.now.path
-    (rvalue_tree v)) c.in-Step.is)
+    let i = c.in-Step in
+    let laid = laid_tree c.args.here.now.laid.now in
+    let is_open = is_among c.args.here.now.opens.now in
+    let path = c.args.here.now.path in
+    let l = lvalue_tree i.target.value in
+    let of : c.in_ok-address-in-Step.address.of ≡ type_of laid is_open path l =
+    c.in_ok-address-in-Step.ensures.of ∙ ap (λ t. type_of laid is_open path (lvalue_tree t)) c.deref.ensures in
+    c.held_by.ensures is_open path ∙ ap (held_by laid is_open path (Scalars.Int i.cell)) of
+    ∙ sym (ap (λ v. given laid is_open path (rvalue_tree v)) i.is)
 
 pub operators::walk_operator-returns-in_ok-note_end-in-Unary-clause-noted :
     goal.operators::walk_operator-returns-in_ok-note_end-in-Unary-clause-noted
@@ -1239,22 +1284,35 @@ operators::walk_operator-returns-in_ok-note_end-in-Unary-clause-noted t c =
     let a = shown c.args.to.now in
     let x : Noted = (walked laid is_open sizes path true e).value in
     let b = shown c.walk_rvalue.new.to in
-    let value : b ≡ behind a x = c.in_ok-_given-in-Unary.ensures.noted
+    let value : b ≡ behind a x = c.in_ok-given-in-Unary.ensures.noted
     ∙ ap (λ v. behind a (walked laid is_open sizes path true (rvalue_tree v)).value) c.deref.ensures in
+    let from : c.in_ok-given-in-Unary.given ≡ given laid is_open path e = c.in_ok-given-in-Unary.ensures.given
+    ∙ ap (λ v. given laid is_open path (rvalue_tree v)) c.deref.ensures in
+    let found : c.is_unsigned_by_some-is_enumeration.result ≡ is_unsigned_by_some (given laid is_open path e) =
+    c.is_unsigned_by_some-is_enumeration.ensures ∙ ap is_unsigned_by_some from in
+    let edge = one i.place (Forms.Unary (is_unsigned_by_some (given laid is_open path e))) in
     subst (λ (u : RvalueTree). shown c.note_end.new.to ≡ behind a (by_wanted w
     (walked laid is_open sizes path c.args.used u)))
     (sym tree)
     (value_noted laid is_open sizes path w false i.place a (shown c.note.new.to) (shown c.note_end.new.to)
-    (behind x (one i.place Forms.Unary))
-    (then_behind a b (shown c.note.new.to) x (one i.place Forms.Unary) value c.in_ok-note-in-Unary.ensures)
+    (behind x edge) (then_behind a b (shown c.note.new.to) x edge value (c.in_ok-note-in-Unary.ensures
+    ∙ ap (λ k. behind b (one i.place (Forms.Unary k))) found))
     c.in_ok-note_end-in-Unary.ensures)
 
 pub operators::walk_operator-returns-in_ok-note_end-in-Unary-clause-given :
     goal.operators::walk_operator-returns-in_ok-note_end-in-Unary-clause-given
 unfolding IsRead IsGiven IsAddressed IsTyped
 operators::walk_operator-returns-in_ok-note_end-in-Unary-clause-given t c =
-    sym (ap (λ v. given (laid_tree c.args.here.now.laid.now) (is_among c.args.here.now.opens.now) c.args.here.now.path
-    (rvalue_tree v)) c.in-Unary.is)
+    let i = c.in-Unary in
+    let laid = laid_tree c.args.here.now.laid.now in
+    let is_open = is_among c.args.here.now.opens.now in
+    let path = c.args.here.now.path in
+    let e = rvalue_tree i.value.value in
+    let from : c.in_ok-given-in-Unary.given ≡ given laid is_open path e = c.in_ok-given-in-Unary.ensures.given
+    ∙ ap (λ v. given laid is_open path (rvalue_tree v)) c.deref.ensures in
+    let found : c.is_unsigned_by_some-is_enumeration.result ≡ is_unsigned_by_some (given laid is_open path e) =
+    c.is_unsigned_by_some-is_enumeration.ensures ∙ ap is_unsigned_by_some from in
+    c.number_if.ensures ∙ ap number_if found ∙ sym (ap (λ v. given laid is_open path (rvalue_tree v)) i.is)
 
 pub operators::walk_operator-returns-in_ok-operator_ends-in-Binary-clause-noted :
     goal.operators::walk_operator-returns-in_ok-operator_ends-in-Binary-clause-noted
@@ -1292,20 +1350,40 @@ operators::walk_operator-returns-in_ok-operator_ends-in-Binary-clause-noted t c 
     let right : k ≡ behind h (one_if (is_some (implied r)) (rvalue_place r) Forms.Conversion) =
     c.in_ok-note_implied-in-Binary-2.ensures ∙ ap (λ v. behind h (one_if (is_some (implied (rvalue_tree v)))
     (rvalue_place (rvalue_tree v)) Forms.Conversion)) c.deref-in-Binary-4.ensures in
+    let first_gives : c.in_ok-first-in-Binary.first.given ≡ given laid is_open path l =
+    c.in_ok-first-in-Binary.ensures.given
+    ∙ ap (λ v. given laid is_open path (rvalue_tree v)) c.deref-in-Binary.ensures in
+    let second_gives : c.in_ok-second-in-Binary.second.given ≡ given laid is_open path r =
+    c.in_ok-second-in-Binary.ensures.given
+    ∙ ap (λ v. given laid is_open path (rvalue_tree v)) c.deref-in-Binary-2.ensures in
+    let is : Bool = either (given laid is_open path l) (given laid is_open path r) in
+    let found : c.either-is_either.result ≡ is = c.either-is_either.ensures ∙ ap₂ either first_gives second_gives in
     subst (λ (u : RvalueTree). shown c.operator_ends.new.to ≡ behind a (by_wanted w
     (walked laid is_open sizes path c.args.used u)))
     (sym tree)
-    (binary_noted laid is_open sizes path (is_comparison i.operator) w i.place (rvalue_place l) (rvalue_place r)
+    (binary_noted laid is_open sizes path (is_comparison i.operator) is w i.place (rvalue_place l) (rvalue_place r)
     (is_some (implied l)) (is_some (implied r)) a g h k (shown c.operator_ends.new.to) (both i.place x y) stands left
     right (c.in_ok-operator_ends-in-Binary.ensures
-    ∙ ap (λ z. behind k (operator_end z w i.place)) c.is_comparison.ensures))
+    ∙ ap₂ (λ z u. behind k (operator_end z u w i.place)) c.is_comparison.ensures found))
 
 pub operators::walk_operator-returns-in_ok-operator_ends-in-Binary-clause-given :
     goal.operators::walk_operator-returns-in_ok-operator_ends-in-Binary-clause-given
 unfolding IsRead IsGiven IsAddressed IsTyped
 operators::walk_operator-returns-in_ok-operator_ends-in-Binary-clause-given t c =
-    sym (ap (λ v. given (laid_tree c.args.here.now.laid.now) (is_among c.args.here.now.opens.now) c.args.here.now.path
-    (rvalue_tree v)) c.in-Binary.is)
+    let i = c.in-Binary in
+    let laid = laid_tree c.args.here.now.laid.now in
+    let is_open = is_among c.args.here.now.opens.now in
+    let path = c.args.here.now.path in
+    let l = rvalue_tree i.left.value in
+    let r = rvalue_tree i.right.value in
+    let first_gives : c.in_ok-first-in-Binary.first.given ≡ given laid is_open path l =
+    c.in_ok-first-in-Binary.ensures.given
+    ∙ ap (λ v. given laid is_open path (rvalue_tree v)) c.deref-in-Binary.ensures in
+    let second_gives : c.in_ok-second-in-Binary.second.given ≡ given laid is_open path r =
+    c.in_ok-second-in-Binary.ensures.given
+    ∙ ap (λ v. given laid is_open path (rvalue_tree v)) c.deref-in-Binary-2.ensures in
+    c.computed.ensures ∙ ap₂ (computed i.operator) first_gives second_gives
+    ∙ sym (ap (λ v. given laid is_open path (rvalue_tree v)) i.is)
 
 pub operators::walk_operator-returns-in_ok-pointers_end-in-Pointers-clause-noted :
     goal.operators::walk_operator-returns-in_ok-pointers_end-in-Pointers-clause-noted

@@ -26,19 +26,19 @@ compared_end Wants.Value p f g = one p f
 compared_end Wants.Bare p f g = one p f
 compared_end Wants.Branch p f g = tests p g
 
-abbrev pub operator_end : Bool → Wanted → Place → Noted
-operator_end true w p = compared_end w p Forms.Binary Forms.Test
-operator_end false w p = behind (one p Forms.Binary) (end_by w false p)
+abbrev pub operator_end : Bool → Bool → Wanted → Place → Noted
+operator_end true b w p = compared_end w p (Forms.Binary b) (Forms.Test b)
+operator_end false b w p = behind (one p (Forms.Binary b)) (end_by w false p)
 
 -- a comparison of pointers, once they are known to be usable
 abbrev pub equality_end : Wanted → Place → Noted
 equality_end w p = compared_end w p Forms.Equality Forms.EqualityTest
 
 -- the operator of `op=`, `++` or `--`, with the conversions of what is loaded, of the operand, and of what is stored
-abbrev pub change_end : Bool → Place → Bool → Place → Bool → Place → Noted
-change_end loaded at operand behind_it back p =
+abbrev pub change_end : Bool → Bool → Place → Bool → Place → Bool → Place → Noted
+change_end b loaded at operand behind_it back p =
     behind (behind (behind (one_if loaded at Forms.Conversion) (one_if operand behind_it Forms.Conversion))
-    (one p Forms.Binary)) (one_if back p Forms.Conversion)
+    (one p (Forms.Binary b))) (one_if back p Forms.Conversion)
 
 -- an argument that is not the first one stands against those before it
 abbrev pub against_before : ℕ → Place → Span → Span → Noted → Noted

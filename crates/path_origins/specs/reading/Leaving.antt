@@ -65,7 +65,7 @@ loop_end others breaks = behind (skips nowhere (suc others)) (skips nowhere brea
 
 -- the tests of labels
 abbrev pub label_noted : TypedCase → Noted
-label_noted (a_label z p) = tests p Forms.Test
+label_noted (a_label z p) = tests p (Forms.Test false)
 label_noted (a_default_label p) = nothing
 label_noted (a_labelled_step s) = nothing
 

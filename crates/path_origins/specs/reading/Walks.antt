@@ -27,8 +27,8 @@ by_wanted Wants.Branch w = w.fork
 
 -- what stands behind a value that is wanted so
 abbrev pub tested_end : Bool → Place → Noted
-tested_end true p = behind (one p Forms.Usable) (tests p Forms.Test)
-tested_end false p = tests p Forms.Test
+tested_end true p = behind (one p Forms.Usable) (tests p (Forms.Test false))
+tested_end false p = tests p (Forms.Test false)
 
 abbrev pub end_by : Wanted → Bool → Place → Noted
 end_by Wants.Value pointer p = nothing

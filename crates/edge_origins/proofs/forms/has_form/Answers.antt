@@ -1,13 +1,11 @@
 use Rattle.std.proofs.Common.{inl, inr, sym, subst}
 use Rattle.flow_graph.specs.declared.operations.Operation.{Operation}
-use Rattle.flow_graph.specs.declared.operations.Operation.TheVariants as Op
-use Rattle.path_origins.specs.declared.origins.Form.{Form}
 use Rattle.edge_origins.specs.Bodies.{HasForm}
 use Rattle.edge_origins.specs.Bodies.{a_base, a_binary, a_clear, a_constant, a_conversion, a_copy, a_follow, a_load}
-use Rattle.edge_origins.specs.Bodies.{a_lock, a_move, a_part, a_probe, a_skip, a_store, a_test, a_unary}
+use Rattle.edge_origins.specs.Bodies.{a_lock, a_move, a_part, a_probe, a_skip, a_store, a_unary}
 use Rattle.edge_origins.specs.Bodies.{a_usable, a_volatile_load, a_yield, an_element, an_equality}
 use Rattle.edge_origins.specs.Bodies.{an_initialiser, an_unlock, any_value}
-use Rattle.edge_origins.proofs.FormPairs.{formed, unformed, is_of, of_test}
+use Rattle.edge_origins.proofs.FormPairs.{formed, unformed, is_of}
 use Rattle.edge_origins.proofs.forms.has_form.Goals as goal
 
 pub returns-in-Skip-matches : goal.returns-in-Skip-matches
@@ -69,10 +67,9 @@ returns-in-Usable-matches c = formed c.in-Usable.is c.in-Usable-matches.is a_usa
 
 pub returns-in-Assume : goal.returns-in-Assume
 returns-in-Assume c =
-    let At : Operation → Type 0 = λ p. HasForm p c.args.form in
-    let Of : Form → Type 0 = HasForm (Op.Assume c.in-Assume.test) in (
-      λ yes. subst At (sym c.in-Assume.is) (subst Of (c.is_test.ensures.0 yes) a_test),
-      λ h. c.is_test.ensures.1 (of_test (subst At c.in-Assume.is h)),
+    let At : Operation → Type 0 = λ p. HasForm p c.args.form in (
+      λ yes. subst At (sym c.in-Assume.is) (c.is_test.ensures.0 yes),
+      λ h. c.is_test.ensures.1 (subst At c.in-Assume.is h),
     )
 
 pub returns-in-Lock-matches : goal.returns-in-Lock-matches
@@ -97,10 +94,12 @@ pub returns-in_default-matches-2 : goal.returns-in_default-matches-2
 returns-in_default-matches-2 c = unformed c.in-Copy.is (λ h. c.in_default-matches-2.not-Copy (is_of h))
 
 pub returns-in_default-matches-3 : goal.returns-in_default-matches-3
-returns-in_default-matches-3 c = unformed c.in-Un.is (λ h. c.in_default-matches-3.not-Unary (is_of h))
+returns-in_default-matches-3 c = unformed c.in-Un.is (λ h.
+    let u = is_of h in c.in_default-matches-3.not-Unary u.0 u.1)
 
 pub returns-in_default-matches-4 : goal.returns-in_default-matches-4
-returns-in_default-matches-4 c = unformed c.in-Bin.is (λ h. c.in_default-matches-4.not-Binary (is_of h))
+returns-in_default-matches-4 c = unformed c.in-Bin.is (λ h.
+    let b = is_of h in c.in_default-matches-4.not-Binary b.0 b.1)
 
 pub returns-in_default-matches-5 : goal.returns-in_default-matches-5
 returns-in_default-matches-5 c = unformed c.in-BinPointers.is (λ h. c.in_default-matches-5.not-Equality (is_of h))

@@ -16,7 +16,7 @@ returns c =
     let back = is_some (conversion x.of x.cell) in
     let all = four_behind (shown c.args.to.now) (shown c.note_if.new.to) (shown c.note_if-2.new.to)
     (shown c.note.new.to) (shown c.note_if-3.new.to) (one_if loaded x.load_place Forms.Conversion)
-    (one_if c.args.is_converted c.args.operand_place Forms.Conversion) (one x.place Forms.Binary)
+    (one_if c.args.is_converted c.args.operand_place Forms.Conversion) (one x.place (Forms.Binary x.is_either))
     (one_if back x.place Forms.Conversion)
     (as_one x.load_place Forms.Conversion c.is_conversion-loaded.result loaded (shown c.args.to.now)
     (shown c.note_if.new.to) c.is_conversion-loaded.ensures c.in_ok-note_if.ensures)

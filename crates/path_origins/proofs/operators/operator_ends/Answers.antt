@@ -12,11 +12,13 @@ use Rattle.path_origins.proofs.operators.operator_ends.Goals as goal
 pub returns-then-is_comparison : goal.returns-then-is_comparison
 returns-then-is_comparison c =
     subst (λ z. OnOk c.comparison_ends.result (IsBehind c.args.to.now c.comparison_ends.new.to
-    (operator_end z c.args.wanted c.args.place))) (sym c.if-is_comparison.true) c.comparison_ends.ensures
+    (operator_end z c.args.is_either c.args.wanted c.args.place))) (sym c.if-is_comparison.true)
+    c.comparison_ends.ensures
 
 pub returns : goal.returns
 returns c =
     subst (λ z. OnOk c.note_end.result (IsBehind c.args.to.now c.note_end.new.to
-    (operator_end z c.args.wanted c.args.place))) (sym c.if-is_comparison.false)
+    (operator_end z c.args.is_either c.args.wanted c.args.place))) (sym c.if-is_comparison.false)
     (on_ok_weaker c.note_end.result (then_behind (shown c.args.to.now) (shown c.note.new.to) (shown c.note_end.new.to)
-    (one c.args.place Forms.Binary) (end_by c.args.wanted false c.args.place) c.in_ok-note.ensures) c.note_end.ensures)
+    (one c.args.place (Forms.Binary c.args.is_either)) (end_by c.args.wanted false c.args.place)
+    c.in_ok-note.ensures) c.note_end.ensures)

@@ -1,4 +1,4 @@
-use Rattle.std.proofs.Common.{◌≡◌, length, map, refl, ap, ◌∙◌, arith}
+use Rattle.std.proofs.Common.{◌≡◌, length, map, ap, ◌∙◌, arith}
 use Rattle.tm_typed.specs.TypedStatements.{given_tree}
 use Rattle.tm_laid.specs.Layouts.{laid_tree, object_at}
 use Rattle.tm_laid.specs.declared.objects.LaidObject.{LaidObject}
