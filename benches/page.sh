@@ -46,6 +46,8 @@ cat >"$work/open.c" <<'SOURCE'
 #pragma speed
 int x, r, c;
 struct S { int a[2]; int b[2]; } s;
+struct L { int i; long long l; };
+enum E { OFF, ON } e;
 const int limit = 3;
 int *restrict q;
 int abs(int v) { return 5; }
@@ -57,11 +59,12 @@ __task(1) void t(void) {
     { int v = 1; p = &v; } r = *p;
     p = (int *)&limit; *p = 4;
     r = (signed char)__input(0, 300);
+    e = __input(-1, 1); r = sizeof(struct L);
     r = 1 / __input(0, 3);
 }
 SOURCE
 make_page open --all-assumptions "$work/open.c"
-for kind in CONST IMPLEMENTATION LIFETIME MEMBER ORDER PRAGMA RESERVED RESTRICT UNSET; do
+for kind in CONST ENUM IMPLEMENTATION LAYOUT LIFETIME MEMBER ORDER PRAGMA RESERVED RESTRICT UNSET; do
     grep -q "^<p class='open'>$kind at column [0-9]*: " "$folder/open.html" || { echo "open: no $kind is marked" && exit 1; }
 done
 make_page some "$work/open.c"

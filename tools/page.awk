@@ -315,7 +315,7 @@ function place_openings(    it) {
 
 # Tells how many assumptions each kind has, and the places of those that are marked.
 function tell_openings(to,    it, kinds, kind, told) {
-    split("CONST LIFETIME MEMBER ORDER PRAGMA RESERVED RESTRICT UNSET IMPLEMENTATION", kinds, " ")
+    split("CONST ENUM LAYOUT LIFETIME MEMBER ORDER PRAGMA RESERVED RESTRICT UNSET IMPLEMENTATION", kinds, " ")
     for (it = 1; it in kinds; it++) if ((kind = kinds[it]) in open_count)
         told = told GROUP kind ", " counted(open_count[kind], "place") ": " opening[kind] SUMMARY_END OPEN \
             (kind in open_row ? open_row[kind] : "--all-assumptions has these places shown") NOTE_END GROUP_END

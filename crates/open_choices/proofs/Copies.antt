@@ -1,17 +1,18 @@
 -- What the copies of an edge leave open is what its states do.
-use Rattle.std.proofs.Common.{◌≡◌, ◌↔◌, ℕ, refl, sym, ap, subst, ◌∙◌, List, Some, Option}
+use Rattle.std.proofs.Common.{◌≡◌, ◌↔◌, ℕ, refl, sym, ap, subst, ◌∙◌, List, Some, Option, true}
 use Rattle.std.specs.Prelude.{Contains, slice_get}
+use Rattle.std.proofs.lemmas.Bool.{false≢true}
 use Rattle.mutex_configs.specs.declared.nodes.EdgeCopy.{EdgeCopy}
 use Rattle.post_recheck.specs.transfer_rows.StateForms.{State}
 use Rattle.text_choices.specs.declared.kinds.Choice.{Choice}
 use Rattle.operand_orders.specs.Reached.{SolvedBody, operation_at, HasState}
 use Rattle.operand_orders.specs.reading.Views.{AreCopiesOf, state_from, state_at}
 use Rattle.open_choices.specs.declared.looks.Look.{Look}
-use Rattle.open_choices.specs.reading.Looks.{look_of}
-use Rattle.open_choices.specs.reading.Found.{IsFound, IsCounted, AreCounted, IsOfCopy, IsOfSome, IsOfEdge}
+use Rattle.open_choices.specs.declared.looks.Look.TheVariants as Looks
+use Rattle.open_choices.specs.reading.Looks.{is_nothing}
+use Rattle.open_choices.specs.reading.Found.{Finds, IsFound, IsCounted, IsCountedAt, IsOfCopy, IsOfSome, IsOfEdge}
 
-module _ (b : SolvedBody) (edge : ℕ) (look : Look) (look-is : look ≡ look_of (operation_at b edge)) (numbers : List ℕ)
-    (copies : AreCopiesOf b.copies edge numbers) where
+module _ (b : SolvedBody) (edge : ℕ) (look : Look) (numbers : List ℕ) (copies : AreCopiesOf b.copies edge numbers) where
   pub has_state : (k : ℕ) (s : State) → Contains numbers k → state_at b k ≡ Some s
       → HasState b edge (operation_at b edge) s
   has_state k s has e =
@@ -24,15 +25,16 @@ module _ (b : SolvedBody) (edge : ℕ) (look : Look) (look-is : look ≡ look_of
         operation = refl;
       }
 
-  pub counted_there : AreCounted b → (k : ℕ) (s : State) → Contains numbers k → state_at b k ≡ Some s → IsCounted s look
-  counted_there all k s has e = subst (IsCounted s) (sym look-is) (all.each edge s (has_state k s has e))
+  pub counted_there : IsCountedAt b edge look → (k : ℕ) (s : State) → Contains numbers k → state_at b k ≡ Some s
+      → IsCounted s look
+  counted_there all k s has e = all s (has_state k s has e)
 
-  pub of_copies : (c : Choice) → IsOfSome (IsOfCopy b edge look) numbers c ↔ IsOfEdge b edge c
+  pub of_copies : (c : Choice) → IsOfSome (IsOfCopy b edge look) numbers c ↔ IsOfEdge b edge look c
   of_copies c = (
     λ h. record {
       state = h.opens.state;
       has = has_state h.one h.opens.state h.has h.opens.is;
-      found = subst (λ l. IsFound b edge h.opens.state l c) look-is h.opens.found;
+      found = h.opens.found;
     },
     λ h. (let there = h.has in record {
       one = there.number;
@@ -40,10 +42,19 @@ module _ (b : SolvedBody) (edge : ℕ) (look : Look) (look-is : look ≡ look_of
       opens = record {
         state = h.state;
         is = subst (λ o. state_from b o ≡ Some h.state) (sym there.is) there.state;
-        found = subst (λ l. IsFound b edge h.state l c) (sym look-is) h.found;
+        found = h.found;
       };
     }),
   )
+
+-- nothing is found where nothing is looked for
+module _ (b : SolvedBody) (edge : ℕ) where
+  nothing_found : (s : State) (look : Look) → is_nothing look ≡ true → Finds b edge s look → ⊥
+  nothing_found s Looks.Nothing e h = h
+  nothing_found s look e h = false≢true e
+
+  pub nothing_open : (look : Look) → is_nothing look ≡ true → (c : Choice) → IsOfEdge b edge look c → ⊥
+  nothing_open look e c h = nothing_found h.state look e h.found.0
 
 module _ (b : SolvedBody) (edge : ℕ) (look : Look) (k : ℕ) where
   same_state : (s t : State) → ◌≡◌ {A = Option State} (Some s) (Some t) → s ≡ t

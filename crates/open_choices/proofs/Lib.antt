@@ -4,7 +4,9 @@ mod Copies
 mod Entries
 mod Numbers
 mod Unsets
+mod Marked
 mod ChoiceOrder
+mod Enumerated
 mod Whole
 mod BodyFacts
 mod Runs

@@ -1,4 +1,4 @@
--- Cells that were not stored, and cells that are declared `const`, life by life and mark by mark.
+-- Cells that were not stored, life by life.
 use Rattle.std.proofs.Common.{◌≡◌, ◌↔◌, ◌⊎◌, ℕ, ◌+◌, ◌<◌, ◌≤◌, inl, inr, refl, sym, ap, subst, ◌∙◌, List, [], ◌∷◌, ◌++◌}
 use Rattle.std.proofs.Common.{length}
 use Rattle.std.proofs.Common.{None, take, get_or, IsTrue, Bool, true, false, arith}
@@ -16,7 +16,7 @@ use Rattle.operand_orders.specs.declared.scopes.ObjectLives.{ObjectLives}
 use Rattle.operand_orders.specs.reading.Lists.{list_at, HasOne}
 use Rattle.operand_orders.specs.reading.Scopes.{AreLivesOf}
 use Rattle.open_choices.specs.Unset.{IsUninitialised, FindsUnset}
-use Rattle.open_choices.specs.reading.Found.{AreUninitialised, LoadsUnset, StoresConstant, IsConstantCell}
+use Rattle.open_choices.specs.reading.Found.{AreUninitialised, LoadsUnset}
 use Rattle.open_choices.proofs.ChoiceLists.{either, front_more, front_none}
 
 -- what stands in place of a life that there is not
@@ -70,12 +70,6 @@ module _ (b : SolvedBody) (s : State) (scalar : Scalar) (address : ℕ) (xs : Li
   loads edge = (
     λ h. record { cell = h.one; target = subst (λ ys. Contains ys h.one) are h.has; finds = h.is },
     λ l. record { one = l.cell; has = subst (λ ys. Contains ys l.cell) (sym are) l.target; is = l.finds },
-  )
-
-  pub marks : HasOne (IsConstantCell b.laid) xs ↔ StoresConstant b s scalar address
-  marks = (
-    λ h. record { cell = h.one; target = subst (λ ys. Contains ys h.one) are h.has; constant = h.is },
-    λ l. record { one = l.cell; has = subst (λ ys. Contains ys l.cell) (sym are) l.target; is = l.constant },
   )
 
 -- a test that says the same

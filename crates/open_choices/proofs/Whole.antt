@@ -18,17 +18,25 @@ use Rattle.text_choices.specs.declared.kinds.Kind.{Kind}
 use Rattle.text_choices.specs.declared.kinds.Kind.TheVariants as Kinds
 use Rattle.text_choices.specs.declared.kinds.Choice.{Choice}
 use Rattle.text_choices.specs.Choices.{OfKind}
+use Rattle.path_origins.specs.declared.origins.Passing.{Passing}
+use Rattle.path_origins.specs.declared.origins.Passed.{Passed}
+use Rattle.path_origins.specs.declared.origins.Passed.TheVariants as Passes
 use Rattle.operand_orders.specs.Reached.{SolvedBody, operation_at, origin_at, HasState, IsOpen}
 use Rattle.operand_orders.specs.Order.{IsOfOrder}
 use Rattle.open_choices.specs.Unset.{IsUnset, a_load, a_volatile_load, an_end}
 use Rattle.open_choices.specs.Conversions.{IsOfImplementation, converted, shifted}
 use Rattle.open_choices.specs.Constants.{IsConst, given, stored}
+use Rattle.open_choices.specs.Enumerations as enum
+use Rattle.open_choices.specs.Enumerations.{IsOfEnum}
 use Rattle.open_choices.specs.Lifetimes.{IsOfLifetime, PointsTo, Uses, follows, compares, used, begun}
 use Rattle.open_choices.specs.Members.{IsOfMember, Compares, for_value, as_branch, moved, compared}
 use Rattle.open_choices.specs.Choices.{IsOpenByRuns, IsOfBody}
 use Rattle.open_choices.specs.reading.Looks.{look_of, store_of, bin_of, test_of}
+use Rattle.open_choices.specs.declared.looks.Look.{Look}
+use Rattle.open_choices.specs.reading.Enumerated.{enumerated_look_of}
 use Rattle.open_choices.specs.reading.Found.{IsNew, IsOfSome, IsOfNumber, kind_of, place_at, Finds, IsFound, IsOfEdge}
-use Rattle.open_choices.specs.reading.Found.{IsFallen, IsPassed, IsBegun, IsMeeting}
+use Rattle.open_choices.specs.reading.Found.{IsOpenAt, IsEnumeratedAt, IsFallen, passed_kind, IsPassed, IsBegun, IsMeeting}
+use Rattle.open_choices.proofs.Enumerated.{enumerated_open, IsEnumerated, stored_found, worked_found}
 
 module _ (b : SolvedBody) where
   -- ## What is found is left open
@@ -84,16 +92,27 @@ module _ (b : SolvedBody) where
   found_open edge s (Op.Assume test) has h = test_found edge s test has h
   found_open edge s op has h = absurd h
 
-  pub edge_open : (edge : ℕ) (c : Choice) → IsOfEdge b edge c → IsOfBody b c
+  pub edge_open : (edge : ℕ) (c : Choice) → IsOpenAt b edge c → IsOfBody b c
   edge_open edge c h =
       subst (IsOfBody b) (sym h.found.1) (found_open edge h.state (operation_at b edge) h.has h.found.0)
+
+  pub enumeration_open : (edge : ℕ) (c : Choice) → IsEnumeratedAt b edge c → IsOfBody b c
+  enumeration_open edge c h =
+      (let o = origin_at b edge in subst (IsOfBody b) (sym h.found.1)
+      (enumerated_open b edge h.state o.form (operation_at b edge) h.has refl h.found.0))
+
+  passing_open : (passing : Passing) (passed : Passed) → (let o = b.origins in Contains o.passings.items passing)
+      → passing.passed ≡ passed → IsOpenByRuns b (passed_kind passed) passing.place
+  passing_open passing Passes.Pointer has at = given passing has at refl
+  passing_open passing Passes.Enumeration has at = enum.cast passing has at refl
 
   -- ## What is left open is found
 
   pub of_edge : (edge : ℕ) (op : Operation) (s : State) → HasState b edge op s → (kind : Kind) (place : Place)
-      → (let look = look_of op in Finds b edge s look → kind ≡ kind_of look → place ≡ place_at b edge look
-      → IsOfEdge b edge (record { place = place; kind = kind }))
-  of_edge edge op s has kind place h kind-is place-is = record {
+      → (Looks : Operation → Look) → (let look = Looks op in Finds b edge s look → kind ≡ kind_of look
+      → place ≡ place_at b edge look
+      → IsOfEdge b edge (Looks (operation_at b edge)) (record { place = place; kind = kind }))
+  of_edge edge op s has kind place Looks h kind-is place-is = record {
     state = s;
     has = record {
       number = has.number;
@@ -103,28 +122,44 @@ module _ (b : SolvedBody) where
       state = has.state;
       operation = refl;
     };
-    found = subst (λ o. IsFound b edge s (look_of o) (record { place = place; kind = kind })) (sym has.operation)
+    found = subst (λ o. IsFound b edge s (Looks o) (record { place = place; kind = kind })) (sym has.operation)
         (h, λ i. record { place = place-is i; kind = kind-is i });
   }
 
   module _ (below : (k : ℕ) (copy : EdgeCopy) → slice_get b.copies k ≡ Some copy → copy.edge < length b.edges) where
     abbrev pub IsOfEdges : Choice → Type 0
-    IsOfEdges c = IsOfNumber (IsOfEdge b) (length b.edges) c
+    IsOfEdges c = IsOfNumber (IsOpenAt b) (length b.edges) c
+
+    abbrev pub AreEnumerations : Choice → Type 0
+    AreEnumerations c = IsOfNumber (IsEnumeratedAt b) (length b.edges) c
+
+    is_edge : (edge : ℕ) (op : Operation) (s : State) → HasState b edge op s → edge < length b.edges
+    is_edge edge op s has = subst (λ n. n < length b.edges) has.of (below has.number has.copy has.is)
 
     there : (edge : ℕ) (op : Operation) (s : State) → HasState b edge op s → (kind : Kind) (place : Place)
         → (let look = look_of op in Finds b edge s look → kind ≡ kind_of look → place ≡ place_at b edge look
         → IsOfEdges (record { place = place; kind = kind }))
     there edge op s has kind place h kind-is place-is = record {
       number = edge;
-      below = subst (λ n. n < length b.edges) has.of (below has.number has.copy has.is);
-      opens = of_edge edge op s has kind place h kind-is place-is;
+      below = is_edge edge op s has;
+      opens = of_edge edge op s has kind place look_of h kind-is place-is;
+    }
+
+    enumerated_there : (edge : ℕ) (op : Operation) (s : State) → HasState b edge op s → (place : Place)
+        → (let o = origin_at b edge in IsEnumerated b edge s o.form op) → (let o = origin_at b edge in o.place ≡ place)
+        → AreEnumerations (record { place = place; kind = Kinds.Enum })
+    enumerated_there edge op s has place h at = record {
+      number = edge;
+      below = is_edge edge op s has;
+      opens = (let o = origin_at b edge in of_edge edge op s has Kinds.Enum place (enumerated_look_of o.form) h.0
+          (sym h.1) (sym at ∙ sym h.2));
     }
 
     -- all together
     abbrev pub IsOfAll : Choice → Type 0
-    IsOfAll c = IsOfEdges c ⊎ ((let o = b.origins in IsOfSome (IsFallen b) o.falls.items c)
+    IsOfAll c = IsOfEdges c ⊎ (AreEnumerations c ⊎ ((let o = b.origins in IsOfSome (IsFallen b) o.falls.items c)
         ⊎ ((let o = b.origins in IsOfSome IsPassed o.passings.items c)
-        ⊎ ((let o = b.origins in IsOfSome (IsBegun b) o.lives.items c) ⊎ OfKind Kinds.Order (IsOfOrder b) c)))
+        ⊎ ((let o = b.origins in IsOfSome (IsBegun b) o.lives.items c) ⊎ OfKind Kinds.Order (IsOfOrder b) c))))
 
     unset_found : (place : Place) → IsUnset b place → IsOfAll (record { place = place; kind = Kinds.Unset })
     unset_found place (a_load {edge = edge} {to = to} {address = address} {scalar = scalar} s cell has target finds) =
@@ -134,11 +169,11 @@ module _ (b : SolvedBody) where
         (a_volatile_load {edge = edge} {to = to} {address = address} {scalar = scalar} s cell has target finds) =
         inl (there edge (Op.LoadAny to address scalar place) s has Kinds.Unset place
         (record { cell = cell; target = target; finds = finds }) refl refl)
-    unset_found place (an_end fall noted at reached) = inr (inl (record {
+    unset_found place (an_end fall noted at reached) = inr (inr (inl (record {
       one = fall;
       has = noted;
       opens = (reached, λ i. record { place = sym at i; kind = Kinds.Unset });
-    }))
+    })))
 
     implementation_found : (place : Place) → IsOfImplementation b place
         → IsOfAll (record { place = place; kind = Kinds.Implementation })
@@ -152,15 +187,27 @@ module _ (b : SolvedBody) where
         (record { number = n; has = number; negative = negative }) refl refl)
 
     const_found : (place : Place) → IsConst b place → IsOfAll (record { place = place; kind = Kinds.Const })
-    const_found place (given passing noted at) = inr (inr (inl (record {
+    const_found place (given passing noted passed at) = inr (inr (inr (inl (record {
       one = passing;
       has = noted;
-      opens = (refl, λ i. record { place = sym at i; kind = Kinds.Const });
-    })))
+      opens = (refl, λ i. record { place = sym at i; kind = passed_kind (sym passed i) });
+    }))))
     const_found place
         (stored {edge = edge} {address = address} {value = value} {scalar = scalar} s cell has target constant) =
         inl (there edge (Op.Store address value scalar Intos.Pointed place) s has Kinds.Const place
         (record { cell = cell; target = target; constant = constant }) refl refl)
+
+    enum_found : (place : Place) → IsOfEnum b place → IsOfAll (record { place = place; kind = Kinds.Enum })
+    enum_found place (enum.cast passing noted passed at) = inr (inr (inr (inl (record {
+      one = passing;
+      has = noted;
+      opens = (refl, λ i. record { place = sym at i; kind = passed_kind (sym passed i) });
+    }))))
+    enum_found place (enum.stored {edge = edge} {op = op} s has negative at) =
+        (let o = origin_at b edge in
+        inr (inl (enumerated_there edge op s has place (stored_found b edge s o.form negative) at)))
+    enum_found place (enum.worked {edge = edge} {op = op} s has works at) =
+        inr (inl (enumerated_there edge op s has place (worked_found b edge s works) at))
 
     use_found : {op : Operation} {pointer : ℕ} {place : Place} → Uses op pointer place → (edge object : ℕ) (s : State)
         → HasState b edge op s → PointsTo (value_of s pointer) object → (IsOpen b edge object → ⊥)
@@ -176,11 +223,11 @@ module _ (b : SolvedBody) where
     lifetime_found : (place : Place) → IsOfLifetime b place → IsOfAll (record { place = place; kind = Kinds.Lifetime })
     lifetime_found place (used {op = op} edge pointer object s has uses points closed) =
         use_found uses edge object s has points closed
-    lifetime_found place (begun life noted at left) = inr (inr (inr (inl (record {
+    lifetime_found place (begun life noted at left) = inr (inr (inr (inr (inl (record {
       one = life;
       has = noted;
       opens = (left, λ i. record { place = sym at i; kind = Kinds.Lifetime });
-    }))))
+    })))))
 
     comparison_found : {op : Operation} {left right : ℕ} → Compares op left right
         → (edge : ℕ) (s : State) (place : Place)
@@ -216,10 +263,12 @@ module _ (b : SolvedBody) where
     open_found : (kind : Kind) (place : Place) → IsOpenByRuns b kind place
         → IsOfAll (record { place = place; kind = kind })
     open_found Kinds.Const place h = const_found place h
+    open_found Kinds.Enum place h = enum_found place h
     open_found Kinds.Implementation place h = implementation_found place h
+    open_found Kinds.Layout place h = absurd h
     open_found Kinds.Lifetime place h = lifetime_found place h
     open_found Kinds.Member place h = member_found place h
-    open_found Kinds.Order place h = inr (inr (inr (inr (refl, h))))
+    open_found Kinds.Order place h = inr (inr (inr (inr (inr (refl, h)))))
     open_found Kinds.Pragma place h = absurd h
     open_found Kinds.Reserved place h = absurd h
     open_found Kinds.Restrict place h = absurd h
@@ -234,13 +283,16 @@ module _ (b : SolvedBody) where
     all_open c = (
       λ x. elim x [
         | inl h ↦ edge_open h.number c h.opens
-        | inr y ↦ elim y [
-          | inl h ↦ subst (IsOfBody b) (sym h.opens.1) (an_end h.one h.has refl h.opens.0)
-          | inr z ↦ elim z [
-            | inl h ↦ subst (IsOfBody b) (sym h.opens.1) (given h.one h.has refl)
-            | inr w ↦ elim w [
-              | inl h ↦ subst (IsOfBody b) (sym h.opens.1) (begun h.one h.has refl h.opens.0)
-              | inr h ↦ order_open c.kind c.place h.0 h.1
+        | inr u ↦ elim u [
+          | inl h ↦ enumeration_open h.number c h.opens
+          | inr y ↦ elim y [
+            | inl h ↦ subst (IsOfBody b) (sym h.opens.1) (an_end h.one h.has refl h.opens.0)
+            | inr z ↦ elim z [
+              | inl h ↦ subst (IsOfBody b) (sym h.opens.1) (passing_open h.one h.one.passed h.has refl)
+              | inr w ↦ elim w [
+                | inl h ↦ subst (IsOfBody b) (sym h.opens.1) (begun h.one h.has refl h.opens.0)
+                | inr h ↦ order_open c.kind c.place h.0 h.1
+              ]
             ]
           ]
         ]

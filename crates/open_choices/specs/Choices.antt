@@ -16,20 +16,23 @@ use Rattle.operand_orders.specs.Order.{IsOfOrder}
 use Rattle.open_choices.specs.Unset.{IsUnset}
 use Rattle.open_choices.specs.Conversions.{IsOfImplementation}
 use Rattle.open_choices.specs.Constants.{IsConst}
+use Rattle.open_choices.specs.Enumerations.{IsOfEnum}
 use Rattle.open_choices.specs.Lifetimes.{IsOfLifetime}
 use Rattle.open_choices.specs.Members.{IsOfMember}
 
 -- the place of a kind in the order of the words
 abbrev pub kind_number : Kind → ℕ
 kind_number Kinds.Const = 0
-kind_number Kinds.Implementation = 1
-kind_number Kinds.Lifetime = 2
-kind_number Kinds.Member = 3
-kind_number Kinds.Order = 4
-kind_number Kinds.Pragma = 5
-kind_number Kinds.Reserved = 6
-kind_number Kinds.Restrict = 7
-kind_number Kinds.Unset = 8
+kind_number Kinds.Enum = 1
+kind_number Kinds.Implementation = 2
+kind_number Kinds.Layout = 3
+kind_number Kinds.Lifetime = 4
+kind_number Kinds.Member = 5
+kind_number Kinds.Order = 6
+kind_number Kinds.Pragma = 7
+kind_number Kinds.Reserved = 8
+kind_number Kinds.Restrict = 9
+kind_number Kinds.Unset = 10
 
 abbrev pub IsBefore : Choice → Choice → Type 0
 IsBefore a b = IsPlaceBefore a.place b.place ⊎ ((a.place ≡ b.place) × (kind_number a.kind < kind_number b.kind))
@@ -42,6 +45,7 @@ AreRising (a ∷ b ∷ choices) = IsBefore a b × AreRising (b ∷ choices)
 -- what the runs of a body leave open
 abbrev pub IsOpenByRuns : SolvedBody → Kind → Place → Type 0
 IsOpenByRuns b Kinds.Const place = IsConst b place
+IsOpenByRuns b Kinds.Enum place = IsOfEnum b place
 IsOpenByRuns b Kinds.Implementation place = IsOfImplementation b place
 IsOpenByRuns b Kinds.Lifetime place = IsOfLifetime b place
 IsOpenByRuns b Kinds.Member place = IsOfMember b place

@@ -1,6 +1,7 @@
 //! IMPLEMENTATION: conversions to signed types, and shifts to the right.
 ghost use Rattle.std.specs.Prelude.{◌↔◌, IsTrue};
-ghost use Rattle.open_choices.specs.reading.Found.{HasBeyond, HasNegative};
+ghost use Rattle.open_choices.specs.Enumerations.{HasNegative};
+ghost use Rattle.open_choices.specs.reading.Found.{HasBeyond};
 
 use strided_dom::Strided;
 use tm_cint::IntType;

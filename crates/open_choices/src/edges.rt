@@ -7,13 +7,20 @@ ghost use Rattle.post_recheck.specs.transfer_rows.StateForms.{State as AState};
 ghost use Rattle.text_choices.specs.Choices.{Adds};
 ghost use Rattle.operand_orders.specs.reading.Scopes.{AreLivesOf};
 ghost use Rattle.operand_orders.specs.reading.Views.{solved, state_at, IsIndexed};
-ghost use Rattle.open_choices.specs.reading.Found.{kind_of, place_at, Finds, IsFound, IsCounted, AreCounted};
-ghost use Rattle.open_choices.specs.reading.Found.{AreConstants, IsOfCopy, IsOfEdge, IsOfNumber};
+ghost use Rattle.open_choices.specs.reading.Looks.{is_nothing};
+ghost use Rattle.open_choices.specs.reading.Marks.{AreCellMarks};
+ghost use Rattle.open_choices.specs.reading.Found.{kind_of, place_at, Finds, IsFound, IsCounted, IsCountedAt};
+ghost use Rattle.open_choices.specs.reading.Found.{AreCounted, IsOfCopy, IsOfEdge, IsOpenAt, IsEnumeratedAt};
+ghost use Rattle.open_choices.specs.reading.Found.{IsOfNumber};
 
 use crate::adding::add_if;
 use crate::constants::stores_constant;
 use crate::conversions::{has_beyond, has_negative};
+use crate::enumerations::{
+    either_negative, enumerated_look_of, is_negative_binary, is_negative_store, is_negative_unary,
+};
 use crate::looks::{Look, look_of};
+use crate::marks::CellMarks;
 use crate::members::{is_meeting, is_moved_away};
 use crate::unset::loads_unset;
 use crate::uses::pointer_leads_out;
@@ -25,11 +32,21 @@ use text_choices::{Choice, Kind};
 use tm_lattice::NoMemory;
 use tm_terms::Place;
 
-/// What is known of objects and cells: the lives of objects, and which cells are declared `const`.
+/// What is known of objects and cells: the lives of objects, and the marks of cells.
 #[derive(Clone, Copy)]
 pub struct Known<'a> {
     pub lives: &'a ObjectLives,
-    pub constants: &'a [bool],
+    pub marks: &'a CellMarks,
+}
+
+// Whether nothing is looked for.
+fn is_nothing(look: Look) -> bool
+    ensures { result ≡ is_nothing look }
+{
+    match look {
+        Look::Nothing => true,
+        _ => false,
+    }
 }
 
 // The kind of what is looked for.
@@ -42,6 +59,8 @@ fn kind_of(look: Look) -> Kind
         Look::Conversion { .. } | Look::Shift { .. } => Kind::Implementation,
         Look::Use { .. } => Kind::Lifetime,
         Look::Move { .. } | Look::Comparison { .. } => Kind::Member,
+        Look::Negative { .. } | Look::Unary { .. } | Look::Binary { .. } | Look::Branch { .. } =>
+            Kind::Enum,
     }
 }
 
@@ -55,9 +74,13 @@ fn place_at(view: BodyView<'_>, edge: usize, look: Look) -> Place
         | Look::Shift { place, .. }
         | Look::Move { place, .. }
         | Look::Use { place, .. } => place,
-        Look::Nothing | Look::Conversion { .. } | Look::Comparison { .. } => {
-            view.origin(edge).place
-        }
+        Look::Nothing
+        | Look::Conversion { .. }
+        | Look::Comparison { .. }
+        | Look::Negative { .. }
+        | Look::Unary { .. }
+        | Look::Binary { .. }
+        | Look::Branch { .. } => view.origin(edge).place,
     }
 }
 
@@ -72,7 +95,7 @@ fn finds(
     requires layable { IsLayable (typed_file_tree view.laid.now.file) view.laid.now.file.order.items }
     requires few { length view.laid.now.cells.items ≤ 65536 }
     requires lives { AreLivesOf view.origins.now.lives.items known.lives.now }
-    requires constants { AreConstants (laid_tree view.laid.now) known.constants.now }
+    requires marks { AreCellMarks (laid_tree view.laid.now) known.marks.now }
     requires counted { IsCounted state.now look }
     ensures { IfOk result (λ is. IsTrue is ↔ Finds (solved view.entry) edge state.now look) }
 {
@@ -87,7 +110,7 @@ fn finds(
             address,
             scalar,
             ..
-        } => stores_constant(view, known.constants, state, address, scalar),
+        } => stores_constant(view, &known.marks.constants, state, address, scalar),
         Look::Conversion { of, from } => Ok(has_beyond(of, &numbers_of(state, from))),
         Look::Shift { left, .. } => Ok(has_negative(&numbers_of(state, left))),
         Look::Move {
@@ -101,6 +124,27 @@ fn finds(
             Ok(pointer_leads_out(view, known.lives, edge, state, pointer))
         }
         Look::Comparison { left, right } => Ok(is_meeting(view.alloc, state, left, right)),
+        Look::Negative {
+            address,
+            value,
+            scalar,
+        } => is_negative_store(view, &known.marks.enumerated, state, address, value, scalar),
+        Look::Unary { operator, value } => {
+            Ok(is_negative_unary(operator, &numbers_of(state, value)))
+        }
+        Look::Binary {
+            operator,
+            left,
+            right,
+        } => Ok(is_negative_binary(
+            operator,
+            &numbers_of(state, left),
+            &numbers_of(state, right),
+        )),
+        Look::Branch { left, right } => Ok(either_negative(
+            &numbers_of(state, left),
+            &numbers_of(state, right),
+        )),
     }
 }
 
@@ -116,7 +160,7 @@ fn add_found(
     requires layable { IsLayable (typed_file_tree view.laid.now.file) view.laid.now.file.order.items }
     requires few { length view.laid.now.cells.items ≤ 65536 }
     requires lives { AreLivesOf view.origins.now.lives.items known.lives.now }
-    requires constants { AreConstants (laid_tree view.laid.now) known.constants.now }
+    requires marks { AreCellMarks (laid_tree view.laid.now) known.marks.now }
     requires counted { IsCounted state.now look }
     ensures { OnOk result (Adds choices.old.items choices.new.items
         (IsFound (solved view.entry) edge state.now look)) }
@@ -137,7 +181,7 @@ fn add_of_copy(
     requires layable { IsLayable (typed_file_tree view.laid.now.file) view.laid.now.file.order.items }
     requires few { length view.laid.now.cells.items ≤ 65536 }
     requires lives { AreLivesOf view.origins.now.lives.items known.lives.now }
-    requires constants { AreConstants (laid_tree view.laid.now) known.constants.now }
+    requires marks { AreCellMarks (laid_tree view.laid.now) known.marks.now }
     requires counted { (s : AState) → state_at (solved view) copy ≡ Some s → IsCounted s look }
     ensures { OnOk result (Adds choices.old.items choices.new.items (IsOfCopy (solved view.entry) edge look copy)) }
 {
@@ -147,22 +191,25 @@ fn add_of_copy(
     }
 }
 
-// Adds what is left open at an edge, in each of its states.
+// Adds what is looked for at an edge, in each of its states.
 fn add_at_edge(
     view: BodyView<'_>,
     known: Known<'_>,
     edge: usize,
+    look: Look,
     choices: &mut Vec<Choice>,
 ) -> Result<(), NoMemory>
     requires layable { IsLayable (typed_file_tree view.laid.now.file) view.laid.now.file.order.items }
     requires few { length view.laid.now.cells.items ≤ 65536 }
     requires indexed { IsIndexed view }
     requires lives { AreLivesOf view.origins.now.lives.items known.lives.now }
-    requires constants { AreConstants (laid_tree view.laid.now) known.constants.now }
-    requires counted { AreCounted (solved view) }
-    ensures { OnOk result (Adds choices.old.items choices.new.items (IsOfEdge (solved view.entry) edge)) }
+    requires marks { AreCellMarks (laid_tree view.laid.now) known.marks.now }
+    requires counted { IsCountedAt (solved view) edge look }
+    ensures { OnOk result (Adds choices.old.items choices.new.items (IsOfEdge (solved view.entry) edge look)) }
 {
-    let look = look_of(view.operation(edge));
+    if is_nothing(look) {
+        return Ok(());
+    }
     for copy in view.copies_of(edge) {
         add_of_copy(view, known, edge, look, *copy, choices)?;
     }
@@ -179,13 +226,35 @@ pub(crate) fn add_at_edges(
     requires few { length view.laid.now.cells.items ≤ 65536 }
     requires indexed { IsIndexed view }
     requires lives { AreLivesOf view.origins.now.lives.items known.lives.now }
-    requires constants { AreConstants (laid_tree view.laid.now) known.constants.now }
+    requires marks { AreCellMarks (laid_tree view.laid.now) known.marks.now }
     requires counted { AreCounted (solved view) }
     ensures { OnOk result (Adds choices.old.items choices.new.items
-        (IsOfNumber (IsOfEdge (solved view.entry)) (length view.entry.edges.now))) }
+        (IsOfNumber (IsOpenAt (solved view.entry)) (length view.entry.edges.now))) }
 {
     for edge in 0..view.edges.len() {
-        add_at_edge(view, known, edge, choices)?;
+        let look = look_of(view.operation(edge));
+        add_at_edge(view, known, edge, look, choices)?;
+    }
+    Ok(())
+}
+
+/// Adds what is left open there of enumerations.
+pub(crate) fn add_enumerations(
+    view: BodyView<'_>,
+    known: Known<'_>,
+    choices: &mut Vec<Choice>,
+) -> Result<(), NoMemory>
+    requires layable { IsLayable (typed_file_tree view.laid.now.file) view.laid.now.file.order.items }
+    requires few { length view.laid.now.cells.items ≤ 65536 }
+    requires indexed { IsIndexed view }
+    requires lives { AreLivesOf view.origins.now.lives.items known.lives.now }
+    requires marks { AreCellMarks (laid_tree view.laid.now) known.marks.now }
+    ensures { OnOk result (Adds choices.old.items choices.new.items
+        (IsOfNumber (IsEnumeratedAt (solved view.entry)) (length view.entry.edges.now))) }
+{
+    for edge in 0..view.edges.len() {
+        let look = enumerated_look_of(view.origin(edge).form, view.operation(edge));
+        add_at_edge(view, known, edge, look, choices)?;
     }
     Ok(())
 }

@@ -8,12 +8,14 @@ ghost use Rattle.post_recheck.specs.Pairs.{FitsPair, lists_of, pair_of};
 ghost use Rattle.text_choices.specs.Choices.{Adds};
 ghost use Rattle.operand_orders.specs.Reached.{solved_body};
 ghost use Rattle.open_choices.specs.Choices.{IsOfBody, IsOfRuns, AreChoices};
-ghost use Rattle.open_choices.specs.reading.Found.{AreConstants};
+ghost use Rattle.open_choices.specs.reading.Marks.{AreCellMarks};
 ghost use Rattle.open_choices.specs.reading.Noted.{IsOfNoted};
 
 use crate::bodies::add_in_body;
 use crate::constants::constant_cells;
 use crate::edges::Known;
+use crate::enumerations::enumerated_cells;
+use crate::marks::CellMarks;
 use crate::sorting::in_order;
 use edge_origins::BodyOrigins;
 use flow_graph::Edge;
@@ -33,7 +35,7 @@ fn add_body(
     tables: &[Table],
     store: &Store,
     origins: &BodyOrigins,
-    constants: &[bool],
+    marks: &CellMarks,
     number: u32,
     choices: &mut Vec<Choice>,
 ) -> Result<(), NoMemory>
@@ -41,7 +43,7 @@ fn add_body(
     requires facts { AreProgramFacts program.now facts.now }
     requires fits { FitsPair (program_with program.now facts.now) (pair_of tables.now store.now) }
     requires number { number < length (program_with program.now facts.now).bodies }
-    requires constants { AreConstants (laid_tree program.now.laid) constants.now }
+    requires marks { AreCellMarks (laid_tree program.now.laid) marks.now }
     ensures { OnOk result (Adds choices.old.items choices.new.items (IsOfBody (solved_body (laid_tree program.now.laid)
         (program_with program.now facts.now) (tables_of (lists_of tables.now)) store.now number origins.now))) }
 {
@@ -66,7 +68,7 @@ fn add_body(
     };
     let known = Known {
         lives: &lives,
-        constants,
+        marks,
     };
     add_in_body(view, known, choices)
 }
@@ -79,7 +81,7 @@ fn add_noted(
     tables: &[Table],
     store: &Store,
     origins: &[BodyOrigins],
-    constants: &[bool],
+    marks: &CellMarks,
     number: u32,
     choices: &mut Vec<Choice>,
 ) -> Result<(), NoMemory>
@@ -87,7 +89,7 @@ fn add_noted(
     requires facts { AreProgramFacts program.now facts.now }
     requires fits { FitsPair (program_with program.now facts.now) (pair_of tables.now store.now) }
     requires number { number < length (program_with program.now facts.now).bodies }
-    requires constants { AreConstants (laid_tree program.now.laid) constants.now }
+    requires marks { AreCellMarks (laid_tree program.now.laid) marks.now }
     ensures { OnOk result (Adds choices.old.items choices.new.items (IsOfNoted (laid_tree program.now.laid)
         (program_with program.now facts.now) (tables_of (lists_of tables.now)) store.now origins.now number)) }
 {
@@ -96,7 +98,7 @@ fn add_noted(
     }
     let noted = &origins[number as usize];
     add_body(
-        alloc, program, facts, tables, store, noted, constants, number, choices,
+        alloc, program, facts, tables, store, noted, marks, number, choices,
     )
 }
 
@@ -108,13 +110,13 @@ fn add_bodies(
     tables: &[Table],
     store: &Store,
     origins: &[BodyOrigins],
-    constants: &[bool],
+    marks: &CellMarks,
     others: Vec<Choice>,
 ) -> Result<Vec<Choice>, NoMemory>
     requires analysable { IsAnalysable program.now }
     requires facts { AreProgramFacts program.now facts.now }
     requires fits { FitsPair (program_with program.now facts.now) (pair_of tables.now store.now) }
-    requires constants { AreConstants (laid_tree program.now.laid) constants.now }
+    requires marks { AreCellMarks (laid_tree program.now.laid) marks.now }
     ensures { IfOk result (λ choices. Adds others.items choices.items (IsOfRuns (laid_tree program.now.laid)
         (program_with program.now facts.now) (tables_of (lists_of tables.now)) store.now origins.now)) }
 {
@@ -127,7 +129,7 @@ fn add_bodies(
             tables,
             store,
             origins,
-            constants,
+            marks,
             number,
             &mut choices,
         )?;
@@ -154,9 +156,12 @@ pub fn open_choices(
         (program_with program.now facts.now) (tables_of (lists_of tables.now)) store.now origins.now
         (Contains others.items) choices.items) }
 {
-    let constants = constant_cells(alloc, &program.laid)?;
+    let marks = CellMarks {
+        constants: constant_cells(alloc, &program.laid)?,
+        enumerated: enumerated_cells(alloc, &program.laid)?,
+    };
     let choices = add_bodies(
-        alloc, program, facts, tables, store, origins, &constants, others,
+        alloc, program, facts, tables, store, origins, &marks, others,
     )?;
     in_order(choices)
 }

@@ -5,7 +5,7 @@ ghost use Rattle.open_choices.specs.reading.Looks.{look_of, store_of, bin_of, te
 use flow_graph::{Into, Operation, Test};
 use tm_cint::{BinOp, IntType};
 use tm_terms::Place;
-use tm_typed::Scalar;
+use tm_typed::{Scalar, Unary};
 
 /// What is looked for at an edge, by its operation.
 #[derive(Clone, Copy)]
@@ -48,6 +48,27 @@ pub enum Look {
     },
     /// An end is compared with a beginning.
     Comparison {
+        left: u32,
+        right: u32,
+    },
+    /// A negative number is stored to an enumeration.
+    Negative {
+        address: u32,
+        value: u32,
+        scalar: Scalar,
+    },
+    /// An operator works on a negative number beside or in an enumeration, or gives one.
+    Unary {
+        operator: Unary,
+        value: u32,
+    },
+    Binary {
+        operator: BinOp,
+        left: u32,
+        right: u32,
+    },
+    /// Such numbers are compared as a branch.
+    Branch {
         left: u32,
         right: u32,
     },

@@ -1,4 +1,4 @@
--- All that a source leaves open, by its tokens and its tree: the parts make the whole.
+-- All that a source leaves open, by its tokens, its tree and its typed file: the parts make the whole.
 use Rattle.std.proofs.Common.{◌≡◌, ℕ, List, Ok, refl, sym, subst, inl, inr, ◌⊎◌}
 use Rattle.tm_terms.specs.declared.places.Place.{Place}
 use Rattle.tm_terms.specs.declared.tokens.Token.{Token}
@@ -10,12 +10,13 @@ use Rattle.text_choices.specs.declared.kinds.Kind.{Kind}
 use Rattle.text_choices.specs.declared.kinds.Kind.TheVariants as Kinds
 use Rattle.text_choices.specs.declared.kinds.Choice.{Choice}
 use Rattle.text_choices.specs.Choices.{Adds, OfKind}
-use Rattle.text_choices.specs.Texts.{IsPragma, IsReserved, AreOpens, declared_in}
+use Rattle.text_choices.specs.Texts.{IsReserved, AreOpens, declared_in}
 use Rattle.text_choices.specs.Lists.{IsOpenByText, IsOfText}
 use Rattle.text_choices.specs.reading.Tokens.{AreOpensAmong}
 use Rattle.text_choices.specs.reading.Declared.{IsReservedAmong}
 use Rattle.text_choices.specs.reading.Files.{Leaves, moved, given, IsOfFile}
 use Rattle.text_choices.specs.reading.Trees.{IsOfItems, IsOfTree, IsOfTokens}
+use Rattle.text_choices.specs.reading.Typed.{IsWithoutTokens}
 use Rattle.text_choices.proofs.Additions.{Adds-same, Adds-behind}
 
 -- ## The signs `(`
@@ -29,8 +30,10 @@ module _ (bytes : List ℕ) (laid : LaidTree) where
   open_by : (k : Kind) (c : Choice) → c.kind ≡ k → IsOpenByText bytes laid k c.place → IsOfText bytes laid c
   open_by k c e h = subst (λ x. IsOpenByText bytes laid x c.place) (sym e) h
 
-  pub pragma_open : (c : Choice) → OfKind Kinds.Pragma (IsPragma bytes) c → IsOfText bytes laid c
-  pragma_open c h = open_by Kinds.Pragma c h.0 h.1
+  pub without_open : (c : Choice) → IsWithoutTokens bytes laid c → IsOfText bytes laid c
+  without_open c (inl p) = open_by Kinds.Pragma c p.0 p.1
+  without_open c (inr (inl s)) = open_by Kinds.Layout c s.0 s.1
+  without_open c (inr (inr b)) = open_by Kinds.Enum c b.0 b.1
 
   module _ (tokens : List Token) (lexed : Lexes bytes (Ok tokens)) where
     reserved_open : (items : List ItemTree) → Parses tokens (Ok items) → (place : Place) → IsReservedAmong bytes (declared_in items) place → IsReserved bytes place
@@ -77,9 +80,9 @@ module _ (bytes : List ℕ) (laid : LaidTree) where
     tokens_open c (inl w) = open_by Kinds.Restrict c w.0 (record { tokens = tokens; lexed = lexed; stands = w.1 })
     tokens_open c (inr t) = items_open t.items t.parsed c t.left
 
-  -- what is open is a skipped line, or some tokens leave it open
+  -- what is open is so whether or not there are tokens, or some tokens leave it open
   abbrev Left : Choice → Type 0
-  Left c = OfKind Kinds.Pragma (IsPragma bytes) c ⊎ ((tokens : List Token) × Lexes bytes (Ok tokens) × IsOfTokens bytes laid tokens c)
+  Left c = IsWithoutTokens bytes laid c ⊎ ((tokens : List Token) × Lexes bytes (Ok tokens) × IsOfTokens bytes laid tokens c)
 
   left_by : (k : Kind) (c : Choice) → c.kind ≡ k → IsOpenByText bytes laid k c.place → Left c
   left_by Kinds.Const c e h =
@@ -104,7 +107,9 @@ module _ (bytes : List ℕ) (laid : LaidTree) where
           left = inr (record { value = h.value; one = h.one; item = s.item; among = s.among; stands = s.stands; leaves = moved e h.moved });
         }),
       )
-  left_by Kinds.Pragma c e h = inl (e, h)
+  left_by Kinds.Enum c e h = inl (inr (inr (e, h)))
+  left_by Kinds.Layout c e h = inl (inr (inl (e, h)))
+  left_by Kinds.Pragma c e h = inl (inl (e, h))
   left_by Kinds.Reserved c e h =
       inr (
         h.tokens,
@@ -133,25 +138,25 @@ module _ (bytes : List ℕ) (laid : LaidTree) where
   text_left c h = left_by c.kind c refl h
 
   -- the source has no tokens
-  pub adds_lines : (old new : List Choice) → ((tokens : List Token) → Lexes bytes (Ok tokens) → ⊥) → Adds old new (OfKind Kinds.Pragma (IsPragma bytes)) → Adds old new (IsOfText bytes laid)
-  adds_lines old new none h = Adds-same old new (OfKind Kinds.Pragma (IsPragma bytes)) (IsOfText bytes laid) pragma_open (λ c t. back c (text_left c t)) h
+  pub adds_without : (old new : List Choice) → ((tokens : List Token) → Lexes bytes (Ok tokens) → ⊥) → Adds old new (IsWithoutTokens bytes laid) → Adds old new (IsOfText bytes laid)
+  adds_without old new none h = Adds-same old new (IsWithoutTokens bytes laid) (IsOfText bytes laid) without_open (λ c t. back c (text_left c t)) h
     where
-      back : (c : Choice) → Left c → OfKind Kinds.Pragma (IsPragma bytes) c
+      back : (c : Choice) → Left c → IsWithoutTokens bytes laid c
       back c (inl p) = p
       back c (inr w) = absurd (none w.0 w.1)
 
   -- it has these tokens
   pub adds_all : (old new newer : List Choice) (tokens : List Token) → Lexes bytes (Ok tokens) → ((others : List Token) → Lexes bytes (Ok others) → tokens ≡ others)
-      → Adds old new (OfKind Kinds.Pragma (IsPragma bytes)) → Adds new newer (IsOfTokens bytes laid tokens) → Adds old newer (IsOfText bytes laid)
+      → Adds old new (IsWithoutTokens bytes laid) → Adds new newer (IsOfTokens bytes laid tokens) → Adds old newer (IsOfText bytes laid)
   adds_all old new newer tokens lexed one h k =
-      Adds-same old newer (λ c. OfKind Kinds.Pragma (IsPragma bytes) c ⊎ IsOfTokens bytes laid tokens c) (IsOfText bytes laid) to (λ c t. back c (text_left c t))
-      (Adds-behind old new newer (OfKind Kinds.Pragma (IsPragma bytes)) (IsOfTokens bytes laid tokens) h k)
+      Adds-same old newer (λ c. IsWithoutTokens bytes laid c ⊎ IsOfTokens bytes laid tokens c) (IsOfText bytes laid) to (λ c t. back c (text_left c t))
+      (Adds-behind old new newer (IsWithoutTokens bytes laid) (IsOfTokens bytes laid tokens) h k)
     where
-      to : (c : Choice) → OfKind Kinds.Pragma (IsPragma bytes) c ⊎ IsOfTokens bytes laid tokens c → IsOfText bytes laid c
-      to c (inl p) = pragma_open c p
+      to : (c : Choice) → IsWithoutTokens bytes laid c ⊎ IsOfTokens bytes laid tokens c → IsOfText bytes laid c
+      to c (inl p) = without_open c p
       to c (inr t) = tokens_open tokens lexed c t
 
-      back : (c : Choice) → Left c → OfKind Kinds.Pragma (IsPragma bytes) c ⊎ IsOfTokens bytes laid tokens c
+      back : (c : Choice) → Left c → IsWithoutTokens bytes laid c ⊎ IsOfTokens bytes laid tokens c
       back c (inl p) = inl p
       back c (inr w) = inr (subst (λ ts. IsOfTokens bytes laid ts c) (sym (one w.0 w.1)) w.2)
 

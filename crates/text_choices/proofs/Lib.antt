@@ -1,5 +1,7 @@
 pub mod Additions
 pub mod TokenLemmas
+pub mod Each
+pub mod TypedLemmas
 pub mod PragmaLemmas
 pub mod Holding
 pub mod Named

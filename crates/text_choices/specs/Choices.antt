@@ -16,7 +16,9 @@ OfKind kind is c = (c.kind ≡ kind) × is c.place
 -- the word of a kind
 abbrev pub word : Kind → List ℕ
 word Kinds.Const = codes "CONST"
+word Kinds.Enum = codes "ENUM"
 word Kinds.Implementation = codes "IMPLEMENTATION"
+word Kinds.Layout = codes "LAYOUT"
 word Kinds.Lifetime = codes "LIFETIME"
 word Kinds.Member = codes "MEMBER"
 word Kinds.Order = codes "ORDER"

@@ -22,7 +22,7 @@ use Rattle.tm_typed.specs.States.{Static}
 use Rattle.tm_typed.specs.declared.types.CType.TheVariants as Types
 use Rattle.tm_laid.specs.TypeCells.{entry_of}
 use Rattle.tm_laid.specs.Layouts.{LaidTree, object_of, object_at}
-use Rattle.part_extents.specs.Parts.{deepest}
+use Rattle.part_extents.specs.Parts.{deepest, unenumerated}
 use Rattle.text_choices.specs.Texts.{has_storage, declarator_place}
 use Rattle.text_choices.specs.AddressConstants.{Spot, pointed}
 
@@ -133,10 +133,11 @@ scalar_within laid (suc depth) number =
 abbrev pub scalar_type : LaidTree → ℕ → CType
 scalar_type laid number = (entry_of laid.file (scalar_within laid deepest number)).ctype
 
--- a `const` is lost where a pointer to a spot is given to a type, or the targets differ; a cast may give anything
+-- A `const` is lost where a pointer to a spot is given to a type, or the targets differ, enumerations being `int`; a cast
+-- may give anything.
 abbrev pub is_lost : Spot → CType → Bool
 is_lost s (Types.Pointer to) =
-    not s.cast && ((s.constant && not to.constant) || not (s.of == to.number))
+    not s.cast && ((s.constant && not to.constant) || not (unenumerated s.of == unenumerated to.number))
 is_lost s _ = false
 
 -- An address constant loses a `const` where it is given to a pointer, or differs below. Of the members of structures

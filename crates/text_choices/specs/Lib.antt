@@ -7,5 +7,6 @@ pub mod Library
 pub mod Texts
 pub mod AddressConstants
 pub mod Initialisers
+pub mod Enumerations
 pub mod Lists
 pub mod reading

@@ -5,6 +5,7 @@ pub mod Pragmas
 pub mod Files
 pub mod Declared
 pub mod Trees
+pub mod Typed
 pub mod Named
 pub mod Spots
 pub mod Words

@@ -11,11 +11,14 @@ ghost use Rattle.text_choices.specs.Lists.{IsOfText};
 ghost use Rattle.text_choices.specs.reading.Added.{AddsTo};
 ghost use Rattle.text_choices.specs.reading.Tokens.{AreOpensAmong, AreTokens, is_open, open_at};
 ghost use Rattle.text_choices.specs.reading.Trees.{AreItems, IsOfTokens, IsOfTree};
+ghost use Rattle.text_choices.specs.reading.Typed.{IsOfTyped, IsWithoutTokens};
 
+use crate::enumerations::add_enumerations;
 use crate::kinds::Choice;
 use crate::pragmas::add_pragmas;
 use crate::reserved::add_reserved_names;
 use crate::restricted::add_restricted;
+use crate::sizes::add_sizes;
 use crate::static_initialisers::add_static_moves;
 use c_lexer::lex;
 use c_parser::laws::one_answer;
@@ -89,6 +92,25 @@ fn add_of_tokens(
     Ok(())
 }
 
+// Adds what a typed file leaves open.
+fn add_of_typed(laid: &Laid, choices: &mut Vec<Choice>) -> Result<(), NoMemory>
+    ensures { OnOk result (Adds choices.old.items choices.new.items (IsOfTyped (laid_tree laid.now))) }
+{
+    add_sizes(&laid.file.sizes, choices)?;
+    add_enumerations(laid, choices)?;
+    Ok(())
+}
+
+// Adds what a source leaves open whether or not it has tokens.
+fn add_without_tokens(bytes: &[u8], laid: &Laid, choices: &mut Vec<Choice>) -> Result<(), NoMemory>
+    requires { length bytes.now ≤ limit_number Limits.Source }
+    ensures { OnOk result (Adds choices.old.items choices.new.items (IsWithoutTokens bytes.now (laid_tree laid.now))) }
+{
+    add_pragmas(bytes, choices)?;
+    add_of_typed(laid, choices)?;
+    Ok(())
+}
+
 /// Adds what a source leaves open by its text and its tree; its objects are laid out so.
 pub fn add_text_choices(
     alloc: Global,
@@ -101,7 +123,7 @@ pub fn add_text_choices(
     requires few { length laid.now.cells.items ≤ 65536 }
     ensures { OnOk result (Adds choices.old.items choices.new.items (IsOfText bytes.now (laid_tree laid.now))) }
 {
-    add_pragmas(bytes, choices)?;
+    add_without_tokens(bytes, laid, choices)?;
     let Some(tokens) = tokens_of(alloc, bytes)? else {
         return Ok(());
     };

@@ -8,8 +8,12 @@ use tm_terms::Place;
 pub enum Kind {
     /// A pointer loses a `const`, or a `const` object is stored to (C99 6.5.16.1p1, 6.7.3p5).
     Const,
+    /// A negative number in an enumeration, or beside one, that compilers may make unsigned (C99 6.7.2.2p4).
+    Enum,
     /// A conversion to a signed type of what it may not hold, or `>>` of what may be negative (C99 6.3.1.3p3, 6.5.7p5).
     Implementation,
+    /// The size of a type that depends on the alignment of `long long` (C99 6.7.2.1p12).
+    Layout,
     /// An object is used outside of its block, or a pointer to an earlier instance may be left over (C99 6.2.4p2).
     Lifetime,
     /// A pointer leaves the array into which it points, or the end of one object is compared with another (C99 6.5.6p8,
@@ -36,7 +40,9 @@ impl Kind {
     {
         match self {
             Kind::Const => "CONST",
+            Kind::Enum => "ENUM",
             Kind::Implementation => "IMPLEMENTATION",
+            Kind::Layout => "LAYOUT",
             Kind::Lifetime => "LIFETIME",
             Kind::Member => "MEMBER",
             Kind::Order => "ORDER",

@@ -23,7 +23,7 @@ use crate::kinds::{Choice, Kind};
 use crate::reserved::{has_storage, name_of};
 use crate::spots::Spot;
 use crate::static_names::{StaticNames, static_names};
-use part_extents::type_at;
+use part_extents::{type_at, unenumerated};
 use std::alloc::Global;
 use tm_laid::Laid;
 use tm_lattice::NoMemory;
@@ -44,7 +44,9 @@ fn is_lost(spot: Spot, given: CType) -> bool
 {
     match given {
         CType::Pointer(to) => {
-            !spot.cast && ((spot.constant && !to.constant) || spot.of != to.number)
+            !spot.cast
+                && ((spot.constant && !to.constant)
+                    || unenumerated(spot.of) != unenumerated(to.number))
         }
         CType::Void | CType::Int(_) | CType::Array { .. } | CType::Struct(_) => false,
     }

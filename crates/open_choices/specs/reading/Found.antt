@@ -1,10 +1,9 @@
 -- What is found at an edge in one state, and what is found in all of a body.
-use Rattle.std.specs.Prelude.{◌≡◌, ◌≢◌, ◌⊎◌, ℕ, ◌<◌, ℤ, pos, ◌+ℤ◌, ◌<ℤ◌, Bool, not, true, false, List, length, get_or}
+use Rattle.std.specs.Prelude.{◌≡◌, ◌≢◌, ◌⊎◌, ℕ, ◌<◌, ℤ, pos, ◌+ℤ◌, ◌<ℤ◌, Bool, not, true, List}
 use Rattle.std.specs.Prelude.{Contains, Option, Some, None}
 use Rattle.tm_cint.specs.declared.int_types.IntType.{IntType}
 use Rattle.tm_terms.specs.declared.places.Place.{Place}
 use Rattle.tm_typed.specs.declared.types.Scalar.{Scalar}
-use Rattle.tm_laid.specs.Layouts.{LaidTree}
 use Rattle.strided_dom.specs.Progression.{Progression, Has}
 use Rattle.strided_dom.specs.Combinations.{IsProduct}
 use Rattle.pointer_dom.specs.Values.{Values}
@@ -15,6 +14,8 @@ use Rattle.path_origins.specs.declared.origins.Form.{Form}
 use Rattle.path_origins.specs.declared.origins.Form.TheVariants as Forms
 use Rattle.path_origins.specs.declared.origins.Life.{Life}
 use Rattle.path_origins.specs.declared.origins.Passing.{Passing}
+use Rattle.path_origins.specs.declared.origins.Passed.{Passed}
+use Rattle.path_origins.specs.declared.origins.Passed.TheVariants as Passes
 use Rattle.edge_origins.specs.declared.origins.Fall.{Fall}
 use Rattle.part_extents.specs.declared.extents.Extent.{Extent}
 use Rattle.part_extents.specs.Parts.{array_at, is_constant, inside_of}
@@ -25,11 +26,14 @@ use Rattle.operand_orders.specs.Reached.{SolvedBody, operation_at, origin_at, Ha
 use Rattle.operand_orders.specs.reading.Views.{state_at}
 use Rattle.open_choices.specs.Unset.{IsUninitialised, FindsUnset}
 use Rattle.open_choices.specs.Conversions.{IsBeyond}
+use Rattle.open_choices.specs.Enumerations.{HasNegative}
 use Rattle.open_choices.specs.Lifetimes.{IsLeftOver}
 use Rattle.open_choices.specs.Members.{Meets, Leaves}
 use Rattle.open_choices.specs.declared.looks.Look.{Look}
 use Rattle.open_choices.specs.declared.looks.Look.TheVariants as Looks
 use Rattle.open_choices.specs.reading.Looks.{look_of}
+use Rattle.open_choices.specs.reading.Enumerated.{enumerated_look_of, IsNegativeStore, IsNegativeOf, IsNegativeOfBoth}
+use Rattle.open_choices.specs.reading.Enumerated.{IsNegativeBranch}
 
 -- this kind is left open at this place, where something holds
 abbrev pub IsNew : Kind → Place → Type 0 → Choice → Type 0
@@ -54,26 +58,11 @@ pub record HasBeyond (of : IntType) (numbers : Progression) : Type 0 where
   pub has : Has numbers number
   pub beyond : IsBeyond of number
 
-pub record HasNegative (numbers : Progression) : Type 0 where
-  pub number : ℤ
-  pub has : Has numbers number
-  pub negative : number <ℤ pos 0
-
 -- ## Lives
 
 -- none of the lives has an initialiser that the edge is not one of
 abbrev pub AreUninitialised : ℕ → List Life → Type 0
 AreUninitialised edge lives = (life : Life) → Contains lives life → IsUninitialised edge life
-
--- ## Cells
-
-abbrev pub IsConstantCell : LaidTree → ℕ → Type 0
-IsConstantCell laid cell = is_constant laid (inside_of laid cell) ≡ true
-
--- for each abstract cell whether it is declared `const`
-pub record AreConstants (laid : LaidTree) (marks : List Bool) : Type 0 where
-  pub count : length marks ≡ length laid.abstract_cells
-  pub each : (k : ℕ) → k < length marks → get_or marks k false ≡ is_constant laid (inside_of laid k)
 
 -- ## Pointers
 
@@ -118,11 +107,19 @@ kind_of (Looks.Shift left place) = Kinds.Implementation
 kind_of (Looks.Move source cells minus by place) = Kinds.Member
 kind_of (Looks.Use pointer place) = Kinds.Lifetime
 kind_of (Looks.Comparison left right) = Kinds.Member
+kind_of (Looks.Negative address value scalar) = Kinds.Enum
+kind_of (Looks.Unary operator value) = Kinds.Enum
+kind_of (Looks.Binary operator left right) = Kinds.Enum
+kind_of (Looks.Branch left right) = Kinds.Enum
 
 -- ## Noted
 
+abbrev pub passed_kind : Passed → Kind
+passed_kind Passes.Pointer = Kinds.Const
+passed_kind Passes.Enumeration = Kinds.Enum
+
 abbrev pub IsPassed : Passing → Choice → Type 0
-IsPassed passing c = IsNew Kinds.Const passing.place (true ≡ true) c
+IsPassed passing c = IsNew (passed_kind passing.passed) passing.place (true ≡ true) c
 
 module _ (b : SolvedBody) where
   -- ## One state
@@ -180,6 +177,10 @@ module _ (b : SolvedBody) where
   place_at edge (Looks.Move source cells minus by place) = place
   place_at edge (Looks.Use pointer place) = place
   place_at edge (Looks.Comparison left right) = (let o = origin_at b edge in o.place)
+  place_at edge (Looks.Negative address value scalar) = (let o = origin_at b edge in o.place)
+  place_at edge (Looks.Unary operator value) = (let o = origin_at b edge in o.place)
+  place_at edge (Looks.Binary operator left right) = (let o = origin_at b edge in o.place)
+  place_at edge (Looks.Branch left right) = (let o = origin_at b edge in o.place)
 
   -- it is there
   abbrev pub Finds : ℕ → State → Look → Type 0
@@ -191,17 +192,21 @@ module _ (b : SolvedBody) where
   Finds edge s (Looks.Move source cells minus by place) = IsMovedAway edge s source cells minus by
   Finds edge s (Looks.Use pointer place) = (let v = value_of s pointer in LeadsOut edge v.pointers)
   Finds edge s (Looks.Comparison left right) = IsMeeting s left right
+  Finds edge s (Looks.Negative address value scalar) = IsNegativeStore b s address value scalar
+  Finds edge s (Looks.Unary operator value) = IsNegativeOf s operator value
+  Finds edge s (Looks.Binary operator left right) = IsNegativeOfBoth s operator left right
+  Finds edge s (Looks.Branch left right) = IsNegativeBranch s left right
 
   abbrev pub IsFound : ℕ → State → Look → Choice → Type 0
   IsFound edge s look c = IsNew (kind_of look) (place_at edge look) (Finds edge s look) c
 
   -- ## An edge
 
-  -- one of its states leaves the choice open
-  pub record IsOfEdge (edge : ℕ) (c : Choice) : Type 0 where
+  -- one of its states leaves the choice open, where this is looked for
+  pub record IsOfEdge (edge : ℕ) (look : Look) (c : Choice) : Type 0 where
     pub state : State
     pub has : HasState b edge (operation_at b edge) state
-    pub found : IsFound edge state (look_of (operation_at b edge)) c
+    pub found : IsFound edge state look c
 
   -- the state that a copy leaves, if there is one, does
   pub record IsOfCopy (edge : ℕ) (look : Look) (copy : ℕ) (c : Choice) : Type 0 where
@@ -209,9 +214,19 @@ module _ (b : SolvedBody) where
     pub is : state_at b copy ≡ Some state
     pub found : IsFound edge state look c
 
+  -- by its operation, and by its form too, for enumerations
+  abbrev pub IsOpenAt : ℕ → Choice → Type 0
+  IsOpenAt edge c = IsOfEdge edge (look_of (operation_at b edge)) c
+
+  abbrev pub IsEnumeratedAt : ℕ → Choice → Type 0
+  IsEnumeratedAt edge c = (let o = origin_at b edge in IsOfEdge edge (enumerated_look_of o.form (operation_at b edge)) c)
+
+  -- each pointer that the edge moves is moved by numbers of integer types
+  abbrev pub IsCountedAt : ℕ → Look → Type 0
+  IsCountedAt edge look = (s : State) → HasState b edge (operation_at b edge) s → IsCounted s look
+
   pub record AreCounted : Type 0 where
-    pub each : (edge : ℕ) (s : State) → HasState b edge (operation_at b edge) s
-        → IsCounted s (look_of (operation_at b edge))
+    pub each : (edge : ℕ) → IsCountedAt edge (look_of (operation_at b edge))
 
   -- ## What is noted of a body
 

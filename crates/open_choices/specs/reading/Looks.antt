@@ -1,5 +1,5 @@
 -- What is looked for at an edge, by its operation.
-use Rattle.std.specs.Prelude.{ℕ}
+use Rattle.std.specs.Prelude.{ℕ, Bool, true, false}
 use Rattle.tm_cint.specs.declared.operators.BinOp.{BinOp}
 use Rattle.tm_cint.specs.declared.operators.BinOp.TheVariants as Ops
 use Rattle.tm_terms.specs.declared.places.Place.{Place}
@@ -41,3 +41,7 @@ look_of (Op.Usable pointer place) = Looks.Use pointer place
 look_of (Op.BinPointers to equal left right) = Looks.Comparison left right
 look_of (Op.Assume test) = test_of test
 look_of operation = Looks.Nothing
+
+abbrev pub is_nothing : Look → Bool
+is_nothing Looks.Nothing = true
+is_nothing look = false

@@ -5,7 +5,7 @@ use Rattle.open_choices.proofs.constants.constant_cells.Given as goal
 
 abbrev pub invariant-loop-cell : goal.invariant-loop-cell
 invariant-loop-cell l = record {
-  count : length l.marks.items ≡ l.cell-index;
+  count : length l.cells.items ≡ l.cell-index;
   each : (k : ℕ) → k < l.cell-index
-      → get_or l.marks.items k false ≡ is_constant (laid_tree l.laid) (inside_of (laid_tree l.laid) k);
+      → get_or l.cells.items k false ≡ is_constant (laid_tree l.laid) (inside_of (laid_tree l.laid) k);
 }

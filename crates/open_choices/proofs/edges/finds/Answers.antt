@@ -21,3 +21,9 @@ returns-in-Move c =
     subst (λ look. IfOk c.is_moved_away.result (λ is. IsTrue is ↔ Finds (solved c.args.view) c.args.edge
     c.args.state.now look))
     (sym c.in-Move.is) c.is_moved_away.ensures
+
+pub returns-in-Negative : goal.returns-in-Negative
+returns-in-Negative c =
+    subst (λ look. IfOk c.is_negative_store.result (λ is. IsTrue is ↔ Finds (solved c.args.view) c.args.edge
+    c.args.state.now look))
+    (sym c.in-Negative.is) c.is_negative_store.ensures

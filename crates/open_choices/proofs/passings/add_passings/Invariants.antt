@@ -1,7 +1,7 @@
 use Rattle.std.proofs.Common.{take}
 use Rattle.text_choices.specs.Choices.{Adds}
 use Rattle.open_choices.specs.reading.Found.{IsOfSome, IsPassed}
-use Rattle.open_choices.proofs.constants.add_passings.Given as goal
+use Rattle.open_choices.proofs.passings.add_passings.Given as goal
 
 abbrev pub invariant-loop-passing : goal.invariant-loop-passing
 invariant-loop-passing l =
