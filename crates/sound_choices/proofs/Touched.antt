@@ -109,7 +109,7 @@ constant_it b edge cell op a z s is_store (stores {address = y} {scalar = x}) he
     (subst (λ u. Contains (targets b x u s) cell) same_address target)) h
 
 -- an edge with a state is reached
-reached_at : (b : SolvedBody) (edge other : ℕ) (op : Operation) (s : State) → HasState b edge op s → edge ≡ other
+pub reached_at : (b : SolvedBody) (edge other : ℕ) (op : Operation) (s : State) → HasState b edge op s → edge ≡ other
     → IsReached b other
 reached_at b edge other op s h same =
     subst (λ e. IsReached b e) same

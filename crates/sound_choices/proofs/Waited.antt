@@ -70,7 +70,7 @@ module _ (laid seen : LaidTree) (p : ProgramBodies) (from : IsProgramFrom laid p
         subst (λ x. (let a = abstract_at seen x in is_shared seen a.object ≡ true)) (sym same)
         (subst (λ o. is_shared seen o ≡ true) (sym object_in_seen) (shared_seen object shared))
 
-    shared_there : IsShared p.laid (abstract_of_cell p.laid (cell_of p.laid object offset))
+    pub shared_there : IsShared p.laid (abstract_of_cell p.laid (cell_of p.laid object offset))
     shared_there =
         let h = laid_there in
         let spot : IsSpotAt p.laid t r.scalar (let m = r.memory in m.temps r.address) (cell_of p.laid object offset) =

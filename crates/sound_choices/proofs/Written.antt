@@ -1,5 +1,5 @@
 -- What a task is about to store in a run lies in the weak entries of its store: so other tasks are told that the cell is
--- stored.
+-- stored, and with which value.
 use Rattle.std.proofs.Common.{◌≡◌, ◌≢◌, refl, sym, ap, subst, ◌∙◌, ℕ, ◌<◌, ◌≤◌, ◌^◌, Bool, true, List, length}
 use Rattle.std.proofs.Common.{Option}
 use Rattle.std.specs.Prelude.{pos}
@@ -56,14 +56,13 @@ module _ (P : Shape) (T : Tables P) (N : Source P) (memory : P.Cell → AContent
   abbrev z : P.Task → Situation P
   z i = here P T N memory temps C k i
 
-  -- the task's weak entries have something at the cell, under some mutexes
-  record IsTold (i : P.Task) (c : P.Cell) : Type 0 where
+  -- the task's weak entries have the value at the cell, under some mutexes
+  record IsTold (i : P.Task) (c : P.Cell) (v : P.Value) : Type 0 where
     held : P.Held
-    value : P.Value
-    told : T.weak i held (P.abstract_cell c) value
+    told : T.weak i held (P.abstract_cell c) v
 
   store_told : (i : P.Task) (c : P.Cell) (v : P.Value) → N.next i (C.answers i) ≡ a_store c v
-      → P.shared (P.abstract_cell c) → IsTold i c
+      → P.shared (P.abstract_cell c) → IsTold i c v
   store_told i c v is shared =
       let x = lowered_is.at_store i (C.answers i) (z i).node (z i).temps c v (k.stands i) is in
       let l : Leaves P N i (z i).node (store x.0 x.1) = x.2 in
@@ -75,9 +74,9 @@ module _ (P : Shape) (T : Tables P) (N : Source P) (memory : P.Cell → AContent
       sol.stores l.edge (z i).temps x.0 x.1 c l.operation n.inside a in
       record {
         held = P.held (P.from l.edge);
-        value = P.value_of (z i).temps x.1;
-        told = subst (λ j. T.weak j (P.held (P.from l.edge)) (P.abstract_cell c) (P.value_of (z i).temps x.1)) l.actor
-            (covers.added shared);
+        told = subst (λ u. T.weak i (P.held (P.from l.edge)) (P.abstract_cell c) u) x.4
+            (subst (λ j. T.weak j (P.held (P.from l.edge)) (P.abstract_cell c) (P.value_of (z i).temps x.1)) l.actor
+            (covers.added shared));
       }
 
 -- ## In a world that a run reaches
@@ -118,33 +117,44 @@ module _ (laid : LaidTree) (p : ProgramBodies) (from : IsProgramFrom laid p) (is
     pub held : ℕ
     pub some : entry_at store_of.weak task held cell ≢ no_value
 
-  written_by : (i : TaskOf p.tasks) (memory : ℕ → AContent Value)
-      → Known laid p from is few tables store_of pair w reached memory → (object offset : ℕ) (place : Place)
-      → IsAccess object offset (next_at laid w (number_of p.tasks i)) true place
-      → IsShared p.laid (abstract_of_cell p.laid (cell_of p.laid object offset))
-      → IsWritten (number_of p.tasks i) (abstract_of_cell p.laid (cell_of p.laid object offset))
-  written_by i memory known object offset place access shared =
+  -- and has this value there
+  pub record IsWrittenAs (task cell : ℕ) (v : Value) : Type 0 where
+    pub held : ℕ
+    pub has : IsValueIn (entry_at store_of.weak task held cell) (scalar_as v)
+
+  stored_as : (i : TaskOf p.tasks) (memory : ℕ → AContent Value)
+      → Known laid p from is few tables store_of pair w reached memory → (cell : ℕ) (v : Value)
+      → action_of y (next_at laid w (number_of p.tasks i)) ≡ a_store cell v
+      → IsShared p.laid (abstract_of_cell p.laid cell)
+      → IsWrittenAs (number_of p.tasks i) (abstract_of_cell p.laid cell) v
+  stored_as i memory known cell v is_store shared =
       let n = next_is laid w (number_of p.tasks i) in
-      let s = stored_by y object offset (next_at laid w (number_of p.tasks i)) true place access refl in
       let told = store_told P' T' (source_in laid y) memory (λ j. first_temps) (tasks_in laid y w) known
       (shapes_lawful p is (good laid p from is few tables store_of pair w reached)).0
       (pairs_cover p is (good laid p from is few tables store_of pair w reached) tables store_of pair).0
-      (lowered laid p from is few tables store_of pair w reached) i (cell_of p.laid object offset) s.0
-      (ap (action_of y) (sym n) ∙ s.1) shared in
-      record {
-        held = told.held;
-        some = not_none (entry_at store_of.weak (number_of p.tasks i) told.held
-            (abstract_of_cell p.laid (cell_of p.laid object offset))) told.value told.told;
-      }
+      (lowered laid p from is few tables store_of pair w reached) i cell v (ap (action_of y) (sym n) ∙ is_store) shared in
+      record { held = told.held; has = told.told }
 
   -- a task that is about to store to an object of static storage
+  pub written_as : (task : ℕ) → task < length laid.file.tasks → MayAct laid w task → (cell : ℕ) (v : Value)
+      → action_of y (next_at laid w task) ≡ a_store cell v → IsShared p.laid (abstract_of_cell p.laid cell)
+      → IsWrittenAs task (abstract_of_cell p.laid cell) v
+  written_as task lt may cell v is_store shared =
+      let t : IsNumbered p.tasks task = task_of laid p from is few tables store_of pair w reached task lt in
+      let k = tasks_known laid p from is few tables store_of pair w reached task lt may in
+      subst (λ j. IsWrittenAs j (abstract_of_cell p.laid cell) v) t.is
+      (stored_as t.task k.0 k.1 cell v
+      (subst (λ j. action_of y (next_at laid w j) ≡ a_store cell v) (sym t.is) is_store) shared)
+
   pub written : (task : ℕ) → task < length laid.file.tasks → MayAct laid w task → (object offset : ℕ) (place : Place)
       → IsAccess object offset (next_at laid w task) true place
       → IsShared p.laid (abstract_of_cell p.laid (cell_of p.laid object offset))
       → IsWritten task (abstract_of_cell p.laid (cell_of p.laid object offset))
   written task lt may object offset place access shared =
-      let t : IsNumbered p.tasks task = task_of laid p from is few tables store_of pair w reached task lt in
-      let k = tasks_known laid p from is few tables store_of pair w reached task lt may in
-      subst (λ j. IsWritten j (abstract_of_cell p.laid (cell_of p.laid object offset))) t.is
-      (written_by t.task k.0 k.1 object offset place
-      (subst (λ j. IsAccess object offset (next_at laid w j) true place) (sym t.is) access) shared)
+      let s = stored_by y object offset (next_at laid w task) true place access refl in
+      let a = written_as task lt may (cell_of p.laid object offset) s.0 s.1 shared in
+      record {
+        held = a.held;
+        some = not_none (entry_at store_of.weak task a.held (abstract_of_cell p.laid (cell_of p.laid object offset))) s.0
+            a.has;
+      }

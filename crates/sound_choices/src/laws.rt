@@ -12,6 +12,8 @@ ghost use Rattle.open_choices.specs.Choices.{AreChoices};
 ghost use Rattle.sound_core.specs.Sound.{IsProgramFrom};
 ghost use Rattle.sound_choices.specs.Promises.{ListsChoices};
 ghost use Rattle.sound_choices.specs.Accesses.{ListsAccessChoices};
+ghost use Rattle.sound_choices.specs.Enumerations.{ListsEnumerations};
+ghost use Rattle.sound_choices.specs.Beginnings.{ListsBeginnings};
 
 /// Each time that a run comes before a copy of an edge at which it depends on a choice of one of these kinds, the place
 /// is in the list, whichever solution that is of.
@@ -32,4 +34,25 @@ pub fn access_choices_are_listed()
         (others choices : List Choice)
         → AreChoices seen p (tables_of tables) store origins (Contains others) choices
         → ListsAccessChoices laid seen p (tables_of tables) store origins choices }
+{}
+
+/// The same of negative numbers in enumerations that compilers may make unsigned, and beside them in operators.
+pub fn enumerations_are_listed()
+    ensures { (laid : LaidTree) (p : ProgramBodies) → IsProgramFrom laid p → (is : IsProgram p)
+        → length laid.objects ≤ 2 ^ 32 → (tables : List (List (Option State))) (store : Interferences)
+        → IsPair p tables store → (seen : LaidTree) → p.laid ≡ read_layout seen → (origins : List Origins)
+        (others choices : List Choice)
+        → AreChoices seen p (tables_of tables) store origins (Contains others) choices
+        → ListsEnumerations laid seen p (tables_of tables) store origins choices }
+{}
+
+/// And of lives of objects: where a run comes to the beginning of one while a pointer to an earlier instance is left over
+/// in an object that is open, in what another task stores, or in a value that is still in use, its place is in the list.
+pub fn beginnings_are_listed()
+    ensures { (laid : LaidTree) (p : ProgramBodies) → IsProgramFrom laid p → (is : IsProgram p)
+        → length laid.objects ≤ 2 ^ 32 → (tables : List (List (Option State))) (store : Interferences)
+        → IsPair p tables store → (seen : LaidTree) → p.laid ≡ read_layout seen → (origins : List Origins)
+        (others choices : List Choice)
+        → AreChoices seen p (tables_of tables) store origins (Contains others) choices
+        → ListsBeginnings laid seen p (tables_of tables) store origins choices }
 {}

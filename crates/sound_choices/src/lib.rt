@@ -13,4 +13,6 @@
 
 mod laws;
 
-pub use laws::{access_choices_are_listed, choices_are_listed};
+pub use laws::{
+    access_choices_are_listed, beginnings_are_listed, choices_are_listed, enumerations_are_listed,
+};

@@ -1,14 +1,16 @@
 -- Where the run of a body comes to an edge that waits for an answer, the body stands: its next action is what the edge
--- asks, and of its own cells none that is open is stored in the state of a solution there.
+-- asks; of its own cells none that is open is stored in the state of a solution there; and what it may read holds values
+-- of this state, or of what other tasks wrote.
 use Rattle.std.proofs.Common.{◌≡◌, inl, inr, refl, sym, ap, subst, ◌∙◌, ℕ, suc, ◌<◌, ◌≤◌, ◌^◌, Bool, true, false, List}
 use Rattle.std.proofs.Common.{[], ◌∷◌, length, Option, Some}
 use Rattle.std.specs.Prelude.{cond, nat_lt}
+use Rattle.std.proofs.lemmas.Bool.{lt-ltb}
 use Rattle.sound_tables.specs.tm_laid.Layouts.{LaidTree}
 use Rattle.sound_tables.specs.concrete_values.declared.values.Value.{Value}
 use Rattle.sound_tables.specs.concrete_values.declared.actions.Next.{Next}
 use Rattle.sound_tables.specs.concrete_values.declared.actions.Next.TheVariants as Acts
 use Rattle.sound_tables.specs.concrete_steps.declared.worlds.Content.{Content}
-use Rattle.sound_tables.specs.concrete_steps.declared.worlds.Content.TheVariants.{Open}
+use Rattle.sound_tables.specs.concrete_steps.declared.worlds.Content.TheVariants.{Open, Is as Holding}
 use Rattle.sound_tables.specs.concrete_steps.declared.worlds.Status.{Status}
 use Rattle.sound_tables.specs.concrete_steps.declared.worlds.Status.TheVariants.{Done}
 use Rattle.sound_tables.specs.concrete_steps.NextAction.{next}
@@ -24,18 +26,22 @@ use Rattle.sound_tables.specs.flow_graph.Runs.{Memory, arrive, Awaits, Halts, mo
 use Rattle.sound_tables.specs.flow_graph.Positions.{Is, StandsAt, Reaches}
 use Rattle.sound_tables.specs.mutex_configs.Sets.{has}
 use Rattle.sound_tables.specs.interfere_set.Stores.{Interferences}
-use Rattle.sound_tables.specs.transfer_rows.StateForms.{State}
+use Rattle.sound_tables.specs.transfer_rows.StateForms.{State, own_of}
 use Rattle.sound_tables.specs.transfer_rows.Covering.{IsStored}
+use Rattle.sound_tables.specs.program_reports.pointer_dom.Values.{IsValueIn}
 use Rattle.sound_tables.specs.program_reports.table_covers.Solutions.{NodeTable}
 use Rattle.sound_tables.specs.program_equations.Programs.{ProgramBodies, body_at, IsProgram}
 use Rattle.sound_tables.specs.program_equations.Solutions.{tables_of as lists_of, IsPair}
-use Rattle.sound_tables.specs.tm_soundness.Shape.{open_cell}
+use Rattle.sound_tables.specs.tm_soundness.Shape.{given, open_cell}
+use Rattle.sound_tables.specs.tm_soundness.WholeWorlds.{main_of}
 use Rattle.sound_tables.specs.tm_soundness.GraphWorlds.{done}
 use Rattle.sound_tables.specs.tm_soundness.Numbered.{TaskOf}
 use Rattle.sound_tables.specs.program_shape.Shape.{Parts, Node, Has, IsOwned, abstract_of_cell}
 use Rattle.sound_tables.specs.Programs.{part_of, parts_of, section_alone}
-use Rattle.sound_tables.specs.Memberships.{HasState, found_at, number_at, state_at}
+use Rattle.sound_tables.specs.Memberships.{HasState, found_at, number_at, state_at, scalar_as}
 use Rattle.sound_runs.specs.Images.{content_as, contents_as, status_as, held_as}
+use Rattle.sound_runs.specs.Programs.{shape_in, section_in, source_in, section_source_in}
+use Rattle.sound_runs.specs.Known.{tasks_in, whole_in}
 use Rattle.sound_runs.specs.Sources.{Stands}
 use Rattle.sound_runs.proofs.Moved.{next_is}
 use Rattle.sound_runs.proofs.Ways.{asks_sure, among_leaving}
@@ -45,6 +51,7 @@ use Rattle.sound_core.proofs.Known.{known}
 use Rattle.sound_core.proofs.GroupedAccesses.{good, tasks_known, task_of, holding}
 use Rattle.sound_notes.specs.Passes.{node_now, sets_now}
 use Rattle.sound_notes.proofs.OneStand.{one_stand}
+use Rattle.sound_notes.proofs.Members.{MayRead, IsFromOthers, IsRead, task_reads, section_reads}
 
 -- ## The move along an edge that asks
 
@@ -87,12 +94,27 @@ open_as : (b : Bool) (k : Content) → k ≡ Open → cond b (content_as k) open
 open_as true k e = ap content_as e
 open_as false k e = refl
 
-module _ (laid : LaidTree) (p : ProgramBodies) (tables : ℕ → NodeTable State) (w : World) where
+held_as_given : (b : Bool) (k : Content) (v : Value) → b ≡ true → k ≡ Holding v → cond b (content_as k) open_cell ≡ given v
+held_as_given true k v lt e = ap content_as e
+held_as_given false k v lt e = absurd (cc)
+
+module _ (laid : LaidTree) (p : ProgramBodies) (tables : ℕ → NodeTable State) (store : Interferences) (w : World) where
   -- of the body's own cells none that is open is stored in a state at this place
   abbrev pub OpenUnstored : ℕ → ℕ → Type 0
   OpenUnstored t place = (cell : ℕ) → IsOwned p.laid (abstract_of_cell p.laid cell) t → content_of w cell ≡ Open
       → (s : State) → found_at (tables t) (number_at p t (node_now laid w t place)) ≡ Some s
       → IsStored s (abstract_of_cell p.laid cell) → ⊥
+
+  -- the value is one of the abstract cell in a state at this place, or another task wrote it
+  pub data IsMember (t place x : ℕ) (v : Value) : Type 0 where
+    in_state : (s : State) → found_at (tables t) (number_at p t (node_now laid w t place)) ≡ Some s
+        → IsValueIn (own_of s x) (scalar_as v) → IsMember t place x v
+    in_store : IsFromOthers store t x v → IsMember t place x v
+
+  -- so is each value in a cell that the body may read
+  abbrev pub AreMembers : ℕ → ℕ → Type 0
+  AreMembers t place = (cell : ℕ) (v : Value) → cell < length laid.cells → MayRead p t cell
+      → content_of w cell ≡ Holding v → IsMember t place (abstract_of_cell p.laid cell) v
 
   pub record IsStanding (t : ℕ) : Type 0 where
     pub place : ℕ
@@ -100,15 +122,24 @@ module _ (laid : LaidTree) (p : ProgramBodies) (tables : ℕ → NodeTable State
     pub stands : (let b = body_at p t in StandsAt p.laid b.edges (next laid t) (answers_of w t) place memory)
     pub holds_now : (j : ℕ) → j < 16 → (let s = sets_now laid w t in has s.held j ≡ holds j (standing w t))
     pub unstored : OpenUnstored t place
+    pub members : AreMembers t place
 
-  -- A task of the theorem's stands so, which holds the same; and of its own cells none that is open is stored.
+  -- A task of the theorem's stands so, which holds the same; of its own cells none that is open is stored, and what it
+  -- may read holds what is known there.
   module _ (n : ℕ) (number : TaskOf n → ℕ) (rank : ℕ → ℕ) (i : TaskOf n) (q : Node (part_of p n number rank))
       (f : Temps) (st : Stands (part_of p n number rank) (next laid) i (answers_of w (number i)) q f) (h : ℕ)
       (same : (j : ℕ) → (Has q.held j → Has h j) × (Has h j → Has q.held j))
       (is : (j : ℕ) → j < 16 → has h j ≡ holds j (standing w (number i)))
       (none : (cell : ℕ) → IsOwned p.laid (abstract_of_cell p.laid cell) (number i)
       → contents_as laid w cell ≡ open_cell
-      → HasState (state_at p n number rank tables q) (λ s. IsStored s (abstract_of_cell p.laid cell)) → ⊥) where
+      → HasState (state_at p n number rank tables q) (λ s. IsStored s (abstract_of_cell p.laid cell)) → ⊥)
+      (reads : (cell : ℕ) (v : Value) → MayRead p (number i) cell → contents_as laid w cell ≡ given v
+      → IsRead p tables store n number rank i q (abstract_of_cell p.laid cell) v) where
+    member : (y : ℕ) (v : Value) → IsRead p tables store n number rank i q y v → IsMember (number i) st.place y v
+    member y v (inl own) =
+        in_state own.state (sym (ap (state_at p n number rank tables) st.node) ∙ own.is) own.holds
+    member y v (inr others) = in_store others
+
     standing_by : IsStanding (number i)
     standing_by = record {
       place = st.place;
@@ -122,6 +153,11 @@ module _ (laid : LaidTree) (p : ProgramBodies) (tables : ℕ → NodeTable State
       unstored = λ cell own is_open s at stored.
           none cell own (open_as (nat_lt cell (length laid.cells)) (content_of w cell) is_open)
           (record { state = s; is = ap (state_at p n number rank tables) st.node ∙ at; holds = stored });
+      members = λ cell v lt may holds.
+          member (abstract_of_cell p.laid cell) v
+          (reads cell v may
+          (held_as_given (nat_lt cell (length laid.cells)) (content_of w cell) v (lt-ltb cell (length laid.cells) lt)
+          holds));
     }
 
 module _ (laid : LaidTree) (p : ProgramBodies) (from : IsProgramFrom laid p) (is : IsProgram p)
@@ -138,21 +174,24 @@ module _ (laid : LaidTree) (p : ProgramBodies) (from : IsProgramFrom laid p) (is
   is_done_status st e = absurd (cc)
 
   abbrev pub StandsNow : ℕ → Type 0
-  StandsNow = IsStanding laid p (lists_of tables) w
+  StandsNow = IsStanding laid p (lists_of tables) store w
 
   task_stands : (task : ℕ) → task < length laid.file.tasks → MayAct laid w task → StandsNow task
   task_stands task lt may =
       let t = task_of laid p from is few tables store pair w reached task lt in
-      let k = (tasks_known laid p from is few tables store pair w reached task lt may).1 in
+      let all = tasks_known laid p from is few tables store pair w reached task lt may in
+      let k = all.1 in
       let kept = k.kept in
       let z = (let v = kept.world in v.situation t.task) in
       let image = kept.image in
       let parts = kept.parts in
       subst StandsNow t.is
-      (standing_by laid p (lists_of tables) w p.tasks x.number x.rank t.task z.node z.temps (k.stands t.task)
+      (standing_by laid p (lists_of tables) store w p.tasks x.number x.rank t.task z.node z.temps (k.stands t.task)
       (held_as w (x.number t.task)) (image.sits t.task).held
       (holding laid p from is few tables store pair w reached t.task)
-      (λ cell own is_open. parts.open_unstored t.task cell own (image.content cell ∙ is_open)))
+      (λ cell own is_open. parts.open_unstored t.task cell own (image.content cell ∙ is_open))
+      (λ cell v mine holds.
+      task_reads laid p (lists_of tables) store all.0 (tasks_in laid x w) k t.task cell v holds mine))
 
   pub all_stand : (t : ℕ) → MayAct laid w t → StandsNow t
   all_stand t (task_acts none task lt) = task_stands task lt (task_acts none task lt)
@@ -168,9 +207,13 @@ module _ (laid : LaidTree) (p : ProgramBodies) (from : IsProgramFrom laid p) (is
       let parts = kept.parts in
       let s = section_alone p in
       subst StandsNow count
-      (standing_by laid p (lists_of tables) w 1 s.number s.rank tt z.node z.temps (k.stands tt) all.held
+      (standing_by laid p (lists_of tables) store w 1 s.number s.rank tt z.node z.temps (k.stands tt) all.held
       (image.sits tt).held (λ j lt. all.same still j lt)
-      (λ cell own is_open. parts.open_unstored tt cell own (image.content cell ∙ is_open)))
+      (λ cell own is_open. parts.open_unstored tt cell own (image.content cell ∙ is_open))
+      (λ cell v mine holds.
+      section_reads laid p (lists_of tables) store
+      (main_of (shape_in laid x) (source_in laid x) (section_in laid x) (section_source_in laid x) (whole_in laid x w all.held))
+      k cell v holds mine))
 
 -- ## What it does next
 
@@ -187,7 +230,7 @@ module _ (laid : LaidTree) (p : ProgramBodies) (from : IsProgramFrom laid p) (is
   plain : IsPlain g
   plain = ((good laid p from is few tables store pair w reached).graphs t within).plain
 
-  stand : IsStanding laid p (lists_of tables) w t
+  stand : IsStanding laid p (lists_of tables) store w t
   stand = all_stand laid p from is few tables store pair w reached t may
 
   waits : move p.laid g place m ≡ Awaits n e.to (λ v. arrive e.to (suc m.used) (f v) m)
@@ -208,5 +251,8 @@ module _ (laid : LaidTree) (p : ProgramBodies) (from : IsProgramFrom laid p) (is
       (subst (λ v. Is (move p.laid g s.place v) (next laid t (answers_of w t))) (sym one.1) s.stands.1) in
       next_is laid w t ∙ subst (λ v. Is v (next laid t (answers_of w t))) waits there
 
-  pub unstored_now : OpenUnstored laid p (lists_of tables) w t place
-  unstored_now = let s = stand in subst (OpenUnstored laid p (lists_of tables) w t) (sym one.0) s.unstored
+  pub unstored_now : OpenUnstored laid p (lists_of tables) store w t place
+  unstored_now = let s = stand in subst (OpenUnstored laid p (lists_of tables) store w t) (sym one.0) s.unstored
+
+  pub members_now : AreMembers laid p (lists_of tables) store w t place
+  members_now = let s = stand in subst (AreMembers laid p (lists_of tables) store w t) (sym one.0) s.members

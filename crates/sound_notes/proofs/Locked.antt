@@ -191,7 +191,7 @@ module _ (laid : LaidTree) (p : ProgramBodies) (from : IsProgramFrom laid p) (is
   graph : IsGraphOf p t
   graph = (good laid p from is few tables store pair w c.reached).graphs t within
 
-  stand : IsStanding laid p (lists_of tables) w t
+  stand : IsStanding laid p (lists_of tables) store w t
   stand = all_stand laid p from is few tables store pair w c.reached t c.may
 
   -- the run stands before the edge

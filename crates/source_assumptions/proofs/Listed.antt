@@ -19,7 +19,8 @@ use Rattle.source_programs.specs.Sources.{IsAcceptedOn}
 use Rattle.source_programs.proofs.Accepted.{accepted_is_program}
 use Rattle.certificate_check.proofs.Sourced.{comes_from}
 use Rattle.sound_choices.proofs.Kept.{choices_listed}
-use Rattle.sound_choices.proofs.Listed.{access_choices_listed}
+use Rattle.sound_choices.proofs.Listed.{access_choices_listed, beginnings_listed}
+use Rattle.sound_choices.proofs.Enumerated.{enumerations_listed}
 use Rattle.text_choices.specs.Choices.{Adds}
 use Rattle.text_choices.specs.Lists.{IsOfText}
 use Rattle.edge_origins.specs.declared.origins.BodyOrigins.{BodyOrigins}
@@ -102,5 +103,9 @@ assumptions_found scale bytes p a few pair least laid of graphs edges opened is 
       lists = choices_listed a.laid p (comes_from scale [] bytes p a) (accepted_is_program scale [] bytes p a) few
           pair.tables pair.store least.solution t.seen opened.origins.items (IsOfText bytes laid) t.choices are;
       accesses = access_choices_listed a.laid p (comes_from scale [] bytes p a) (accepted_is_program scale [] bytes p a) few
+          pair.tables pair.store least.solution t.seen t.front opened.origins.items (IsOfText bytes laid) t.choices are;
+      enumerations = enumerations_listed a.laid p (comes_from scale [] bytes p a) (accepted_is_program scale [] bytes p a)
+          few pair.tables pair.store least.solution t.seen t.front opened.origins.items (IsOfText bytes laid) t.choices are;
+      beginnings = beginnings_listed a.laid p (comes_from scale [] bytes p a) (accepted_is_program scale [] bytes p a) few
           pair.tables pair.store least.solution t.seen t.front opened.origins.items (IsOfText bytes laid) t.choices are;
     }

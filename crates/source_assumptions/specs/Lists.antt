@@ -20,6 +20,8 @@ use Rattle.text_choices.specs.Lists.{IsOfText}
 use Rattle.open_choices.specs.Choices.{AreChoices}
 use Rattle.sound_choices.specs.Promises.{ListsChoices}
 use Rattle.sound_choices.specs.Accesses.{ListsAccessChoices}
+use Rattle.sound_choices.specs.Enumerations.{ListsEnumerations}
+use Rattle.sound_choices.specs.Beginnings.{ListsBeginnings}
 use Rattle.source_assumptions.specs.Lines.{choices_text}
 
 -- the bodies of a program have the edges of these graphs
@@ -48,6 +50,10 @@ pub record FindsChoices (scale : Scale) (bytes : List ℕ) (choices : List Choic
       ListsChoices a.laid seen s.program (tables_of pair.tables) pair.store origins choices)
   pub accesses : (let s = solves in let a = s.accepted in let pair = s.pair in
       ListsAccessChoices a.laid seen s.program (tables_of pair.tables) pair.store origins choices)
+  pub enumerations : (let s = solves in let a = s.accepted in let pair = s.pair in
+      ListsEnumerations a.laid seen s.program (tables_of pair.tables) pair.store origins choices)
+  pub beginnings : (let s = solves in let a = s.accepted in let pair = s.pair in
+      ListsBeginnings a.laid seen s.program (tables_of pair.tables) pair.store origins choices)
 
 -- whether there is one
 abbrev pub choices_status : List Choice → Status
