@@ -1,8 +1,8 @@
 #!/usr/bin/env bash
 # Writes anew what stands beside each example of its circular waits and its ranges, examples/NAME.waits and
 # examples/NAME.ranges, why its alarms stand, examples/NAME.why, and its certificate, examples/NAME.certificate, where that has at most 300,000 bytes, by the
-# program that ./analyse --program names; and of each project of several units its waits, rings, races and ranges,
-# examples/NAME/NAME.waits and so on, by ./analyse: benches/answers.sh [--unproved].
+# program that ./analyse --program names; and of each project of several units its lines, waits, rings, races and ranges,
+# examples/NAME/NAME.report, examples/NAME/NAME.waits and so on, by ./analyse: benches/answers.sh [--unproved].
 #
 # benches/view.sh compares all but the certificates, and benches/certified.sh checks these: look at what has changed
 # before it is committed.
@@ -37,15 +37,22 @@ for source in "$top"/examples/*.c; do
     cat -- "$work/answer" >"${source%.c}.why"
 done
 
+# Writes what ./analyse answers with these words in the folder of a project.
+write() { # PROJECT ENDING WORDS..
+    local status=0
+    (cd "$top/examples/$1" && "$top/analyse" "${@:3}") >"$work/answer" || status=$?
+    if [ "$status" -gt 1 ]; then
+        echo "$2 of $1: status $status" >&2
+        exit 1
+    fi
+    cat -- "$work/answer" >"$top/examples/$1/$1.$2"
+    echo "$1: $(tail -n 1 "$work/answer")"
+}
+
 for project in boiler gateway motor; do
-    for command in waits rings races ranges; do
-        status=0
-        (cd "$top/examples/$project" && "$top/analyse" "$@" "--$command" -- *.c) >"$work/answer" || status=$?
-        if [ "$status" -gt 1 ]; then
-            echo "$command of $project: status $status" >&2
-            exit 1
-        fi
-        cat -- "$work/answer" >"$top/examples/$project/$project.$command"
-        echo "$project: $(tail -n 1 "$work/answer")"
-    done
+    mapfile -t units < <(cd "$top/examples/$project" && printf '%s\n' *.c)
+    write "$project" report "$@" "${units[@]}"
+    for command in waits rings races ranges; do write "$project" "$command" "$@" "--$command" "${units[@]}"; done
 done
+write project report "$@" project.c
+write units report "$@" setup.c drive.c share.c

@@ -7,8 +7,8 @@
 # order of the classes in reports; the list of all classes in a summary; the table of classes in docs/LANGUAGE.md; the
 # rules WAIT and DEAD of a log, with a table of their own; the
 # headings of docs/ALARMS.md, each with the name and the sentence of its section; and each line of a document or of a
-# stored report that has the form `PLACE: warning: SENTENCE [NAME]`, but for those of `--races`. Nothing is said of the code, which is proved equal to the
-# definitions. Status 1 where words differ, with a line for each.
+# stored report that has the form `PLACE: warning: SENTENCE [NAME]`, but for those on objects with a race. Nothing is said of
+# the code, which is proved equal to the definitions. Status 1 where words differ, with a line for each.
 set -eu
 cd "$(dirname "$(readlink -f "$0")")/.."
 folder=$(mktemp -d)
@@ -80,5 +80,6 @@ while IFS= read -r line; do
     text=$(sed -E 's/^.*:[0-9]+:[0-9]+: warning: (.*) \[([A-Z]*)\]$/\2|\1/' <<<"$line")
     grep -Fxq "$text" "$folder/sentences" || { echo "no sentence of the table: $line"; status=1; }
 done < <(grep -rnoE "[A-Za-z_./]+\.[ch]:[0-9]+:[0-9]+: warning: [^\`\"\\\\]* \[($(paste -sd '|' "$folder/names"))\]" \
-    README.md docs examples | grep -v ', one of them storing; it is accessed so: ')
+    README.md docs examples |
+    grep -v -e ', one of them storing; it is accessed so: ' -e ' without a common mutex: [0-9]* of its [0-9]* accesses race ')
 exit "$status"

@@ -1,6 +1,6 @@
 #!/usr/bin/env bash
 # Tries the wrong bodies that stand in crates/NAME/planted/, of the crates that are named or of all: the prover has to
-# refuse each. They are edits as those of must-fail/, but stand outside the gate, which has twenty of the more than two
+# refuse each. They are edits as those of must-fail/, but stand outside the gate, which has a few of the more than five
 # hundred, since the first edit of a crate costs the gate a check of the whole crate.
 #
 #     benches/planted.sh [NAME..]            tries them, and writes into benches/planted.txt which were refused

@@ -44,9 +44,14 @@ for line in open(sys.argv[1]):
         print(*(found[pattern[it]] for it in ("file", "line", "column", "severity", "code")), sep=":")' "$1"
 }
 
-# What the editor's task has to take of the report.
+# What the editor's task has to take of the report: a note has no class.
 problems() { # REPORT
-    sed -nE 's/^(.*:[0-9]+:[0-9]+): ([a-z]+): .* \[(.*)\]$/\1:\2:\3/p' "$1"
+    sed -nE 's/^(.*:[0-9]+:[0-9]+): ([a-z]+): .* \[(.*)\]$/\1:\2:\3/p; s/^(.*:[0-9]+:[0-9]+): note: .*$/\1:note:None/p' "$1"
+}
+
+# A report in which each alarm has a line of its own, as of a certificate.
+each_alarm() { # COMMAND WORDS..
+    told "$@" --why pump.c display.c | sed -n '/: warning: /p; /^alarms /p'
 }
 
 # The Makefile.
@@ -101,7 +106,8 @@ grep -q 'more than once' "$work/err"
 
 # A certificate of a project is one of its joined text, and is shown in its files.
 "${by_database[@]}" --certify >"$work/proof" 2>"$work/err"
-same "$wanted"$'\ncertified\nstatus 1' "$(told "$work/bin/analyse" --check "$work/proof")" "a certificate of a project"
+same "$(each_alarm "$work/bin/analyse" --compile-commands build/compile_commands.json)"$'\ncertified\nstatus 1' \
+    "$(told "$work/bin/analyse" --check "$work/proof")" "a certificate of a project"
 cd "$top/examples/units"
 "$work/bin/analyse" --certify setup.c drive.c share.c >"$work/proof" 2>"$work/err"
 units=$(cat units.report)

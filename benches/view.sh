@@ -139,7 +139,8 @@ for project in boiler gateway motor; do
         same "$(cat "$project.$command")" "$(told "$top/analyse" "--$command" -- *.c | sed '$d')" "the $command of $project"
     done
     told "$top/analyse" --html="$work/page" -- *.c >"$work/out"
-    same "$(sed -n 's/^alarms //p' "$project.report")" "$(grep -c '</a></td><td><b>' "$work/page")" "the page of $project"
+    same "$(sed -n 's/^alarms \([0-9]*\).*/\1/p' "$project.report")" "$(grep -c '</a></td><td><b>' "$work/page")" \
+        "the page of $project"
 done
 
 # Circular waits, ranges and dead places are shown in their files: each object stands in the line that is told.
@@ -193,6 +194,9 @@ wanted+=$'a.h:9:33: show loads it here, holds nothing\na.h:9:58: show loads it h
 wanted+=$'a.h:9:33 RACE\na.h:9:33: show loads level here, holds nothing, and races with 1 access\n'
 wanted+=$'a.h:8:36: drain stores it here, holds nothing\na.h:9:56 DIV\n'
 wanted+=$'a.h:9:56: the divisor is 0 to 4 here, and the dividend is 100\na.h:9:56: in show (priority 1)\n'
+wanted+=$'a.h:9:58: show reads 0 to 4 from level here\na.h:8:36: drain stores 0 to 4 to level here\n'
+wanted+=$'a.h:8:36: an input, or a function that may end without return, gives 0 to 4 here\n'
+wanted+=$'a.h:9:56: without what other tasks store meanwhile no such value is here\n'
 wanted+=$'a.h:9:58 RACE\na.h:9:58: show loads level here, holds nothing, and races with 1 access\na.h:8:36: drain stores it here, holds nothing\nalarms 4\nstatus 1'
 same "$wanted" "$(noted 'int level, shown;\n__task(2) void drain(void) { level = __input(0, 4); }\n__task(1) void show(void) { if (level > 0) shown = 100 / level; }\n')" \
     "why of two tasks"
@@ -278,11 +282,11 @@ for source in "$top"/examples/*.c "$top/examples/project/project.c"; do
         "the status of the log of ${source##*/}"
     sed -i '$d' "$work/log"
     python3 "$here/sarif.py" "$work/log"
-    same "$({ told "$top/analyse" "$source" && cat "$work/form--waits" "$work/form--ranges"; } |
+    same "$({ told "$top/analyse" --why "$source" | grep ': warning: ' && cat "$work/form--waits" "$work/form--ranges"; } |
         sed -n 's/^\(.*:[0-9]*:[0-9]*: \)[a-z]*: .* \[\([A-Z]*\)\]$/\1\2/p' |
         sed 's/\(display\.c:10\):[0-9]*: /\1:-: /')" \
         "$(placed "$work/log")" "the log of ${source##*/}"
-    same "$(told "$top/analyse" "$source" | tail -n 2)" "$(tail -n 2 "$work/form--summary")" \
+    same "$(told "$top/analyse" "$source" | tail -n 2 | sed 's/^\(alarms [0-9]*\): .*/\1/')" "$(tail -n 2 "$work/form--summary")" \
         "the summary of ${source##*/}"
     # (of one run the lines, the log and the page; the page has a row for each alarm, and none of them is new)
     told "$top/analyse" --baseline "$work/log" --sarif="$work/again" --html="$work/page" "$source" >"$work/out"
