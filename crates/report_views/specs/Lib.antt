@@ -1,5 +1,7 @@
 pub mod Causes
+pub mod Kinds
 pub mod Lines
+pub mod Rules
 pub mod Sentences
 pub mod Spots
 pub mod Summaries
