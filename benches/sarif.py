@@ -6,9 +6,8 @@ it: which properties an object must have and which it may, of which types, that 
 once, that lines and columns count from 1 and regions are not empty, that each result names a rule by its word and by its
 position, and that each uri is a reference. Where a uri is a file's, that file must be there, and have the heading that the
 fragment names. It tells also where a log is not what this project writes: the rules are those of RULES, each with its one
-level, and the results come in four parts, alarms, waits, dead places and assumptions, and behind them those that are
-absent; each has a fingerprint, and no two have one; the kind of assumptions, and of no others, is `review`; and the exit
-status is 1 where something is to be mended."""
+level, and the results come in three parts, alarms, waits and dead places, and behind them those that are absent; each has a fingerprint, and no two have one; and
+the exit status is 1 where something is to be mended."""
 import json
 import os
 import re
@@ -21,12 +20,10 @@ RULES = {
     **dict.fromkeys(["OVERFLOW", "DIV", "SHIFT", "INDEX", "POINTER", "DEREF", "LOCK", "RACE"], "warning"),
     "WAIT": "warning",
     "DEAD": "note",
-    **dict.fromkeys(["CONST", "ENUM", "IMPLEMENTATION", "LAYOUT", "LIFETIME", "MEMBER", "ORDER", "PRAGMA", "RESERVED",
-                     "RESTRICT", "UNSET"], "none"),
 }
 
 # The parts in which the results come.
-PARTS = ["alarms", "WAIT", "DEAD", "assumptions"]
+PARTS = ["alarms", "WAIT", "DEAD"]
 
 # What stands in a uri reference (RFC 3986).
 REFERENCE = r"(?:[A-Za-z0-9._~/-]|%[0-9A-F]{2})*"
@@ -222,16 +219,13 @@ def compared(values):
 def result(value, rules):
     """A result (3.27)."""
     where = "a result"
-    only(value, where, "kind", "ruleId", "ruleIndex", "level", "message", "locations", "partialFingerprints",
-         "baselineState", "suppressions")
+    only(value, where, "ruleId", "ruleIndex", "level", "message", "locations", "partialFingerprints", "baselineState",
+         "suppressions")
     word = part(value, where, "ruleId", str)
     if rules[part(value, where, "ruleIndex", int)] != word:
         raise Wrong(f"the rule of a result is not {word}")
     if part(value, where, "level", str) != RULES[word]:
         raise Wrong(f"the level of a result is not that of {word}")
-    # (3.27.9: what has no kind is a failure, and what has another kind than that has the level none)
-    if value.get("kind", "fail") != ("review" if RULES[word] == "none" else "fail"):
-        raise Wrong(f"a result of {word} is of another kind")
     text(part(value, where, "message", dict), "a message")
     marks = part(value, where, "partialFingerprints", dict)
     only(marks, "the fingerprints", "cedratcleat/v1")
@@ -244,20 +238,13 @@ def result(value, rules):
     return word, mark, location(here[0], "a place")
 
 
-def part_of(word):
-    """The number of the part in which results of a rule stand."""
-    if RULES[word] == "none":
-        return PARTS.index("assumptions")
-    return PARTS.index(word) if word in PARTS else 0
-
-
 def results(run, rules):
     """The results of a run that were found, each with its place and its word. Behind them stand those that were not."""
     found, marks, last = [], [], (False, 0)
     values = part(run, "a run", "results", list)
     for value, absent in zip(values, compared(values)):
         word, mark, here = result(value, rules)
-        number = (absent, part_of(word))
+        number = (absent, PARTS.index(word) if word in PARTS else 0)
         if number < last:
             raise Wrong(f"a result of {word} stands behind one of {PARTS[last[1]]}")
         last = number

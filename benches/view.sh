@@ -274,8 +274,7 @@ opened() { # PAGE
 }
 
 # The logs and summaries of the examples: each log has the places and words of the lines, then those of the waits, then
-# those of the dead places, then those of the assumptions, and its status is 1 where there is an alarm or a wait. A line
-# that a macro changed is whole.
+# those of the dead places, and its status is 1 where there is an alarm or a wait. A line that a macro changed is whole.
 for source in "$top"/examples/*.c "$top/examples/project/project.c"; do
     told "$top/analyse" --sarif "$source" >"$work/log"
     for form in --summary --waits --ranges --assumptions; do told "$top/analyse" "$form" "$source" >"$work/form$form"; done
@@ -283,7 +282,7 @@ for source in "$top"/examples/*.c "$top/examples/project/project.c"; do
         "the status of the log of ${source##*/}"
     sed -i '$d' "$work/log"
     python3 "$here/sarif.py" "$work/log"
-    same "$({ told "$top/analyse" --why "$source" | grep ': warning: ' && cat "$work/form--waits" "$work/form--ranges" "$work/form--assumptions"; } |
+    same "$({ told "$top/analyse" --why "$source" | grep ': warning: ' && cat "$work/form--waits" "$work/form--ranges"; } |
         sed -n 's/^\(.*:[0-9]*:[0-9]*: \)[a-z]*: .* \[\([A-Z]*\)\]$/\1\2/p' |
         sed 's/\(display\.c:10\):[0-9]*: /\1:-: /')" \
         "$(placed "$work/log")" "the log of ${source##*/}"

@@ -24,10 +24,9 @@ is_same Absent Absent = true
 is_same Suppressed Suppressed = true
 is_same _ _ = false
 
--- a result that is to be mended, and no mere note, nor one that a human is to look at, which has no level
+-- a result that is to be mended, and no mere note
 abbrev pub is_problem : Data → Bool
-is_problem result =
-    not (has_text (codes "level") (codes "note") result) && not (has_text (codes "level") (codes "none") result)
+is_problem result = not (has_text (codes "level") (codes "note") result)
 
 -- a result that is to be mended stands so
 abbrev pub stands : Standing → Data → Bool

@@ -1,16 +1,14 @@
 -- No number of a log is a float, so its text is that of its value.
 use Rattle.std.proofs.Common.{◌≡◌, ◌∙◌, ℕ, List, [], ◌∷◌, ◌++◌, Bool, true, false, map, refl, ap, cond, length, ◌==◌}
 use Rattle.std.proofs.Common.{Option, Some, None}
-use Rattle.serde_json.specs.Data.{Data, object}
+use Rattle.serde_json.specs.Data.{Data}
 use Rattle.serde_json.specs.View.{items_of}
 use Rattle.serde_json.specs.Written.{compact_text, has_float, items_have_float}
 use Rattle.place_details.specs.declared.regions.Region.{Region}
 use Rattle.place_details.specs.declared.regions.Region.TheVariants.{Whole, From, Within}
 use Rattle.report_views.specs.Spots.{Spot}
 use Rattle.report_logs.specs.Sarif.{Told, artifact_data, found_data, function_data, functions_data, log_data, region_data}
-use Rattle.report_logs.specs.Sarif.{file_of, is_review, location_data, result_data, result_members, review_members}
-use Rattle.report_logs.specs.Sarif.{sarif_text}
-use Rattle.report_views.specs.declared.sentences.Rule.{Rule}
+use Rattle.report_logs.specs.Sarif.{result_data, sarif_text}
 use Rattle.source_marks.specs.Marks.{Origin}
 use Rattle.place_details.specs.Details.{function_of, region_of}
 use Rattle.report_logs.specs.Refusals.{Refusal, refused_data, refused_line, refused_place, refused_places, refused_sight}
@@ -27,20 +25,8 @@ function_if false name = refl
 function : (name : List ℕ) → items_have_float (items_of (functions_data name)) ≡ false
 function name = function_if (length name == 0) name
 
-place : (uri : List ℕ) (line : ℕ) (r : Region) (name : List ℕ) → has_float (location_data uri line r name) ≡ false
-place uri line r name = rw (function name, region line r) refl
-
-result_if : (b : Bool) (rule : Rule) (location : Data) (fingerprint : List ℕ) → has_float location ≡ false
-    → has_float (cond b (object (review_members (result_members rule location fingerprint)))
-    (object (result_members rule location fingerprint))) ≡ false
-result_if true rule location fingerprint none = rw none refl
-result_if false rule location fingerprint none = rw none refl
-
 result : (told : Told) → has_float (result_data told) ≡ false
-result told =
-    result_if (is_review told.spot.rule) told.spot.rule
-    (location_data (file_of told.spot) told.spot.line told.region told.function) told.fingerprint
-    (place (file_of told.spot) told.spot.line told.region told.function)
+result told = rw (function told.function, region told.spot.line told.region) refl
 
 results : (told : List Told) → items_have_float (items_of (map result_data told)) ≡ false
 results [] = refl

@@ -1,10 +1,10 @@
--- The log of a report, its waits, its dead places and the assumptions.
+-- The log of a report, its waits and its dead places.
 use Rattle.std.specs.Prelude.{◌≡◌, ℕ, List, [], ◌∷◌, Some}
 use Rattle.source_marks.specs.Marks.{Origin}
 use Rattle.source_marks.specs.Names.{decoded}
 use Rattle.place_details.specs.Details.{AreDetails, Sight}
 use Rattle.place_details.specs.declared.regions.Region.{Region}
-use Rattle.report_views.specs.Causes.{Answers, AreFindings, AreOrigins}
+use Rattle.report_views.specs.Causes.{AreFindings, AreOrigins}
 use Rattle.report_views.specs.Sentences.{rule_text}
 use Rattle.report_views.specs.Spots.{Spot, spots_of}
 use Rattle.report_views.specs.declared.spots.Finding.{Finding}
@@ -35,12 +35,12 @@ pub record IsLogged (documents folder name text lines : List ℕ) (origins : Lis
   pub placed : spots_of origins findings ≡ Some spots
   pub written : IsWritten documents folder name text lines findings spots log
 
--- the log of answers over a text, whose first file has this name: a result for each alarm of the report, then one for
--- each lock that the waits list, then one for each dead place, then one for each assumption, all in their order and at
--- the places that the line marks of the text give
-pub record IsLog (documents folder name : List ℕ) (answers : Answers) (text lines log : List ℕ) : Type 0 where
+-- the log of a report, of its waits and of its dead places, as bytes, over a text, whose first file has this name: a
+-- result for each alarm, then one for each lock that the waits list, then one for each dead place, all at the places
+-- that the line marks of the text give
+pub record IsLog (documents folder name report waits dead text lines log : List ℕ) : Type 0 where
   pub findings : List Finding
   pub origins : List Origin
-  pub reads : AreFindings answers findings
+  pub reads : AreFindings report waits dead findings
   pub marks : AreOrigins name text origins
   pub logged : IsLogged documents folder name text lines origins findings log

@@ -1,7 +1,7 @@
 -- Findings as a log in the format SARIF 2.1.0 (OASIS, 2020): one run, with all rules and a result for each finding.
 -- Members stand in the order of their names.
-use Rattle.std.specs.Prelude.{ℕ, ◌+◌, ◌==◌, Bool, true, false, List, [], ◌∷◌, length, map, codes, count_by, if◌then◌else◌}
-use Rattle.serde_json.specs.Data.{Data, Members, array, boolean, member, no_members, number, object, string, unsigned}
+use Rattle.std.specs.Prelude.{ℕ, ◌==◌, Bool, true, false, List, [], ◌∷◌, length, map, codes, count_by, if◌then◌else◌}
+use Rattle.serde_json.specs.Data.{Data, array, boolean, member, no_members, number, object, string, unsigned}
 use Rattle.serde_json.specs.View.{items_of}
 use Rattle.serde_json.specs.Written.{compact_text}
 use Rattle.tm_terms.specs.Alarms.{class_number}
@@ -9,11 +9,9 @@ use Rattle.tm_terms.specs.Texts.{line_of}
 use Rattle.source_marks.specs.Names.{decoded}
 use Rattle.place_details.specs.declared.regions.Region.{Region}
 use Rattle.place_details.specs.declared.regions.Region.TheVariants.{Whole, From, Within}
-use Rattle.report_reading.specs.declared.assumptions.AssumptionKind.{AssumptionKind}
-use Rattle.report_reading.specs.declared.assumptions.AssumptionKind.TheVariants as Kinds
 use Rattle.report_views.specs.Sentences.{level_text, rule_help, rule_sentence, rule_text, rules}
 use Rattle.report_views.specs.declared.sentences.Rule.{Rule}
-use Rattle.report_views.specs.declared.sentences.Rule.TheVariants.{Alarm, Wait, Dead, Assumption}
+use Rattle.report_views.specs.declared.sentences.Rule.TheVariants.{Alarm, Wait, Dead}
 use Rattle.report_views.specs.Spots.{Spot}
 use Rattle.report_logs.specs.Uris.{distinct, help_uri, uri_text}
 
@@ -41,26 +39,11 @@ driver_data documents =
     (member (codes "semanticVersion") (string (codes "1.0.0"))
     (member (codes "version") (string (codes "1.0.0")) no_members))))
 
--- the position of a kind among all
-abbrev pub kind_number : AssumptionKind → ℕ
-kind_number Kinds.Const = 0
-kind_number Kinds.Enum = 1
-kind_number Kinds.Implementation = 2
-kind_number Kinds.Layout = 3
-kind_number Kinds.Lifetime = 4
-kind_number Kinds.Member = 5
-kind_number Kinds.Order = 6
-kind_number Kinds.Pragma = 7
-kind_number Kinds.Reserved = 8
-kind_number Kinds.Restrict = 9
-kind_number Kinds.Unset = 10
-
 -- the position of a rule among all
 abbrev pub rule_number : Rule → ℕ
 rule_number (Alarm class) = class_number class
 rule_number Wait = 8
 rule_number Dead = 9
-rule_number (Assumption kind) = 10 + kind_number kind
 
 -- ## Results
 
@@ -116,43 +99,16 @@ file_of spot = uri_text (decoded spot.name)
 abbrev pub marks_data : List ℕ → Data
 marks_data fingerprint = object (member (codes "cedratcleat/v1") (string fingerprint) no_members)
 
--- a rule that finds what a human is to look at
-abbrev pub is_review : Rule → Bool
-is_review (Alarm class) = false
-is_review Wait = false
-is_review Dead = false
-is_review (Assumption kind) = true
-
--- what a result has: its level, its place, what it says, what marks it in later logs, and its rule by word and position
-abbrev pub result_parts : List ℕ → Data → Data → Data → List ℕ → ℕ → Members
-result_parts level location said marks word position =
-    member (codes "level") (string level)
-    (member (codes "locations") (array (items_of (location ∷ [])))
-    (member (codes "message") said
-    (member (codes "partialFingerprints") marks
-    (member (codes "ruleId") (string word)
-    (member (codes "ruleIndex") (number (unsigned position)) no_members)))))
-
-abbrev pub result_members : Rule → Data → List ℕ → Members
-result_members rule location fingerprint =
-    result_parts (level_text rule) location (text_data (rule_sentence rule)) (marks_data fingerprint) (rule_text rule)
-    (rule_number rule)
-
--- the members of a result that a human is to look at
-abbrev pub review_members : Members → Members
-review_members members = member (codes "kind") (string (codes "review")) members
-
--- a result; one that a human is to look at says so, and any other has no kind, which is that of a failure (3.27.9)
-abbrev pub result_of : Rule → Data → List ℕ → Data
-result_of rule location fingerprint =
-    if is_review rule then object (review_members (result_members rule location fingerprint))
-    else object (result_members rule location fingerprint)
-
 -- a finding
 abbrev pub result_data : Told → Data
 result_data told =
-    result_of told.spot.rule (location_data (file_of told.spot) told.spot.line told.region told.function)
-    told.fingerprint
+    object (member (codes "level") (string (level_text told.spot.rule))
+    (member (codes "locations")
+    (array (items_of (location_data (file_of told.spot) told.spot.line told.region told.function ∷ [])))
+    (member (codes "message") (text_data (rule_sentence told.spot.rule))
+    (member (codes "partialFingerprints") (marks_data told.fingerprint)
+    (member (codes "ruleId") (string (rule_text told.spot.rule))
+    (member (codes "ruleIndex") (number (unsigned (rule_number told.spot.rule))) no_members))))))
 
 -- findings with what is told of each
 abbrev pub told_of : List Spot → List Region → List (List ℕ) → List (List ℕ) → List Told
@@ -172,7 +128,6 @@ abbrev pub is_problem : Rule → Bool
 is_problem (Alarm class) = true
 is_problem Wait = true
 is_problem Dead = false
-is_problem (Assumption kind) = false
 
 -- how many findings are to be mended
 abbrev pub problems : List Spot → ℕ

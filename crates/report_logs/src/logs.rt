@@ -1,4 +1,4 @@
-//! The log of a report, of its waits, of its dead places and of the assumptions.
+//! The log of a report, of its waits and of its dead places.
 
 ghost use Rattle.std.specs.Prelude.{◌≡◌, ◌++◌, ℕ, List, length, map, IfOk, IsErrOf, OnOk, string_bytes};
 ghost use Rattle.source_marks.specs.Names.{decoded};
@@ -6,18 +6,16 @@ ghost use Rattle.source_marks.specs.reading.Seen.{origin_seen};
 ghost use Rattle.place_details.specs.Details.{AreDetails};
 ghost use Rattle.place_details.specs.reading.Seen.{bytes_seen, sight_seen};
 ghost use Rattle.report_views.specs.declared.causes.Cause.{Cause as CauseOf};
-ghost use Rattle.report_views.specs.Causes.{Answers as TheAnswers, AreAssumptionsOf, AreFindings, IsListingOf, IsLogCause};
-ghost use Rattle.report_views.specs.Causes.{IsMisplaced, all_findings, text_of};
+ghost use Rattle.report_views.specs.Causes.{AreFindings, IsListingOf, IsLogCause, IsMisplaced, all_findings, text_of};
 ghost use Rattle.report_views.specs.reading.Seen.{spot_seen};
 ghost use Rattle.report_logs.specs.Logs.{IsLog, IsLogged, IsWritten, sight_of, sights_of};
-ghost use Rattle.report_logs.specs.reading.Seen.{answers_seen};
 
 use crate::sarif::sarif_log;
 use place_details::{Details, Sight, details_of};
-use report_reading::{Assumption, Listing, ListingFail, read_assumptions, read_places};
+use report_reading::{Listing, ListingFail, read_places};
 use report_views::{
-    Cause, Finding, LONGEST_REPORT, Rule, Spot, ViewFail, findings_of, placed, push_assumptions,
-    push_places, read, rule_word, traced,
+    Cause, Finding, LONGEST_REPORT, Rule, Spot, ViewFail, findings_of, placed, push_places, read,
+    rule_word, traced,
 };
 use source_marks::{Origin, name_bytes};
 use std::alloc::{AllocError, Global};
@@ -28,8 +26,8 @@ use tm_terms::{Alarm, Place};
 fn listed(alloc: Global, text: &[u8], listing: Listing) -> Result<Vec<Place>, ViewFail>
     ensures ok { IfOk result (λ places. IsListingOf listing text.now places.items) }
     ensures refused { (cause : CauseOf) → IsErrOf result (ViewFail.Refused cause) →
-        (name other : List ℕ) (answers : TheAnswers) → text_of listing answers ≡ text.now
-        → IsLogCause name answers other cause }
+        (name report waits dead other : List ℕ) → text_of listing waits dead ≡ text.now
+        → IsLogCause name report waits dead other cause }
 {
     if text.len() > LONGEST_REPORT {
         return Err(ViewFail::Refused(Cause::LongListing(listing)));
@@ -41,62 +39,36 @@ fn listed(alloc: Global, text: &[u8], listing: Listing) -> Result<Vec<Place>, Vi
     }
 }
 
-/// The assumptions that the bytes list.
-fn assumed(alloc: Global, text: &[u8]) -> Result<Vec<Assumption>, ViewFail>
-    ensures ok { IfOk result (λ assumptions. AreAssumptionsOf text.now assumptions.items) }
-    ensures refused { (cause : CauseOf) → IsErrOf result (ViewFail.Refused cause) →
-        (name other : List ℕ) (answers : TheAnswers) → answers.assumptions ≡ text.now
-        → IsLogCause name answers other cause }
-{
-    if text.len() > LONGEST_REPORT {
-        return Err(ViewFail::Refused(Cause::LongAssumptions));
-    }
-    match read_assumptions(alloc, text) {
-        Ok(assumptions) => Ok(assumptions),
-        Err(ListingFail::NotListing) => Err(ViewFail::Refused(Cause::NotAssumptions)),
-        Err(ListingFail::NoMemory) => Err(ViewFail::NoMemory),
-    }
-}
-
 /// All findings, in their order.
 fn joined(
     alloc: Global,
     alarms: &[Alarm],
     waits: &[Place],
     dead: &[Place],
-    assumptions: &[Assumption],
 ) -> Result<Vec<Finding>, AllocError>
-    ensures { IfOk result (λ findings.
-        findings.items ≡ all_findings alarms.now waits.now dead.now assumptions.now) }
+    ensures { IfOk result (λ findings. findings.items ≡ all_findings alarms.now waits.now dead.now) }
 {
     let mut findings = findings_of(alloc, alarms)?;
     push_places(&mut findings, waits, Rule::Wait)?;
     push_places(&mut findings, dead, Rule::Dead)?;
-    push_assumptions(&mut findings, assumptions)?;
     Ok(findings)
 }
 
-/// The answers of the analyser from which a log is made, as bytes: the report, as JSON, what `waits` answers, what
-/// `ranges` answers behind the bounds of objects, and the list of the assumptions.
-#[derive(Clone, Copy)]
-pub struct Answers<'a> {
-    pub report: &'a [u8],
-    pub waits: &'a [u8],
-    pub dead: &'a [u8],
-    pub assumptions: &'a [u8],
-}
-
-/// All findings that the answers tell of.
-fn all_found(alloc: Global, answers: Answers<'_>) -> Result<Vec<Finding>, ViewFail>
-    ensures ok { IfOk result (λ findings. AreFindings (answers_seen answers.entry) findings.items) }
+/// All findings that the bytes tell of.
+fn all_found(
+    alloc: Global,
+    report: &[u8],
+    waits: &[u8],
+    dead: &[u8],
+) -> Result<Vec<Finding>, ViewFail>
+    ensures ok { IfOk result (λ findings. AreFindings report.now waits.now dead.now findings.items) }
     ensures refused { (cause : CauseOf) → IsErrOf result (ViewFail.Refused cause) →
-        (name text : List ℕ) → IsLogCause name (answers_seen answers.entry) text cause }
+        (name text : List ℕ) → IsLogCause name report.now waits.now dead.now text cause }
 {
-    let read = read(alloc, answers.report)?;
-    let waits = listed(alloc, answers.waits, Listing::Waits)?;
-    let dead = listed(alloc, answers.dead, Listing::Dead)?;
-    let assumptions = assumed(alloc, answers.assumptions)?;
-    match joined(alloc, &read.alarms, &waits, &dead, &assumptions) {
+    let read = read(alloc, report)?;
+    let waits = listed(alloc, waits, Listing::Waits)?;
+    let dead = listed(alloc, dead, Listing::Dead)?;
+    match joined(alloc, &read.alarms, &waits, &dead) {
         Ok(findings) => Ok(findings),
         Err(_) => Err(ViewFail::NoMemory),
     }
@@ -208,19 +180,25 @@ fn logged(
     }
 }
 
-/// The log, in the format SARIF 2.1.0, of a report, as JSON, of what `waits` lists, of the dead places that `ranges`
-/// lists, and of the assumptions, over the text that they are of.
-pub fn log(alloc: Global, frame: Frame<'_, '_>, answers: Answers<'_>) -> Result<Vec<u8>, ViewFail>
-    // Each alarm of the report once, then each lock that the waits list, then each dead place, then each assumption, at
-    // the places that the line marks give.
+/// The log, in the format SARIF 2.1.0, of a report, as JSON, of what `waits` lists and of the dead places that `ranges`
+/// lists, over the text that they are of.
+pub fn log(
+    alloc: Global,
+    frame: Frame<'_, '_>,
+    report: &[u8],
+    waits: &[u8],
+    dead: &[u8],
+) -> Result<Vec<u8>, ViewFail>
+    // Each alarm of the report once, then each lock that the waits list, then each dead place, at the places that the
+    // line marks give.
     ensures ok { IfOk result (λ log. IsLog frame.entry.documents.now frame.entry.folder.now frame.entry.name.now
-        (answers_seen answers.entry) frame.entry.text.now frame.entry.lines.now log.items) }
+        report.now waits.now dead.now frame.entry.text.now frame.entry.lines.now log.items) }
 
     // What is refused has its cause.
     ensures refused { (cause : CauseOf) → IsErrOf result (ViewFail.Refused cause) →
-        IsLogCause frame.entry.name.now (answers_seen answers.entry) frame.entry.text.now cause }
+        IsLogCause frame.entry.name.now report.now waits.now dead.now frame.entry.text.now cause }
 {
-    let findings = all_found(alloc, answers)?;
+    let findings = all_found(alloc, report, waits, dead)?;
     let origins = traced(alloc, frame.name, frame.text)?;
     logged(alloc, frame, &origins, &findings)
 }

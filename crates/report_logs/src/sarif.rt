@@ -1,26 +1,22 @@
 //! Findings as a log in the format SARIF 2.1.0.
 
 ghost use Rattle.std.specs.Prelude.{◌≡◌, ◌∷◌, ◌++◌, ◌<◌, [], false, ℕ, List, length, map, IfOk, OnOk, string_bytes};
-ghost use Rattle.serde_json.specs.Data.{object};
 ghost use Rattle.serde_json.specs.View.{view};
 ghost use Rattle.serde_json.specs.Written.{compact_text, has_float};
 ghost use Rattle.tm_terms.specs.Alarms.{class_number};
 ghost use Rattle.tm_terms.specs.Texts.{line_of};
 ghost use Rattle.source_marks.specs.Names.{decoded};
 ghost use Rattle.place_details.specs.reading.Seen.{bytes_seen};
-ghost use Rattle.report_views.specs.Sentences.{rule_sentence, rules};
+ghost use Rattle.report_views.specs.Sentences.{rules};
 ghost use Rattle.report_views.specs.reading.Seen.{spot_seen};
 ghost use Rattle.report_logs.specs.Sarif.{artifact_data, driver_data, exit_code, file_of, found_data, functions_data};
-ghost use Rattle.report_logs.specs.Sarif.{invocation_data, is_problem, is_review, kind_number, location_data};
-ghost use Rattle.report_logs.specs.Sarif.{log_data, marks_data, problems, region_data, result_data, result_of};
-ghost use Rattle.report_logs.specs.Sarif.{result_parts, review_members, rule_data, rule_number, run_data, sarif_text};
-ghost use Rattle.report_logs.specs.Sarif.{text_data, told_of};
+ghost use Rattle.report_logs.specs.Sarif.{invocation_data, is_problem, location_data, log_data, problems, region_data};
+ghost use Rattle.report_logs.specs.Sarif.{result_data, rule_data, rule_number, run_data, sarif_text, told_of};
 ghost use Rattle.report_logs.specs.Uris.{distinct, uri_text, with_file};
 ghost use Rattle.report_logs.specs.reading.Seen.{AreAsMany, HasFiles, told_seen};
 
 use crate::uris::{help_uri, uri};
 use place_details::{Details, Region};
-use report_reading::AssumptionKind;
 use report_views::{RULES, Rule, Spot, level, name_of, rule_help, rule_sentence, rule_word};
 use serde_json::{Value, json};
 use std::alloc::{AllocError, Global};
@@ -95,26 +91,6 @@ fn class_number(class: Class) -> usize
     }
 }
 
-/// The position of a kind among all.
-fn kind_number(kind: AssumptionKind) -> usize
-    ensures number { result ≡ kind_number kind }
-    ensures few { result < 11 }
-{
-    match kind {
-        AssumptionKind::Const => 0,
-        AssumptionKind::Enum => 1,
-        AssumptionKind::Implementation => 2,
-        AssumptionKind::Layout => 3,
-        AssumptionKind::Lifetime => 4,
-        AssumptionKind::Member => 5,
-        AssumptionKind::Order => 6,
-        AssumptionKind::Pragma => 7,
-        AssumptionKind::Reserved => 8,
-        AssumptionKind::Restrict => 9,
-        AssumptionKind::Unset => 10,
-    }
-}
-
 /// The position of a rule among all.
 fn rule_number(rule: Rule) -> usize
     ensures { result ≡ rule_number rule }
@@ -123,7 +99,6 @@ fn rule_number(rule: Rule) -> usize
         Rule::Alarm(class) => class_number(class),
         Rule::Wait => 8,
         Rule::Dead => 9,
-        Rule::Assumption(kind) => 10 + kind_number(kind),
     }
 }
 
@@ -178,105 +153,11 @@ pub fn location_value(
     })
 }
 
-/// Whether a rule finds what a human is to look at.
-fn is_review(rule: Rule) -> bool
-    ensures { result ≡ is_review rule }
-{
-    match rule {
-        Rule::Alarm(_) => false,
-        Rule::Wait => false,
-        Rule::Dead => false,
-        Rule::Assumption(_) => true,
-    }
-}
-
-/// A result that is to be mended, or to be known: its kind is that of a failure, which it need not name.
-fn failure_value(
-    alloc: Global,
-    level: &str,
-    location: Value,
-    said: Value,
-    marks: Value,
-    word: &str,
-    number: usize,
-) -> Result<Value, AllocError>
-    ensures { IfOk result (λ value. view value
-        ≡ object (result_parts level.now (view location) (view said) (view marks) word.now number)) }
-{
-    json!(in alloc; {
-        "level": level,
-        "locations": [location],
-        "message": said,
-        "partialFingerprints": marks,
-        "ruleId": word,
-        "ruleIndex": number
-    })
-}
-
-/// A result that a human is to look at.
-fn review_value(
-    alloc: Global,
-    level: &str,
-    location: Value,
-    said: Value,
-    marks: Value,
-    word: &str,
-    number: usize,
-) -> Result<Value, AllocError>
-    ensures { IfOk result (λ value. view value
-        ≡ object (review_members (result_parts level.now (view location) (view said) (view marks) word.now number))) }
-{
-    json!(in alloc; {
-        "kind": "review",
-        "level": level,
-        "locations": [location],
-        "message": said,
-        "partialFingerprints": marks,
-        "ruleId": word,
-        "ruleIndex": number
-    })
-}
-
-/// What a rule says.
-fn said_value(alloc: Global, rule: Rule) -> Result<Value, AllocError>
-    ensures { IfOk result (λ value. view value ≡ text_data (rule_sentence rule)) }
-{
-    let said = rule_sentence(rule);
-    json!(in alloc; {"text": said})
-}
-
-/// What marks a finding in later logs.
-fn marks_value(alloc: Global, fingerprint: &str) -> Result<Value, AllocError>
-    ensures { IfOk result (λ value. view value ≡ marks_data fingerprint.now) }
-{
-    json!(in alloc; {"cedratcleat/v1": fingerprint})
-}
-
-/// A result.
-fn result_of(
-    alloc: Global,
-    rule: Rule,
-    location: Value,
-    fingerprint: &str,
-) -> Result<Value, AllocError>
-    ensures { IfOk result (λ value. view value ≡ result_of rule (view location) fingerprint.now) }
-{
-    let said = said_value(alloc, rule)?;
-    let marks = marks_value(alloc, fingerprint)?;
-    let level = level(rule);
-    let word = rule_word(rule);
-    let number = rule_number(rule);
-    if is_review(rule) {
-        review_value(alloc, level, location, said, marks, word, number)
-    } else {
-        failure_value(alloc, level, location, said, marks, word, number)
-    }
-}
-
 /// A finding.
 fn result_value(alloc: Global, told: Told<'_, '_, '_>) -> Result<Value, AllocError>
     ensures { IfOk result (λ value. view value ≡ result_data (told_seen told.entry)) }
 {
+    let rule = told.spot.rule;
     let file = file_of(alloc, told.spot)?;
     let location = location_value(
         alloc,
@@ -285,7 +166,19 @@ fn result_value(alloc: Global, told: Told<'_, '_, '_>) -> Result<Value, AllocErr
         told.region,
         told.function,
     )?;
-    result_of(alloc, told.spot.rule, location, told.fingerprint)
+    let level = level(rule);
+    let said = rule_sentence(rule);
+    let word = rule_word(rule);
+    let number = rule_number(rule);
+    let fingerprint = told.fingerprint;
+    json!(in alloc; {
+        "level": level,
+        "locations": [location],
+        "message": {"text": said},
+        "partialFingerprints": {"cedratcleat/v1": fingerprint},
+        "ruleId": word,
+        "ruleIndex": number
+    })
 }
 
 /// A finding with what is told of it.
@@ -391,7 +284,6 @@ fn is_problem(rule: Rule) -> bool
         Rule::Alarm(_) => true,
         Rule::Wait => true,
         Rule::Dead => false,
-        Rule::Assumption(_) => false,
     }
 }
 

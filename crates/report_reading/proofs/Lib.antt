@@ -1,3 +1,2 @@
 pub mod Rebuilt
 pub mod Listed
-pub mod Assumed

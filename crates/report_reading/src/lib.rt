@@ -1,6 +1,6 @@
 //! What the analyser answers, read back: the report as JSON, exactly the values that `report_json` writes, in any
-//! layout of JSON; the places that `waits` and `ranges` list, exactly the texts that `solution_lines` writes; and the
-//! assumptions that `alarm_notes assumptions` lists. It knows alarms, places and JSON, and no text of a source.
+//! layout of JSON; and the places that `waits` and `ranges` list, exactly the texts that `solution_lines` writes. It
+//! knows alarms, places and JSON, and no text of a source.
 //!
 //! `{"alarms":[{"class":"DIV","col":27,"line":2}],"count":1}` is the report with the one alarm `DIV` at line 2, column
 //! 27; with `"count":2` it is JSON, and no report. The lines `2:34 WAIT`, `3:34 WAIT` and `waits 2` list two places;
@@ -8,10 +8,8 @@
 #![tactic(auto)]
 
 mod alarms;
-mod assumptions;
 mod listings;
 mod reports;
 
-pub use assumptions::{Assumption, AssumptionKind, kind_word, read_assumptions};
 pub use listings::{Listing, ListingFail, read_places};
 pub use reports::{ReadFail, read_report};

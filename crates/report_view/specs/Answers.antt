@@ -1,10 +1,10 @@
--- What the program answers: the view of a report over a text, or the log of a report, its waits, its dead places and the
--- assumptions, or why there is none; or the log of a refusal.
+-- What the program answers: the view of a report over a text, or the log of a report, its waits and its dead places, or
+-- why there is none; or the log of a refusal.
 use Rattle.std.specs.Prelude.{◌≡◌, ℕ, ◌+◌, ◌⊎◌, Bool, List, Option}
 use Rattle.std.specs.Io.KnownBytes.{append_known}
 use Rattle.report_views.specs.declared.causes.Cause.{Cause}
 use Rattle.report_views.specs.declared.views.Form.{Form}
-use Rattle.report_views.specs.Causes.{Answers, cause_text, IsCause, IsLogCause, longest_report, longest_text}
+use Rattle.report_views.specs.Causes.{cause_text, IsCause, IsLogCause, longest_report, longest_text}
 use Rattle.report_views.specs.Views.{IsView}
 use Rattle.report_logs.specs.Logs.{IsLog}
 use Rattle.report_logs.specs.Refusals.{Refusal, refusal_text}
@@ -49,28 +49,28 @@ module _ (form : Form) (name : List ℕ) (report_left report_left' text_left tex
   abbrev pub ShowsNoMore : Option (List ℕ) → Option (List ℕ) → Type 0
   ShowsNoMore taken taken' = (taken' ≡ taken) ⊎ ShowsFront taken taken'
 
--- By what six streams have left before and after a call: the report, the text whose first file has this name, the text
--- of the waits, that of the dead places, that of the assumptions, and the lines of the files from which those of the text
--- come; and by the folders of documents and from which names of files are seen.
+-- By what five streams have left before and after a call: the report, the text whose first file has this name, the text
+-- of the waits, that of the dead places, and the lines of the files from which those of the text come; and by the folders
+-- of documents and from which names of files are seen.
 module _ (documents folder name : List ℕ) (report_left report_left' text_left text_left' : Option (List ℕ))
-    (waits_left waits_left' dead_left dead_left' : Option (List ℕ))
-    (assumptions_left assumptions_left' lines_left lines_left' : Option (List ℕ)) where
+    (waits_left waits_left' dead_left dead_left' lines_left lines_left' : Option (List ℕ)) where
   -- these bytes were read: each to its end, or past the most that it may have
-  pub record AllAreRead (answers : Answers) (text lines : List ℕ) : Type 0 where
-    pub report_read : IsRead report_left report_left' (longest_report + 1) answers.report
+  pub record AllAreRead (report text waits dead lines : List ℕ) : Type 0 where
+    pub report_read : IsRead report_left report_left' (longest_report + 1) report
     pub text_read : IsRead text_left text_left' (longest_text + 1) text
-    pub waits_read : IsRead waits_left waits_left' (longest_report + 1) answers.waits
-    pub dead_read : IsRead dead_left dead_left' (longest_report + 1) answers.dead
-    pub assumptions_read : IsRead assumptions_left assumptions_left' (longest_report + 1) answers.assumptions
+    pub waits_read : IsRead waits_left waits_left' (longest_report + 1) waits
+    pub dead_read : IsRead dead_left dead_left' (longest_report + 1) dead
     pub lines_read : IsRead lines_left lines_left' (longest_report + 1) lines
 
   -- a log of what was read
   pub record IsLogRead (log : List ℕ) : Type 0 where
-    pub answers : Answers
+    pub report : List ℕ
     pub text : List ℕ
+    pub waits : List ℕ
+    pub dead : List ℕ
     pub lines : List ℕ
-    pub read : AllAreRead answers text lines
-    pub is : IsLog documents folder name answers text lines log
+    pub read : AllAreRead report text waits dead lines
+    pub is : IsLog documents folder name report waits dead text lines log
 
   -- a stream has taken the whole log
   pub record Logs (taken taken' : Option (List ℕ)) : Type 0 where
@@ -86,12 +86,14 @@ module _ (documents folder name : List ℕ) (report_left report_left' text_left 
 
   -- a stream has taken the line of the cause for which there is no log
   pub record TellsNoLog (taken taken' : Option (List ℕ)) : Type 0 where
-    pub answers : Answers
+    pub report : List ℕ
     pub text : List ℕ
+    pub waits : List ℕ
+    pub dead : List ℕ
     pub lines : List ℕ
-    pub read : AllAreRead answers text lines
+    pub read : AllAreRead report text waits dead lines
     pub cause : Cause
-    pub is : IsLogCause name answers text cause
+    pub is : IsLogCause name report waits dead text cause
     pub appended : taken' ≡ append_known taken (cause_text cause)
 
   -- a stream has taken nothing, or a front of the log

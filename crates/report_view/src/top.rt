@@ -1,5 +1,4 @@
-//! The view of a report, and the log of a report, its waits, its dead places and the assumptions, from streams to a
-//! stream.
+//! The view of a report, and the log of a report, its waits and its dead places, from streams to a stream.
 
 ghost use Rattle.std.specs.Prelude.{◌≡◌, ◌≢◌, ◌⊎◌, Bool, IfOk, IsErrOf};
 ghost use Rattle.std.specs.Io.KnownBytes.{append_known};
@@ -7,14 +6,13 @@ ghost use Rattle.tm_io.specs.Faults.{Rose};
 ghost use Rattle.report_views.specs.Causes.{cause_text, IsLogCause};
 ghost use Rattle.report_views.specs.declared.causes.Cause.{Cause as CauseOf};
 ghost use Rattle.report_logs.specs.Logs.{IsLog};
-ghost use Rattle.report_logs.specs.reading.Seen.{answers_seen};
 ghost use Rattle.report_view.specs.Answers.{Logs, LogsNoMore, Shows, ShowsNoMore, Tells, TellsNoLog};
 ghost use Rattle.program_streams.specs.Statuses.{shown_status};
 ghost use Rattle.program_streams.specs.Streams.{TakesFrontOf};
 
 use crate::words::{Asked, AskedLog};
 use program_streams::{Status, read_whole, send, show as show_text, tell as tell_line, unread};
-use report_logs::{Answers, Frame, log};
+use report_logs::{Frame, log};
 use report_views::{Cause, LONGEST_REPORT, LONGEST_TEXT, Reply, ViewFail, cause_line, view};
 use std::alloc::Global;
 use tm_io::{Sink, Source};
@@ -113,14 +111,16 @@ pub fn show_log<K: Sink>(out: &mut K, text: &[u8]) -> Status
 fn log_of(
     alloc: Global,
     asked: AskedLog<'_>,
-    answers: Answers<'_>,
+    report: &[u8],
     text: &[u8],
+    waits: &[u8],
+    dead: &[u8],
     lines: &[u8],
 ) -> Result<Vec<u8>, ViewFail>
     ensures ok { IfOk result (λ log. IsLog asked.entry.documents.now asked.entry.folder.now asked.entry.name.now
-        (answers_seen answers.entry) text.now lines.now log.items) }
+        report.now waits.now dead.now text.now lines.now log.items) }
     ensures refused { (cause : CauseOf) → IsErrOf result (ViewFail.Refused cause) →
-        IsLogCause asked.entry.name.now (answers_seen answers.entry) text.now cause }
+        IsLogCause asked.entry.name.now report.now waits.now dead.now text.now cause }
 {
     let frame = Frame {
         documents: asked.documents.as_bytes(),
@@ -129,58 +129,46 @@ fn log_of(
         text,
         lines,
     };
-    log(alloc, frame, answers)
+    log(alloc, frame, report, waits, dead)
 }
 
-/// Writes the log of a report, of its waits, of its dead places and of the assumptions over a text to `out`, or to `told`
-/// why there is none. The log is made whole before its first byte is written.
-#[tactic(none)]
-pub fn answer_log<
-    R: Source,
-    T: Source,
-    W: Source,
-    D: Source,
-    A: Source,
-    L: Source,
-    K: Sink,
-    E: Sink,
->(
+/// Writes the log of a report, of its waits and of its dead places over a text to `out`, or to `told` why there is
+/// none. The log is made whole before its first byte is written.
+pub fn answer_log<R: Source, T: Source, W: Source, D: Source, L: Source, K: Sink, E: Sink>(
     alloc: Global,
     asked: AskedLog<'_>,
     report: &mut R,
     text: &mut T,
     waits: &mut W,
     dead: &mut D,
-    assumptions: &mut A,
     lines: &mut L,
     out: &mut K,
     told: &mut E,
 ) -> Status
-    // Status 0: `out` has taken the log, in which each alarm of the report, each lock that the waits list, each dead
-    // place and each assumption has one result, at the place that the line marks of the text give.
+    // Status 0: `out` has taken the log, in which each alarm of the report, each lock that the waits list and each dead
+    // place has one result, at the place that the line marks of the text give.
     ensures logged { result ≡ Status.NoAlarm → Logs asked.entry.documents.now asked.entry.folder.now
         asked.entry.name.now (R.left report.old) (R.left report.new) (T.left text.old) (T.left text.new)
-        (W.left waits.old) (W.left waits.new) (D.left dead.old) (D.left dead.new)
-        (A.left assumptions.old) (A.left assumptions.new) (L.left lines.old) (L.left lines.new) (K.taken out.old) (K.taken out.new) }
+        (W.left waits.old) (W.left waits.new) (D.left dead.old) (D.left dead.new) (L.left lines.old)
+        (L.left lines.new) (K.taken out.old) (K.taken out.new) }
 
     // Status 2: there is no log, `told` has taken why, and `out` nothing.
     ensures refused { result ≡ Status.Refused → TellsNoLog asked.entry.documents.now asked.entry.folder.now
         asked.entry.name.now (R.left report.old) (R.left report.new) (T.left text.old) (T.left text.new)
-        (W.left waits.old) (W.left waits.new) (D.left dead.old) (D.left dead.new)
-        (A.left assumptions.old) (A.left assumptions.new) (L.left lines.old) (L.left lines.new) (E.taken told.old) (E.taken told.new)
+        (W.left waits.old) (W.left waits.new) (D.left dead.old) (D.left dead.new) (L.left lines.old)
+        (L.left lines.new) (E.taken told.old) (E.taken told.new)
         × (K.taken out.new ≡ K.taken out.old) }
 
     // Whatever comes, `out` has taken nothing, or a front of the log.
     ensures front { LogsNoMore asked.entry.documents.now asked.entry.folder.now asked.entry.name.now
         (R.left report.old) (R.left report.new) (T.left text.old) (T.left text.new)
-        (W.left waits.old) (W.left waits.new) (D.left dead.old) (D.left dead.new)
-        (A.left assumptions.old) (A.left assumptions.new) (L.left lines.old) (L.left lines.new) (K.taken out.old) (K.taken out.new) }
+        (W.left waits.old) (W.left waits.new) (D.left dead.old) (D.left dead.new) (L.left lines.old)
+        (L.left lines.new) (K.taken out.old) (K.taken out.new) }
 
     // A fault comes only where a count of faults rose. After a read fault nothing is taken.
     ensures read { result ≡ Status.ReadFault → (Rose (R.faults report.old) (R.faults report.new)
         ⊎ (Rose (T.faults text.old) (T.faults text.new) ⊎ (Rose (W.faults waits.old) (W.faults waits.new)
-        ⊎ (Rose (D.faults dead.old) (D.faults dead.new) ⊎ (Rose (A.faults assumptions.old) (A.faults assumptions.new)
-        ⊎ Rose (L.faults lines.old) (L.faults lines.new))))))
+        ⊎ (Rose (D.faults dead.old) (D.faults dead.new) ⊎ Rose (L.faults lines.old) (L.faults lines.new)))))
         × (K.taken out.new ≡ K.taken out.old) }
     ensures write { result ≡ Status.WriteFault → Rose (K.faults out.old) (K.faults out.new)
         ⊎ Rose (E.faults told.old) (E.faults told.new) }
@@ -202,21 +190,19 @@ pub fn answer_log<
     if let Err(error) = read_whole(dead, &mut dead_bytes, LONGEST_REPORT + 1) {
         return unread(error);
     }
-    let mut assumption_bytes = Vec::new(alloc);
-    if let Err(error) = read_whole(assumptions, &mut assumption_bytes, LONGEST_REPORT + 1) {
-        return unread(error);
-    }
     let mut line_bytes = Vec::new(alloc);
     if let Err(error) = read_whole(lines, &mut line_bytes, LONGEST_REPORT + 1) {
         return unread(error);
     }
-    let answers = Answers {
-        report: &report_bytes,
-        waits: &waits_bytes,
-        dead: &dead_bytes,
-        assumptions: &assumption_bytes,
-    };
-    match log_of(alloc, asked, answers, &text_bytes, &line_bytes) {
+    match log_of(
+        alloc,
+        asked,
+        &report_bytes,
+        &text_bytes,
+        &waits_bytes,
+        &dead_bytes,
+        &line_bytes,
+    ) {
         Ok(text) => show_log(out, &text),
         Err(ViewFail::Refused(cause)) => tell(alloc, told, cause),
         Err(ViewFail::NoMemory) => Status::NoMemory,

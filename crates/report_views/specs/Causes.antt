@@ -7,18 +7,16 @@ use Rattle.tm_terms.specs.declared.places.Place.{Place}
 use Rattle.tm_terms.specs.Texts.{line_of, place_text}
 use Rattle.report_reading.specs.report_json.JsonReports.{report_data}
 use Rattle.report_reading.specs.Reports.{IsNoReport}
-use Rattle.report_reading.specs.Assumptions.{IsNoAssumptions, assumptions_text}
 use Rattle.report_reading.specs.Listings.{IsNoListing, listing_text}
-use Rattle.report_reading.specs.declared.assumptions.Assumption.{Assumption}
 use Rattle.report_reading.specs.declared.listings.Listing.{Listing}
 use Rattle.report_reading.specs.declared.listings.Listing.TheVariants.{Waits, Dead as DeadPlaces}
 use Rattle.source_marks.specs.Marks.{IsBrokenAt, lines_of, origins_of, Origin}
-use Rattle.report_views.specs.Spots.{IsOutside, assumed_by, finding_of, found_by}
+use Rattle.report_views.specs.Spots.{IsOutside, finding_of, found_by}
 use Rattle.report_views.specs.declared.spots.Finding.{Finding}
 use Rattle.report_views.specs.declared.sentences.Rule.TheVariants.{Wait, Dead}
 use Rattle.report_views.specs.declared.causes.Cause.{Cause}
 use Rattle.report_views.specs.declared.causes.Cause.TheVariants.{LongReport, NotJson, NotReport, LongText, BrokenMark}
-use Rattle.report_views.specs.declared.causes.Cause.TheVariants.{Outside, LongListing, NotListing, LongAssumptions, NotAssumptions}
+use Rattle.report_views.specs.declared.causes.Cause.TheVariants.{Outside, LongListing, NotListing}
 
 -- ## The lines that tell a cause
 
@@ -45,8 +43,6 @@ cause_text (BrokenMark number) = broken_text number
 cause_text (Outside place) = outside_text place
 cause_text (LongListing listing) = long_text listing
 cause_text (NotListing listing) = strange_text listing
-cause_text LongAssumptions = line_of (codes "refused: the text of the assumptions is too long")
-cause_text NotAssumptions = line_of (codes "refused: the text of the assumptions lists no assumptions")
 
 -- ## What is read
 
@@ -64,10 +60,6 @@ IsReportOf report alarms = (length report ≤ longest_report) × IsUtf8 report �
 -- these bytes list these places
 abbrev pub IsListingOf : Listing → List ℕ → List Place → Type 0
 IsListingOf listing text places = (length text ≤ longest_report) × (text ≡ listing_text listing places)
-
--- these bytes list these assumptions
-abbrev pub AreAssumptionsOf : List ℕ → List Assumption → Type 0
-AreAssumptionsOf text assumptions = (length text ≤ longest_report) × (text ≡ assumptions_text assumptions)
 
 -- the lines of a text, whose first file has this name, have these origins
 abbrev pub AreOrigins : List ℕ → List ℕ → List Origin → Type 0
@@ -87,53 +79,39 @@ IsCause name report text (Outside place) =
     × IsOutside origins (map finding_of alarms) place
 IsCause name report text (LongListing listing) = ⊥
 IsCause name report text (NotListing listing) = ⊥
-IsCause name report text LongAssumptions = ⊥
-IsCause name report text NotAssumptions = ⊥
-
--- the answers of the analyser from which a log is made, as bytes: the report, what `waits` answers, what `ranges`
--- answers behind the bounds of objects, and the list of the assumptions
-pub record Answers : Type 0 where
-  pub report : List ℕ
-  pub waits : List ℕ
-  pub dead : List ℕ
-  pub assumptions : List ℕ
 
 -- the text of the waits, or of the dead places
-abbrev pub text_of : Listing → Answers → List ℕ
-text_of Waits answers = answers.waits
-text_of DeadPlaces answers = answers.dead
+abbrev pub text_of : Listing → List ℕ → List ℕ → List ℕ
+text_of Waits waits dead = waits
+text_of DeadPlaces waits dead = dead
 
--- the findings of a log: alarms, waits, dead places and assumptions
-abbrev pub all_findings : List Alarm → List Place → List Place → List Assumption → List Finding
-all_findings alarms waits dead assumptions =
-    map finding_of alarms ++ (map (found_by Wait) waits ++ (map (found_by Dead) dead ++ map assumed_by assumptions))
+-- the findings of a log: alarms, waits and dead places
+abbrev pub all_findings : List Alarm → List Place → List Place → List Finding
+all_findings alarms waits dead = map finding_of alarms ++ (map (found_by Wait) waits ++ map (found_by Dead) dead)
 
--- these findings are those of the answers
-pub record AreFindings (answers : Answers) (findings : List Finding) : Type 0 where
+-- these findings are those of a report and of two texts that list places
+pub record AreFindings (report waits dead : List ℕ) (findings : List Finding) : Type 0 where
   pub alarms : List Alarm
   pub waiting : List Place
   pub unreached : List Place
-  pub assumed : List Assumption
-  pub reads : IsReportOf answers.report alarms
-  pub reads_waits : IsListingOf Waits answers.waits waiting
-  pub reads_dead : IsListingOf DeadPlaces answers.dead unreached
-  pub reads_assumptions : AreAssumptionsOf answers.assumptions assumed
-  pub are : findings ≡ all_findings alarms waiting unreached assumed
+  pub reads : IsReportOf report alarms
+  pub reads_waits : IsListingOf Waits waits waiting
+  pub reads_dead : IsListingOf DeadPlaces dead unreached
+  pub are : findings ≡ all_findings alarms waiting unreached
 
--- this is the cause for which answers have no log over a text
-abbrev pub IsLogCause : List ℕ → Answers → List ℕ → Cause → Type 0
-IsLogCause name answers text LongReport = longest_report < length answers.report
-IsLogCause name answers text NotJson = IsUtf8 answers.report → read answers.report ≡ None
-IsLogCause name answers text NotReport = (value : Data) × (read answers.report ≡ Some value) × IsNoReport value
-IsLogCause name answers text LongText = longest_text < length text
-IsLogCause name answers text (BrokenMark number) = (origins_of name text ≡ None) × IsBrokenAt (lines_of text) number
-IsLogCause name answers text (Outside place) =
-    (findings : List Finding) × (origins : List Origin) × AreFindings answers findings
+-- this is the cause for which a report and two texts that list places have no log over a text
+abbrev pub IsLogCause : List ℕ → List ℕ → List ℕ → List ℕ → List ℕ → Cause → Type 0
+IsLogCause name report waits dead text LongReport = longest_report < length report
+IsLogCause name report waits dead text NotJson = IsUtf8 report → read report ≡ None
+IsLogCause name report waits dead text NotReport = (value : Data) × (read report ≡ Some value) × IsNoReport value
+IsLogCause name report waits dead text LongText = longest_text < length text
+IsLogCause name report waits dead text (BrokenMark number) =
+    (origins_of name text ≡ None) × IsBrokenAt (lines_of text) number
+IsLogCause name report waits dead text (Outside place) =
+    (findings : List Finding) × (origins : List Origin) × AreFindings report waits dead findings
     × AreOrigins name text origins × IsOutside origins findings place
-IsLogCause name answers text (LongListing listing) = longest_report < length (text_of listing answers)
-IsLogCause name answers text (NotListing listing) = IsNoListing listing (text_of listing answers)
-IsLogCause name answers text LongAssumptions = longest_report < length answers.assumptions
-IsLogCause name answers text NotAssumptions = IsNoAssumptions answers.assumptions
+IsLogCause name report waits dead text (LongListing listing) = longest_report < length (text_of listing waits dead)
+IsLogCause name report waits dead text (NotListing listing) = IsNoListing listing (text_of listing waits dead)
 
 -- a cause that findings give, where the lines of their text have these origins
 abbrev pub IsMisplaced : List Origin → List Finding → Cause → Type 0
@@ -145,5 +123,3 @@ IsMisplaced origins findings (BrokenMark number) = ⊥
 IsMisplaced origins findings (Outside place) = IsOutside origins findings place
 IsMisplaced origins findings (LongListing listing) = ⊥
 IsMisplaced origins findings (NotListing listing) = ⊥
-IsMisplaced origins findings LongAssumptions = ⊥
-IsMisplaced origins findings NotAssumptions = ⊥

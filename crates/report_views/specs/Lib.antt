@@ -1,7 +1,5 @@
 pub mod Causes
-pub mod Kinds
 pub mod Lines
-pub mod Rules
 pub mod Sentences
 pub mod Spots
 pub mod Summaries

@@ -28,10 +28,6 @@ pub enum Cause {
     LongListing(Listing),
     /// The text that is to list places does not.
     NotListing(Listing),
-    /// The text that lists assumptions has more than 67,108,864 bytes.
-    LongAssumptions,
-    /// The text that is to list assumptions does not.
-    NotAssumptions,
 }
 
 /// A text, and what stands behind it.
@@ -114,14 +110,6 @@ fn said(alloc: Global, cause: Cause) -> Result<String, AllocError>
         Cause::Outside(place) => outside_line(alloc, place),
         Cause::LongListing(listing) => String::from_str(alloc, long_line(listing)),
         Cause::NotListing(listing) => String::from_str(alloc, strange_line(listing)),
-        Cause::LongAssumptions => String::from_str(
-            alloc,
-            "refused: the text of the assumptions is too long\n",
-        ),
-        Cause::NotAssumptions => String::from_str(
-            alloc,
-            "refused: the text of the assumptions lists no assumptions\n",
-        ),
     }
 }
 

@@ -7,9 +7,7 @@
 #![tactic(auto)]
 
 mod causes;
-mod kinds;
 mod lines;
-mod rules;
 mod sentences;
 mod spots;
 mod summaries;
@@ -17,7 +15,6 @@ mod views;
 
 pub use causes::{Cause, cause_line};
 pub use lines::name_of;
-pub use rules::rule_lines;
 pub use sentences::{RULES, Rule, level, rule_help, rule_sentence, rule_word};
-pub use spots::{Finding, Spot, findings_of, push_assumptions, push_places, spot_of};
+pub use spots::{Finding, Spot, findings_of, push_places, spot_of};
 pub use views::{Form, LONGEST_REPORT, LONGEST_TEXT, Reply, ViewFail, placed, read, traced, view};

@@ -1,6 +1,6 @@
 //! Views of small reports.
 
-use report_logs::{Answers, Frame, log};
+use report_logs::{Frame, log};
 use report_views::{Form, ViewFail, cause_line, view};
 use std::alloc::Global;
 use std::process::Abort;
@@ -188,34 +188,6 @@ const NO_WAITS: &str = "waits 0\n";
 
 const NO_DEAD: &str = "dead 0\n";
 
-const NO_ASSUMPTIONS: &str = "assumptions 0\n";
-
-// Texts of assumptions over a text of two lines, and why an empty report has no log with them.
-static UNASSUMED: [(&str, &str); 7] = [
-    ("", "the text of the assumptions lists no assumptions"),
-    (NO_DEAD, "the text of the assumptions lists no assumptions"),
-    (
-        "2:1 ORDERS\nassumptions 1\n",
-        "the text of the assumptions lists no assumptions",
-    ),
-    (
-        "2:1 DEAD\nassumptions 1\n",
-        "the text of the assumptions lists no assumptions",
-    ),
-    (
-        "2:1 ORDER\nassumptions 2\n",
-        "the text of the assumptions lists no assumptions",
-    ),
-    (
-        "02:1 ORDER\nassumptions 1\n",
-        "the text of the assumptions lists no assumptions",
-    ),
-    (
-        "2:1 ENUM\n2:1 LAYOUT\n3:1 UNSET\nassumptions 3\n",
-        "in no line of a file stands the place 3:1",
-    ),
-];
-
 // Texts of waits and of dead places over a text of two lines, and why an empty report has no log with them.
 static UNLISTED: [(&str, &str, &str); 20] = [
     ("", NO_DEAD, "the text of the waits lists no places"),
@@ -322,14 +294,12 @@ fn shown(alloc: Global, form: Form, name: &str, report: &str, text: &str) -> Res
     }
 }
 
-// The log of a report, of waits, of dead places and of assumptions, or why there is none, where these lines of the files
-// are at hand.
+// The log of a report, of waits and of dead places, or why there is none, where these lines of the files are at hand.
 fn logged(
     alloc: Global,
     report: &str,
     waits: &str,
     dead: &str,
-    assumptions: &str,
     text: &str,
     lines: &str,
 ) -> Result<Vec<u8>, Fail> {
@@ -340,13 +310,13 @@ fn logged(
         text: text.as_bytes(),
         lines: lines.as_bytes(),
     };
-    let answers = Answers {
-        report: report.as_bytes(),
-        waits: waits.as_bytes(),
-        dead: dead.as_bytes(),
-        assumptions: assumptions.as_bytes(),
-    };
-    match log(alloc, frame, answers) {
+    match log(
+        alloc,
+        frame,
+        report.as_bytes(),
+        waits.as_bytes(),
+        dead.as_bytes(),
+    ) {
         Ok(log) => Ok(log),
         Err(ViewFail::Refused(cause)) => {
             let line = cause_line(alloc, cause)?;
@@ -371,7 +341,7 @@ fn lines(rt: HostRuntime) -> Result<(), Fail> {
         let given = shown(alloc, Form::Summary, "a.c", report, text)?;
         let line = format!(in alloc; "refused: {wanted}\n")?;
         assert!(rt; given.as_slice() == line.as_bytes());
-        let given = logged(alloc, report, NO_WAITS, NO_DEAD, NO_ASSUMPTIONS, text, "")?;
+        let given = logged(alloc, report, NO_WAITS, NO_DEAD, text, "")?;
         assert!(rt; given.as_slice() == line.as_bytes());
     }
     Ok(())
@@ -387,7 +357,7 @@ const TEXT: &str =
 
 const FILE_LINES: &str = "\ny = 2; // note\n\nvoid\tf(void) { x <<= 1 / y; } // note\nPERCENT(x)\n";
 
-// The log of that report, of a wait, of two dead places and of an assumption, from its results on.
+// The log of that report, of a wait and of two dead places, from its results on.
 const RESULTS: &str =
     "\"results\":[{\"level\":\"warning\",\"locations\":[{\"logicalLocations\":[],\"physicalLocation\":{\"artifactLoca\
     tion\":{\"uri\":\"b%20%22c.h\"},\"region\":{\"endColumn\":2,\"startColumn\":1,\"startLine\":3}}}],\"message\":{\
@@ -414,22 +384,13 @@ const RESULTS: &str =
     \"},\"ruleId\":\"DEAD\",\"ruleIndex\":9},{\"level\":\"note\",\"locations\":[{\"logicalLocations\":[],\"physicalL\
     ocation\":{\"artifactLocation\":{\"uri\":\"/code/src/a.c\"},\"region\":{\"startColumn\":2,\"startLine\":4}}}],\"\
     message\":{\"text\":\"no run reaches this\"},\"partialFingerprints\":{\"cedratcleat/v1\":\"7bcd52318438a5d2059c1\
-    508afb45538\"},\"ruleId\":\"DEAD\",\"ruleIndex\":9},{\"kind\":\"review\",\"level\":\"none\",\"locations\":[{\"lo\
-    gicalLocations\":[{\"kind\":\"function\",\"name\":\"f\"}],\"physicalLocation\":{\"artifactLocation\":{\"uri\":\"/\
-    code/src/a.c\"},\"region\":{\"endColumn\":17,\"startColumn\":16,\"startLine\":2}}}],\"message\":{\"text\":\"C lea\
-    ves open in which order these operands are evaluated, and it matters\"},\"partialFingerprints\":{\"cedratcleat/\
-    v1\":\"9a14c20187d253f6c375bc00e40ecfa0\"},\"ruleId\":\"ORDER\",\"ruleIndex\":16}]";
+    508afb45538\"},\"ruleId\":\"DEAD\",\"ruleIndex\":9}]";
 
 #[test]
 fn listings(rt: HostRuntime) -> Result<(), Fail> {
     let alloc = rt.alloc();
     for (waits, dead, wanted) in UNLISTED.iter() {
-        let given = logged(alloc, EMPTY, waits, dead, NO_ASSUMPTIONS, "x\nx", "")?;
-        let line = format!(in alloc; "refused: {wanted}\n")?;
-        assert!(rt; given.as_slice() == line.as_bytes());
-    }
-    for (assumptions, wanted) in UNASSUMED.iter() {
-        let given = logged(alloc, EMPTY, NO_WAITS, NO_DEAD, assumptions, "x\nx", "")?;
+        let given = logged(alloc, EMPTY, waits, dead, "x\nx", "")?;
         let line = format!(in alloc; "refused: {wanted}\n")?;
         assert!(rt; given.as_slice() == line.as_bytes());
     }
@@ -444,7 +405,6 @@ fn forms(rt: HostRuntime) -> Result<(), Fail> {
         MARKED,
         "4:16 WAIT\nwaits 1\n",
         "5:1 DEAD\n6:3 DEAD\ndead 2\n",
-        "4:16 ORDER\nassumptions 1\n",
         TEXT,
         FILE_LINES,
     )?;
@@ -456,7 +416,7 @@ fn forms(rt: HostRuntime) -> Result<(), Fail> {
     assert!(rt; log.as_slice().starts_with(start.as_bytes()));
     let behind = &log.as_slice()[start.len().min(log.len())..];
     assert!(rt; behind.starts_with(RESULTS.as_bytes()));
-    let none = logged(alloc, EMPTY, NO_WAITS, NO_DEAD, NO_ASSUMPTIONS, "", "")?;
+    let none = logged(alloc, EMPTY, NO_WAITS, NO_DEAD, "", "")?;
     let quiet =
         "{\"$schema\":\"https://json.schemastore.org/sarif-2.1.0.json\",\"runs\":[{\"artifacts\":[{\"location\":\
         {\"uri\":\"a.c\"}}],\"columnKind\":\"utf16CodeUnits\",\"invocations\":[{\"executionSuccessful\":true,\

@@ -7,14 +7,12 @@ use Rattle.std.specs.declared.alloc.Global.{Global}
 use Rattle.serde_json.specs.View.{view}
 use Rattle.serde_json.specs.declared.value.Value.{Value}
 use Rattle.place_details.specs.declared.regions.Region.{Region}
-use Rattle.report_views.specs.Causes.{Answers}
 use Rattle.report_logs.specs.Sarif.{artifact_data}
 use Rattle.report_views.specs.reading.Seen.{spot_seen}
 use Rattle.report_logs.specs.Sarif.{Told}
 use Rattle.report_logs.specs.declared.sarif.Told.{Told as ToldCode}
 use Rattle.report_logs.specs.Refusals.{Refusal}
 use Rattle.report_logs.specs.declared.refusals.Refusal.{Refusal as RefusalCode}
-use Rattle.report_logs.specs.declared.logs.Answers.{Answers as AnswersCode}
 
 abbrev pub told_seen : ToldCode → Told
 told_seen told =
@@ -23,15 +21,6 @@ told_seen told =
       region = told.region;
       function = told.function.now;
       fingerprint = told.fingerprint.now;
-    }
-
-abbrev pub answers_seen : AnswersCode → Answers
-answers_seen answers =
-    record {
-      report = answers.report.now;
-      waits = answers.waits.now;
-      dead = answers.dead.now;
-      assumptions = answers.assumptions.now;
     }
 
 abbrev pub refusal_seen : RefusalCode → Refusal

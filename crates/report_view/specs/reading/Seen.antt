@@ -14,7 +14,6 @@ asked_log_seen asked =
       name = asked.name.now;
       waits = asked.waits.now;
       dead = asked.dead.now;
-      assumptions = asked.assumptions.now;
       lines = asked.lines.now;
       folder = asked.folder.now;
       documents = asked.documents.now;
