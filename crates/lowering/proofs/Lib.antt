@@ -17,7 +17,9 @@ mod Loops
 mod Switches
 mod StatementLaw
 pub mod Bodies
-mod OwnSteps
+pub mod Demands
+mod TableDemands
+pub mod GraphDemands
 pub mod Own
 mod cases
 pub mod low

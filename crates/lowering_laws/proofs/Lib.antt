@@ -7,7 +7,8 @@ pub mod Operands
 pub mod Statements
 pub mod Lowered
 pub mod Ranges
-pub mod TableSteps
+mod TypedDemands
+pub mod TypedGraphs
 pub mod TableGraphs
 pub mod Configured
 pub mod GraphLaws

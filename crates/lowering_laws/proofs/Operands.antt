@@ -96,7 +96,7 @@ module _ (laid : LaidTree) (path : ℕ) (w : Context) (defined : ℕ → Bool) (
     valued k (an_address l p) h m = valued_at h.0 l h.2 m
     valued k (a_structure l) h m = valued_at h.0 l h.2 m
     valued k (the_same e p) h m = valued k e h m
-    valued k (a_unary u t e p) h m = (valued (a_number t) e h.1 m, gives (a_number t) e h.1 m)
+    valued k (a_unary u t e p) h m = (valued (a_number t) e h.1 m.1, gives (a_number t) e h.1 m.1)
     valued k (a_binary u t l r p) h m = (
       (valued (a_number t) l h.3 m.0, gives (a_number t) l h.3 m.0),
       (valued (a_number h.0) r h.4 m.1, gives (a_number h.0) r h.4 m.1),

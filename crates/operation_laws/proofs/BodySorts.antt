@@ -1,14 +1,13 @@
 -- Whole bodies have sorts: calls store their arguments and go on in the body that is called, on the path where the call
 -- leads.
-use Rattle.std.proofs.Common.{◌≡◌, refl, ap, sym, subst, ◌∙◌, ℕ, zero, suc, ◌+◌, ◌<◌, ◌≤◌, inl, inr, Bool, true, false}
+use Rattle.std.proofs.Common.{◌≡◌, refl, ap, sym, subst, ◌∙◌, ℕ, suc, ◌+◌, ◌<◌, ◌≤◌, inl, inr, true, false}
 use Rattle.std.proofs.Common.{List, [], ◌∷◌, ◌++◌, length, map, get_or, Option, Some, None, slice_get, arith}
-use Rattle.std.specs.Prelude.{if◌then◌else◌, nat_lt, is_some, option_map, All, Contains}
+use Rattle.std.specs.Prelude.{is_some, option_map, All, Contains}
 use Rattle.std.proofs.lemmas.Bool.{false≢true, cases_lt}
 use Rattle.std.proofs.lemmas.Option.{none-some, same_Some, slice_get-get_or, slice_get-map, slice_get_within}
 use Rattle.std.proofs.lemmas.Option.{get_or_from_slice_get}
 use Rattle.std.proofs.lemmas.List.{get_or_past}
 use Rattle.std.proofs.lemmas.List.Elements.{All-get_or, All-contains}
-use Rattle.temporary_types.specs.tm_cint.IntTypes.{lo_of, hi_of}
 use Rattle.temporary_types.specs.tm_terms.declared.places.Place.{Place}
 use Rattle.temporary_types.specs.tm_terms.declared.refusals.Limit.TheVariants as Limits
 use Rattle.temporary_types.specs.tm_typed.declared.types.CType.{CType}
@@ -29,9 +28,8 @@ use Rattle.temporary_types.specs.tm_laid.declared.scales.Scale.TheVariants as Sc
 use Rattle.temporary_types.specs.tm_laid.Layouts.{is_exceeded}
 use Rattle.next_action_laws.specs.cell_layout.Laws.{GoesOnBy}
 use Rattle.next_action_laws.proofs.low.cell_layout.PathCalls.{calls_lead}
-use Rattle.temporary_types.specs.concrete_values.Values.{nothing}
 use Rattle.next_action_laws.specs.concrete_steps.Places.{result_type}
-use Rattle.next_action_laws.specs.concrete_steps.NextAction.{scalar_at, function_at}
+use Rattle.next_action_laws.specs.concrete_steps.NextAction.{scalar_at}
 use Rattle.next_action_laws.specs.typed_file_laws.Lawful.{object_type}
 use Rattle.next_action_laws.specs.typed_file_laws.Mentions.{StatementsMention}
 use Rattle.next_action_laws.specs.typed_file_laws.TypedBodies.{called, file_context, IsBodyOf}
@@ -39,108 +37,47 @@ use Rattle.next_action_laws.specs.typed_file_laws.Sites.{is_defined_object, func
 use Rattle.temporary_types.specs.flow_graph.declared.operations.Into.TheVariants as Intos
 use Rattle.temporary_types.specs.flow_graph.declared.operations.Operation.{Operation}
 use Rattle.temporary_types.specs.flow_graph.declared.operations.Operation.TheVariants as Op
-use Rattle.temporary_types.specs.Sorts.{Sort, numbers, pointers, sort_of_scalar, Within, AreSorts}
+use Rattle.temporary_types.specs.Sorts.{Sort, pointers, sort_of_scalar, Within, AreSorts}
 use Rattle.temporary_types.specs.Settled.{AreSettled}
-use Rattle.lowering_laws.specs.lowering.Table.{is_value_type, plans}
-use Rattle.lowering_laws.specs.lowering.Built.{Building, place, place_new, Passed, AfterPart, Later, Sites, is_return}
-use Rattle.lowering_laws.specs.lowering.Built.{nodes_by, result_of, result_at, place_result, plan_piece}
-use Rattle.lowering_laws.specs.lowering.Built.{stores_piece, fallen_piece, function_end, task_end, nothing_piece}
-use Rattle.lowering_laws.specs.lowering.Built.{function_piece}
-use Rattle.lowering_laws.specs.lowering.Built.{sites_of, path_piece, entry, built, graph_of}
+use Rattle.lowering_laws.specs.lowering.Table.{plans}
+use Rattle.lowering_laws.specs.lowering.Built.{Building, place, place_new}
+use Rattle.lowering_laws.specs.lowering.Built.{stores_piece}
+use Rattle.lowering_laws.specs.lowering.Built.{entry, built, graph_of}
 use Rattle.next_action_laws.specs.Actions.{IsBodyPath, IsCell, IsPlace}
 use Rattle.next_action_laws.specs.Regular.{HasScalar, AreParameters, AreRegularBodies}
 use Rattle.next_action_laws.proofs.GivenValues.{low_in, high_in}
 use Rattle.next_action_laws.proofs.PathPlaces.{first_of, depth_of, depth_falls, depth_below}
 use Rattle.next_action_laws.proofs.WholeBodies.{local_place, static_place, scalar_there, given_there}
 use Rattle.lowering_laws.proofs.Lowered.{calls_stand}
-use Rattle.operation_laws.proofs.Within.{Grows, grows_on, grows_same}
+use Rattle.operation_laws.proofs.Growing.{grows_same, grows_end}
 use Rattle.operation_laws.proofs.Following.{Follows, none_follows}
-use Rattle.operation_laws.proofs.Settling.{none_settles, Keeps, keeps_same, keeps_on, keeps_place, meet_keeps}
-use Rattle.operation_laws.proofs.Settling.{IsOpen}
-use Rattle.operation_laws.proofs.BuiltSorts.{grows_end, AreTemps, temps_grown, Fits, place_fits, place_more, new_is}
-use Rattle.operation_laws.proofs.BuiltSorts.{meet_fits, all_listed, Grown, PartBuilt, TempIs, TempFrom, temp_from}
-use Rattle.operation_laws.proofs.BuiltPlans.{ResultIs, ResultBuilt, result_built, continued_fits, continued_keeps}
-use Rattle.operation_laws.proofs.BuiltPlans.{Through, plan_built}
+use Rattle.operation_laws.proofs.Settling.{none_settles}
+use Rattle.operation_laws.proofs.StepSorts.{sorted, PlanFits}
+use Rattle.operation_laws.proofs.BuiltSteps.{Known, known, AreTemps, temps_by, Built}
+use Rattle.operation_laws.proofs.BuiltBodies.{Falls, Enters, AreBodies, graph_built}
+use Rattle.operation_laws.proofs.BuiltSorts.{Leads, sayings, all_listed, again, gives_new, kept}
 use Rattle.operation_laws.proofs.ExpressionSorts.{IsNamed, AreGiven, result_sort, IsStage}
 use Rattle.operation_laws.proofs.StatementSorts.{plans_fit}
 
-module _ (laid : LaidTree) where
-  -- after the end of a function, which began when there were so many temporaries: its value has the sort of its result
-  pub record Ended (ss : List Sort) (n : ℕ) (a b : Building) (t : Option ℕ) (o : Option Sort) : Type 0 where
-    pub sorts : List Sort
-    pub grows : Grows ss sorts
-    pub fits : Fits laid sorts b
-    pub temp : TempIs laid sorts t o
-    pub kept : Keeps a b
-    pub own : TempFrom laid n t o
+-- nothing is built yet
+none_built : (laid : LaidTree) → Leads laid (known [] entry) (known [] entry)
+none_built laid = record {
+  grows = grows_same [];
+  each = refl;
+  fit = tt;
+  follows = none_follows;
+  settles = none_settles;
+  later = omega arith;
+  kept = λ t lt n. n;
+}
 
-  unended : (ss : List Sort) (n : ℕ) (b : Building) → Fits laid ss b → Ended ss n b b None None
-  unended ss n b f =
-      record { sorts = ss; grows = grows_same ss; fits = f; temp = tt; kept = keeps_same b; own = tt }
-
-  -- a function that ends without `return`
-  pub fallen_built : (t : CType) (res : Option ℕ) (ss : List Sort) (b : Building) → Fits laid ss b
-      → ResultIs laid ss (result_sort t) res → (n : ℕ) → IsOpen n b res
-      → Ended ss n b (fallen_piece t res b) (result_at (is_value_type t) res b) (result_sort t)
-  fallen_built (Types.Int t) res ss b f k n opened =
-      let op : ℕ → Operation = λ r. Op.Any r (lo_of t) (hi_of t) in
-      let z : ResultBuilt laid ss n b (place_result res op b) (numbers t) (result_of res b) =
-      result_built laid (numbers t) res op (λ r. refl) ss b (λ more g r. (tt, (low_in t, high_in t))) f k n b
-      (keeps_same b) opened (λ r u e. absurd (none-some u e)) in
-      record {
-        sorts = z.sorts;
-        grows = z.grows;
-        fits = z.fits;
-        temp = z.result;
-        kept = z.kept;
-        own = z.opened.0;
-      }
-  fallen_built (Types.Pointer q) res ss b f k n opened =
-      let op : ℕ → Operation = λ r. Op.Const r nothing in
-      let z : ResultBuilt laid ss n b (place_result res op b) pointers (result_of res b) =
-      result_built laid pointers res op (λ r. refl) ss b (λ more g r. (tt, tt)) f k n b (keeps_same b) opened
-      (λ r u e. absurd (none-some u e)) in
-      record {
-        sorts = z.sorts;
-        grows = z.grows;
-        fits = z.fits;
-        temp = z.result;
-        kept = z.kept;
-        own = z.opened.0;
-      }
-  fallen_built Types.Void res ss b f k n opened = unended ss n b f
-  fallen_built (Types.Array e m) res ss b f k n opened = unended ss n b f
-  fallen_built (Types.Struct m) res ss b f k n opened = unended ss n b f
-
-  -- where there is no body
-  pub nothing_built : (ss : List Sort) (b : Building) → Fits laid ss b → Grown laid ss b (nothing_piece b).at
-  nothing_built ss b f =
-      let more : List Sort = ss ++ pointers ∷ [] in
-      record {
-        sorts = more;
-        grows = grows_end ss pointers;
-        fits = place_more laid ss pointers (Op.Const b.temps nothing) b tt refl tt f;
-        kept = keeps_place b b (suc b.temps) (Op.Const b.temps nothing) (omega arith) (λ t e. absurd (none-some t e))
-            (keeps_same b);
-      }
-
-  -- an end at which control comes together, and nothing is given or copied
-  pub record Closes (close : List ℕ → Building → Building) : Type 0 where
-    pub fits : (ns : List ℕ) (ss : List Sort) (b : Building) → Fits laid ss b → Fits laid ss (close ns b)
-    pub keeps : (ns : List ℕ) (a b : Building) → Keeps a b → Keeps a (close ns b)
-
-  pub function_closes : Closes function_end
-  function_closes = record {
-    fits = λ ns ss b f. meet_fits laid ss (ns ++ b.node ∷ []) b f;
-    keeps = λ ns a b k. meet_keeps a (ns ++ b.node ∷ []) b k;
-  }
-
-  pub ends_by : (t : Bool) → Closes (if t then task_end else function_end)
-  ends_by true = record {
-    fits = λ ns ss b f. continued_fits laid ss ns b f;
-    keeps = λ ns a b k. continued_keeps laid a ns b k;
-  }
-  ends_by false = function_closes
+-- a function that ends without `return`
+falls_by : (laid : LaidTree) (t : CType) → Falls (sorted laid) (sayings laid) laid t (result_sort t)
+falls_by laid (Types.Int t) = λ ss n r.
+    record { given = refl; works = tt; gives = (low_in t, high_in t); sources = λ u e. absurd (none-some u e) }
+falls_by laid (Types.Pointer q) = λ ss n r.
+    record { given = refl; works = tt; gives = tt; sources = λ u e. absurd (none-some u e) }
+falls_by laid _ = tt
 
 module _ (file : TypedFileTree) (order : List ℕ) (h : IsLayable file order)
     (within : is_exceeded Scales.Large file Limits.Cells ≡ false) (body : ℕ) (few : length file.mutexes ≤ 16)
@@ -173,19 +110,19 @@ module _ (file : TypedFileTree) (order : List ℕ) (h : IsLayable file order)
 
   -- ## Arguments
 
-  stores_built : (c : ℕ) → IsBodyPath L body c → (p : Place) (k : ℕ) (ns : List ℕ) (ls : List LocalEntry)
+  stores_built : (c : ℕ) → IsBodyPath L body c → (pl : Place) (k : ℕ) (ns : List ℕ) (ls : List LocalEntry)
       (ins : List Sort) (ts : List ℕ)
       → ((i : ℕ) (l : LocalEntry) → slice_get ls i ≡ Some l
       → slice_get (locals_of file (function_on c)) (k + i) ≡ Some l)
-      → AreParameters scope ns ls → AreGiven scope ns ins → (ss : List Sort) (b : Building) → Fits L ss b
-      → AreTemps ss ts ins → Grown L ss b (stores_piece L c k ts p b)
-  stores_built c u p k ns ls [] [] at' q g ss b f a =
-      record { sorts = ss; grows = grows_same ss; fits = f; kept = keeps_same b }
-  stores_built c u p k ns ls [] (t ∷ ts) at' q g ss b f a = absurd a
-  stores_built c u p k ns ls (s ∷ ins) [] at' q g ss b f a = absurd a
-  stores_built c u p k [] ls (s ∷ ins) (t ∷ ts) at' q g ss b f a = absurd g
-  stores_built c u p k (n ∷ ns) [] (s ∷ ins) (t ∷ ts) at' q g ss b f a = absurd q
-  stores_built c u p k (n ∷ ns) (l ∷ ls) (s ∷ ins) (t ∷ ts) at' q g ss b f a =
+      → AreParameters scope ns ls → AreGiven scope ns ins → (p : Known Sort) (ss : List Sort) (b : Building)
+      → Leads L p (known ss b) → AreTemps (sorted L) (sayings L) ss p.temps ts ins
+      → Built (sorted L) (sayings L) p (stores_piece L c k ts pl b)
+  stores_built c u pl k ns ls [] [] at' q g p ss b f a = record { natures = ss; leads = f }
+  stores_built c u pl k ns ls [] (t ∷ ts) at' q g p ss b f a = absurd a
+  stores_built c u pl k ns ls (s ∷ ins) [] at' q g p ss b f a = absurd a
+  stores_built c u pl k [] ls (s ∷ ins) (t ∷ ts) at' q g p ss b f a = absurd g
+  stores_built c u pl k (n ∷ ns) [] (s ∷ ins) (t ∷ ts) at' q g p ss b f a = absurd q
+  stores_built c u pl k (n ∷ ns) (l ∷ ls) (s ∷ ins) (t ∷ ts) at' q g p ss b f a =
       let o : ℕ = object_of L c (Objects.Local k) in
       let z : k + 0 ≡ k = omega arith in
       let is : slice_get (locals_of file (function_on c)) k ≡ Some l =
@@ -195,67 +132,48 @@ module _ (file : TypedFileTree) (order : List ℕ) (h : IsLayable file order)
       (ap (option_map (λ (y : LocalEntry). y.of.number)) is)).0 in
       let cell : IsCell L body o 0 g.0 = scalar_there file order h within body o 0 l.of.number g.0 place' (q.0 ∙ g.1) in
       let more : List Sort = ss ++ pointers ∷ [] in
-      let new : slice_get more b.temps ≡ Some pointers = new_is L ss pointers b f in
       let b1 : Building = place_new (λ x. Op.Base x o) b in
-      let f1 : Fits L more b1 =
-      place_more L ss pointers (Op.Base b.temps o) b place'.object refl tt f in
-      let op : Operation = Op.Store b.temps t (scalar_at L o 0) (Intos.Object o) p in
+      let x = gives_new L p ss b (λ x. Op.Base x o) pointers (λ x. record {
+        given = refl;
+        works = place'.object;
+        gives = tt;
+        sources = λ y e. absurd (none-some y e);
+      }) f in
+      let op : Operation = Op.Store b.temps t (scalar_at L o 0) (Intos.Object o) pl in
       let fits : Within s (sort_of_scalar (scalar_at L o 0)) =
       subst (λ (x : Scalar). Within s (sort_of_scalar x)) (sym cell.scalar) g.2 in
-      let value : slice_get more t ≡ Some s = grows_end ss pointers t s a.0 in
-      let f2 : Fits L more (place op b1) =
-      place_fits L more op b1 (((pointers, new, tt), (s, value, fits), place'.object), tt)
-      (λ t' e. absurd (none-some t' e)) f1 in
-      let k1 : Keeps b b1 =
-      keeps_place b b (suc b.temps) (Op.Base b.temps o) (omega arith) (λ t' e. absurd (none-some t' e)) (keeps_same b)
-      in
-      let k2 : Keeps b (place op b1) =
-      keeps_place b b1 b1.temps op (omega arith) (λ t' e. absurd (none-some t' e)) k1 in
-      let r : Grown L more (place op b1) (stores_piece L c (suc k) ts p (place op b1)) =
-      stores_built c u p (suc k) ns ls ins ts
+      let f2 : Leads L p (known more (place op b1)) =
+      again L p more b1 op x.0
+      (((pointers, x.1.sort, tt), (s, grows_end ss pointers t s a.0.0, fits), place'.object), tt)
+      (λ t' e. absurd (none-some t' e)) (λ t' e. absurd (none-some t' e)) in
+      stores_built c u pl (suc k) ns ls ins ts
       (λ i y e. let x : k + suc i ≡ suc k + i = omega arith in ap (slice_get (locals_of file (function_on c))) (sym x)
-      ∙ at' (suc i) y e) q.1 g.3 more (place op b1) f2 (temps_grown ss more (grows_end ss pointers) ts ins a.1) in
-      record {
-        sorts = r.sorts;
-        grows = grows_on ss more r.sorts (grows_end ss pointers) r.grows;
-        fits = r.fits;
-        kept = keeps_on b (place op b1) (stores_piece L c (suc k) ts p (place op b1)) k2 r.kept;
-      }
+      ∙ at' (suc i) y e) q.1 g.3 p more (place op b1) f2
+      (temps_by (sorted L) (sayings L) ss more p.temps p.temps (λ t' v e. (grows_end ss pointers t' v e.0, e.1)) ts ins
+      a.1)
 
   -- ## Bodies on their paths
 
   abbrev result_on : ℕ → Option Sort
   result_on path = result_sort (result_type L (function_of_file file (function_on path)))
 
-  pub record PathBuilt (path : ℕ) (ss : List Sort) (a : Building) (x : AfterPart) : Type 0 where
-    pub sorts : List Sort
-    pub grows : Grows ss sorts
-    pub fits : Fits L sorts x.at
-    pub temp : (b : TypedBodyTree) → (function_of_file file (function_on path)).body ≡ Some b
-        → TempIs L sorts x.temp (result_on path) × TempFrom L a.temps x.temp (result_on path)
-    pub kept : Keeps a x.at
+  -- a path of the body, whose calls are so deep
+  abbrev On : ℕ → ℕ → Type 0
+  On depth path = IsBodyPath L body path × ((b : TypedBodyTree)
+      → (function_of_file file (function_on path)).body ≡ Some b → depth_of file order (function_on path) < depth)
 
-  -- where paths are so deep
-  abbrev Bodies : ℕ → Type 0
-  Bodies depth = (close : List ℕ → Building → Building) → Closes L close → (path : ℕ) → IsBodyPath L body path
-      → (function_on path < length file.functions → depth_of file order (function_on path) < depth)
-      → (ss : List Sort) (b : Building) → Fits L ss b → PathBuilt path ss b (path_piece close L depth path b)
-
-  calls_built : (depth : ℕ) → Bodies depth → (path : ℕ) → IsBodyPath L body path → (b : TypedBodyTree)
-      → (function_of_file file (function_on path)).body ≡ Some b
-      → depth_of file order (function_on path) < suc depth
-      → (site : ℕ) (ins : List Sort) (o : Option Sort) → Call path site ins o → (ss : List Sort) (ts : List ℕ)
-      (p : Place) (x : Building) → Fits L ss x → AreTemps ss ts ins
-      → PartBuilt L ss x (sites_of L (path_piece function_end L depth) path site ts p x) o
+  enters : (depth path : ℕ) → On (suc depth) path → (b : TypedBodyTree)
+      → (function_of_file file (function_on path)).body ≡ Some b → (site : ℕ) (ins : List Sort) (o : Option Sort)
+      → Call path site ins o → Enters (sorted L) (sayings L) L (On depth) result_on (callee L path site) ins o
   unfolding layout_of
-  calls_built depth ih path u b e deep site ins o k ss ts p x fits a =
+  enters depth path u b e site ins o k =
       let calls : List ℕ = calls_in file.calls (function_on path) in
       let f : ℕ = k.0 in
       let lt : site < length calls = slice_get_within calls site f k.2 in
       let c : ℕ = callee L path site in
-      let goes : GoesOnBy file (layout_of file) path site = calls_lead file order h path site u.within lt in
+      let goes : GoesOnBy file (layout_of file) path site = calls_lead file order h path site u.0.within lt in
       let is : function_on c ≡ f = goes.function ∙ get_or_from_slice_get calls site f 0 k.2 in
-      let own : IsBodyPath L body c = record { within = goes.within; same = goes.body ∙ u.same } in
+      let own : IsBodyPath L body c = record { within = goes.within; same = goes.body ∙ u.0.same } in
       let has : Contains calls f = (site, lt, contained) in
       let defined : is_defined_function file f ≡ true =
       All-contains (λ y. is_defined_function file y ≡ true) calls f (sites (function_on path) b e).1 has in
@@ -266,7 +184,7 @@ module _ (file : TypedFileTree) (order : List ℕ) (h : IsLayable file order)
 
       by_body : (m : Option TypedBodyTree) → (function_of_file file k.0).body ≡ m → is_some m ≡ true → (c : ℕ)
           → function_on c ≡ k.0 → IsBodyPath L body c → Contains (calls_in file.calls (function_on path)) k.0
-          → PartBuilt L ss x (path_piece function_end L depth c (stores_piece L c 0 ts p x)) o
+          → Enters (sorted L) (sayings L) L (On depth) result_on c ins o
       by_body None q d c is own has = absurd (false≢true d)
       by_body (Some b') q d c is own has =
           let f : ℕ = k.0 in
@@ -278,33 +196,20 @@ module _ (file : TypedFileTree) (order : List ℕ) (h : IsLayable file order)
           (slice_get-map called file.functions f
           ∙ ap (option_map called) (slice_get-get_or file.functions f no_typed_function lf)) ∙ k.3) in
           let falls = depth_falls file order h (function_on path) f lf has in
+          let deep : depth_of file order (function_on path) < suc depth = u.1 b e in
           let r = regular f b' q in
           let own_locals : locals_of file (function_on c) ≡ b'.locals = ap (λ y. locals_of file y) is
           ∙ ap locals_in q in
-          let stored : Building = stores_piece L c 0 ts p x in
-          let s : Grown L ss x stored =
-          stores_built c own p 0 g.parameters b'.locals ins ts
-          (λ i l z. let w : 0 + i ≡ i = omega arith in ap (slice_get (locals_of file (function_on c))) w
-          ∙ ap (λ ls. slice_get ls i) own_locals ∙ z)
-          (subst (λ (y : Function). AreParameters scope y.parameters b'.locals) same r.parameters) k.4 ss x fits a in
-          let z : AfterPart = path_piece function_end L depth c stored in
-          let y : PathBuilt c s.sorts stored z =
-          ih function_end (function_closes L) c own
-          (λ l. subst (λ z. depth_of file order z < depth) (sym is) (omega (arith, falls, deep))) s.sorts stored s.fits
-          in
           let gives : result_on c ≡ o =
           ap (λ z. result_sort (result_type L (function_of_file file z))) is
           ∙ (ap (λ (z : Function). result_sort (ctype_of scope z.result)) same ∙ sym k.5) in
-          let value : TempIs L y.sorts z.temp o × TempFrom L stored.temps z.temp o =
-          subst (λ r. TempIs L y.sorts z.temp r × TempFrom L stored.temps z.temp r) gives
-          (y.temp b' (ap (λ z. (function_of_file file z).body) is ∙ q)) in
           record {
-            sorts = y.sorts;
-            grows = grows_on ss s.sorts y.sorts s.grows y.grows;
-            fits = y.fits;
-            temp = value.0;
-            kept = keeps_on x stored z.at s.kept y.kept;
-            own = temp_from L x.temps stored.temps z.temp o s.kept.0 value.1;
+            on = (own, λ d' e'. subst (λ z. depth_of file order z < depth) (sym is) (omega (arith, falls, deep)));
+            stores = λ p ss ts pl x l a. stores_built c own pl 0 g.parameters b'.locals ins ts
+                (λ i y z. let w : 0 + i ≡ i = omega arith in ap (slice_get (locals_of file (function_on c))) w
+                ∙ ap (λ ls. slice_get ls i) own_locals ∙ z)
+                (subst (λ (y : Function). AreParameters scope y.parameters b'.locals) same r.parameters) k.4 p ss x l a;
+            value = inr (b', ap (λ z. (function_of_file file z).body) is ∙ q, gives);
           }
 
   -- what is known on a path
@@ -345,63 +250,28 @@ module _ (file : TypedFileTree) (order : List ℕ) (h : IsLayable file order)
       (local_place file order h within body path u x n (locals_are path b e x ∙ q)).0 hs in
       y.scalar
 
-  function_built : (depth : ℕ) → Bodies depth → (close : List ℕ → Building → Building) → Closes L close → (path : ℕ)
-      → IsBodyPath L body path
-      → (function_on path < length file.functions → depth_of file order (function_on path) < suc depth)
-      → (o : Option TypedBodyTree) → (function_of_file file (function_on path)).body ≡ o → (ss : List Sort)
-      (b : Building) → Fits L ss b
-      → PathBuilt path ss b
-      (function_piece (sites_of L (path_piece function_end L depth) path) L path close
-      (result_type L (function_at L path)) o b)
-  function_built depth ih close closes path u deep None e ss b f =
-      let y : Grown L ss b (nothing_piece b).at = nothing_built L ss b f in
-      record {
-        sorts = y.sorts;
-        grows = y.grows;
-        fits = y.fits;
-        temp = λ b' q. absurd (none-some b' (sym e ∙ q));
-        kept = y.kept;
-      }
-  function_built depth ih close closes path u deep (Some b') e ss b f =
+  fit : (depth path : ℕ) → On (suc depth) path → (b : TypedBodyTree)
+      → (function_of_file file (function_on path)).body ≡ Some b
+      → PlanFits L (Call path) (result_on path) (plans L path b.statements)
+  fit depth path u b e =
       let fn : ℕ = function_on path in
       let F : TypedFunctionTree = function_of_file file fn in
-      let lf = there fn b' e in
-      let ok : IsBodyOf file F (Some b') =
+      let ok : IsBodyOf file F (Some b) =
       subst (λ (y : Option TypedBodyTree). IsBodyOf file F y) e
-      (All-get_or (λ (y : TypedFunctionTree). IsBodyOf file y y.body) file.functions fn no_typed_function lf formed) in
-      let call : Sites = sites_of L (path_piece function_end L depth) path in
-      let t : CType = result_type L F in
-      let x : Passed = plan_piece call (plans L path b'.statements) Later None b in
-      let y : Through L (Call path) call (calls_built depth ih path u b' e (deep lf)) (result_sort t) b.temps ss b x =
-      plan_built L (Call path) call (calls_built depth ih path u b' e (deep lf)) (result_sort t) b.temps
-      (plans L path b'.statements)
-      (plans_fit L path b'.locals (is_defined_object file) (calls_in file.calls fn) (Call path) (stage path u b' e)
-      (cells path u b' e) F.result false false b'.statements ok (sites fn b' e).0 (regular fn b' e).statements) Later
-      None ss b f tt (omega arith) in
-      let fallen : Building = fallen_piece t x.result x.at in
-      let z : Ended L y.sorts b.temps x.at fallen (result_at (is_value_type t) x.result x.at) (result_sort t)
-      = fallen_built L t x.result y.sorts x.at y.fits y.result b.temps y.opened in
-      record {
-        sorts = z.sorts;
-        grows = grows_on ss y.sorts z.sorts y.grows z.grows;
-        fits = closes.fits (nodes_by is_return x.pending) z.sorts fallen z.fits;
-        temp = λ b2 q. (z.temp, z.own);
-        kept = closes.keeps (nodes_by is_return x.pending) b fallen (keeps_on b x.at fallen y.kept z.kept);
-      }
+      (All-get_or (λ (y : TypedFunctionTree). IsBodyOf file y y.body) file.functions fn no_typed_function
+      (there fn b e) formed) in
+      plans_fit L path b.locals (is_defined_object file) (calls_in file.calls fn) (Call path) (stage path u.0 b e)
+      (cells path u.0 b e) F.result false false b.statements ok (sites fn b e).0 (regular fn b e).statements
 
-  whole_built : (depth : ℕ) → Bodies depth
-  whole_built zero close closes path u deep ss b f =
-      let y : Grown L ss b (nothing_piece b).at = nothing_built L ss b f in
-      record {
-        sorts = y.sorts;
-        grows = y.grows;
-        fits = y.fits;
-        temp = λ b' q. let lt = there (function_on path) b' q in let d = deep lt in absurd (omega (arith, d));
-        kept = y.kept;
-      }
-  whole_built (suc depth) close closes path u deep ss b f =
-      function_built depth (whole_built depth) close closes path u deep (function_of_file file (function_on path)).body
-      refl ss b f
+  bodies : AreBodies (sorted L) (sayings L) L On Call result_on
+  bodies = record {
+    invalid = pointers;
+    gives = λ ss n r. record { given = refl; works = tt; gives = tt; sources = λ u e. absurd (none-some u e) };
+    deepest = λ path u b e. let lt = u.1 b e in absurd (omega (arith, lt));
+    enters = enters;
+    fit = fit;
+    falls = λ path b e. falls_by L (result_type L (function_of_file file (function_on path)));
+  }
 
   pub graph_sorts : body < length (bodies_of file)
       → (sorts : List Sort) × (length sorts ≡ (built L body).temps) × AreSorts L sorts (graph_of L body)
@@ -410,9 +280,8 @@ module _ (file : TypedFileTree) (order : List ℕ) (h : IsLayable file order)
       let first = first_of file body lt in
       let path : ℕ = first_path L body in
       let u : IsBodyPath L body path = record { within = first.0; same = first.1 } in
-      let close : List ℕ → Building → Building =
-      if nat_lt body (length file.tasks) then task_end else function_end in
-      let y : PathBuilt path [] entry (path_piece close L (length file.functions) path entry) =
-      whole_built (length file.functions) close (ends_by L (nat_lt body (length file.tasks))) path u
-      (depth_below file order (function_on path)) [] entry (refl, tt, none_follows, none_settles) in
-      (y.sorts, y.fits.0, all_listed L y.sorts (graph_of L body) y.fits.1, y.fits.2, y.fits.3.settled)
+      let y : Built (sorted L) (sayings L) (known [] entry) (built L body) =
+      graph_built (sorted L) (sayings L) L (kept L) On Call result_on bodies (none_built L) body
+      (u, λ b e. depth_below file order (function_on path) (there (function_on path) b e)) in
+      let f : Leads L (known [] entry) (known y.natures (built L body)) = y.leads in
+      (y.natures, f.each, all_listed L y.natures (graph_of L body) f.fit, f.follows, f.settles.settled)

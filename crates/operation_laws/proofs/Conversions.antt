@@ -17,10 +17,9 @@ use Rattle.temporary_types.specs.tm_laid.Layouts.{LaidTree}
 use Rattle.temporary_types.specs.Sorts.{Sort, numbers, Holds, HoldsRight, outcome_type}
 use Rattle.lowering_laws.specs.lowering.Steps.{Steps, Code}
 use Rattle.lowering_laws.specs.lowering.Table.{Conversion, conversion, convert_then, converted_at, more_after, operands}
-use Rattle.operation_laws.proofs.Within.{within_self, truth_within, within_through, holds_wider, holds_mapped, Grows}
-use Rattle.operation_laws.proofs.Within.{grows_same}
+use Rattle.operation_laws.proofs.Within.{within_self, truth_within, within_through, holds_wider, holds_mapped}
 use Rattle.operation_laws.proofs.StepSorts.{StepsFit, CodeFits}
-use Rattle.operation_laws.proofs.BuiltSorts.{grows_end, at_end, length_end}
+use Rattle.operation_laws.proofs.Growing.{Grows, grows_same, grows_end, at_end, length_end}
 
 -- ## Conversions
 
@@ -77,68 +76,24 @@ all_of t u h =
 
     low_kept : (x : IntType) → converted_value (lo_of x) x ≡ lo_of x
     low_kept Ints.Bool = refl
-    low_kept Ints.Char = refl
-    low_kept Ints.UChar = refl
-    low_kept Ints.Short = refl
-    low_kept Ints.UShort = refl
-    low_kept Ints.Int = refl
-    low_kept Ints.UInt = refl
-    low_kept Ints.Long = refl
-    low_kept Ints.ULong = refl
-    low_kept Ints.LLong = refl
-    low_kept Ints.ULLong = refl
+    low_kept _ = refl
 
     high_kept : (x : IntType) → converted_value (hi_of x) x ≡ hi_of x
     high_kept Ints.Bool = refl
-    high_kept Ints.Char = refl
-    high_kept Ints.UChar = refl
-    high_kept Ints.Short = refl
-    high_kept Ints.UShort = refl
-    high_kept Ints.Int = refl
-    high_kept Ints.UInt = refl
-    high_kept Ints.Long = refl
-    high_kept Ints.ULong = refl
-    high_kept Ints.LLong = refl
-    high_kept Ints.ULLong = refl
+    high_kept _ = refl
 
 -- what fits there may stand at the right of an operator
 pub right_fits : (op : BinOp) (t u : IntType) → FitsRight op t u → (vs : List Sort) (v : ℕ) → Holds vs v (numbers u)
     → HoldsRight vs op t v
 right_fits Bins.Shl t u f vs v h = (u, h)
 right_fits Bins.Shr t u f vs v h = (u, h)
-right_fits Bins.Add t u f vs v h = holds_wider vs v (numbers u) (numbers t) h (all_of t u f.fits)
-right_fits Bins.Sub t u f vs v h = holds_wider vs v (numbers u) (numbers t) h (all_of t u f.fits)
-right_fits Bins.Mul t u f vs v h = holds_wider vs v (numbers u) (numbers t) h (all_of t u f.fits)
-right_fits Bins.Div t u f vs v h = holds_wider vs v (numbers u) (numbers t) h (all_of t u f.fits)
-right_fits Bins.Rem t u f vs v h = holds_wider vs v (numbers u) (numbers t) h (all_of t u f.fits)
-right_fits Bins.And t u f vs v h = holds_wider vs v (numbers u) (numbers t) h (all_of t u f.fits)
-right_fits Bins.Or t u f vs v h = holds_wider vs v (numbers u) (numbers t) h (all_of t u f.fits)
-right_fits Bins.Xor t u f vs v h = holds_wider vs v (numbers u) (numbers t) h (all_of t u f.fits)
-right_fits Bins.Lt t u f vs v h = holds_wider vs v (numbers u) (numbers t) h (all_of t u f.fits)
-right_fits Bins.Le t u f vs v h = holds_wider vs v (numbers u) (numbers t) h (all_of t u f.fits)
-right_fits Bins.Gt t u f vs v h = holds_wider vs v (numbers u) (numbers t) h (all_of t u f.fits)
-right_fits Bins.Ge t u f vs v h = holds_wider vs v (numbers u) (numbers t) h (all_of t u f.fits)
-right_fits Bins.Eq t u f vs v h = holds_wider vs v (numbers u) (numbers t) h (all_of t u f.fits)
-right_fits Bins.Ne t u f vs v h = holds_wider vs v (numbers u) (numbers t) h (all_of t u f.fits)
+right_fits _ t u f vs v h = holds_wider vs v (numbers u) (numbers t) h (all_of t u f.fits)
 
 -- numbers of the type in which it works may
 pub right_own : (op : BinOp) (t : IntType) (vs : List Sort) (v : ℕ) → Holds vs v (numbers t) → HoldsRight vs op t v
 right_own Bins.Shl t vs v h = (t, h)
 right_own Bins.Shr t vs v h = (t, h)
-right_own Bins.Add t vs v h = h
-right_own Bins.Sub t vs v h = h
-right_own Bins.Mul t vs v h = h
-right_own Bins.Div t vs v h = h
-right_own Bins.Rem t vs v h = h
-right_own Bins.And t vs v h = h
-right_own Bins.Or t vs v h = h
-right_own Bins.Xor t vs v h = h
-right_own Bins.Lt t vs v h = h
-right_own Bins.Le t vs v h = h
-right_own Bins.Gt t vs v h = h
-right_own Bins.Ge t vs v h = h
-right_own Bins.Eq t vs v h = h
-right_own Bins.Ne t vs v h = h
+right_own _ t vs v h = h
 
 -- a comparison has both operands in its type
 pub compared_right : (op : BinOp) (t : IntType) (vs : List Sort) (v : ℕ) → is_comparison op ≡ true
@@ -149,16 +104,7 @@ compared_right Bins.Gt t vs v e h = h
 compared_right Bins.Ge t vs v e h = h
 compared_right Bins.Eq t vs v e h = h
 compared_right Bins.Ne t vs v e h = h
-compared_right Bins.Add t vs v e h = absurd (false≢true e)
-compared_right Bins.Sub t vs v e h = absurd (false≢true e)
-compared_right Bins.Mul t vs v e h = absurd (false≢true e)
-compared_right Bins.Div t vs v e h = absurd (false≢true e)
-compared_right Bins.Rem t vs v e h = absurd (false≢true e)
-compared_right Bins.Shl t vs v e h = absurd (false≢true e)
-compared_right Bins.Shr t vs v e h = absurd (false≢true e)
-compared_right Bins.And t vs v e h = absurd (false≢true e)
-compared_right Bins.Or t vs v e h = absurd (false≢true e)
-compared_right Bins.Xor t vs v e h = absurd (false≢true e)
+compared_right _ t vs v e h = absurd (false≢true e)
 
 -- what an operator gives is of the type that typing says, and of that in which it works
 pub outcome_typed : (op : BinOp) (t : IntType) → represents_all (result_type op t) (outcome_type op t) ≡ true
@@ -168,16 +114,7 @@ outcome_typed Bins.Gt t = refl
 outcome_typed Bins.Ge t = refl
 outcome_typed Bins.Eq t = refl
 outcome_typed Bins.Ne t = refl
-outcome_typed Bins.Add t = within_self (numbers t)
-outcome_typed Bins.Sub t = within_self (numbers t)
-outcome_typed Bins.Mul t = within_self (numbers t)
-outcome_typed Bins.Div t = within_self (numbers t)
-outcome_typed Bins.Rem t = within_self (numbers t)
-outcome_typed Bins.Shl t = within_self (numbers t)
-outcome_typed Bins.Shr t = within_self (numbers t)
-outcome_typed Bins.And t = within_self (numbers t)
-outcome_typed Bins.Or t = within_self (numbers t)
-outcome_typed Bins.Xor t = within_self (numbers t)
+outcome_typed _ t = within_self (numbers t)
 
 pub outcome_within : (op : BinOp) (t : IntType) → represents_all t (outcome_type op t) ≡ true
 outcome_within Bins.Lt t = truth_within t
@@ -186,16 +123,7 @@ outcome_within Bins.Gt t = truth_within t
 outcome_within Bins.Ge t = truth_within t
 outcome_within Bins.Eq t = truth_within t
 outcome_within Bins.Ne t = truth_within t
-outcome_within Bins.Add t = within_self (numbers t)
-outcome_within Bins.Sub t = within_self (numbers t)
-outcome_within Bins.Mul t = within_self (numbers t)
-outcome_within Bins.Div t = within_self (numbers t)
-outcome_within Bins.Rem t = within_self (numbers t)
-outcome_within Bins.Shl t = within_self (numbers t)
-outcome_within Bins.Shr t = within_self (numbers t)
-outcome_within Bins.And t = within_self (numbers t)
-outcome_within Bins.Or t = within_self (numbers t)
-outcome_within Bins.Xor t = within_self (numbers t)
+outcome_within _ t = within_self (numbers t)
 
 module _ (laid : LaidTree) (Call : ℕ → List Sort → Option Sort → Type 0) where
   pub convert_step : (c : Conversion) (vs : List Sort) (v : ℕ) (a t : IntType) (rest : Steps) (ws : List Sort)

@@ -97,17 +97,11 @@ scalar_pointer (Scalars.Pointer c) = refl
 
 result_pointer : (t : CType) → is_pointer_type t ≡ is_pointer_kind (kind_of (kept_sort t))
 result_pointer Types.Void = refl
-result_pointer (Types.Int t) = refl
-result_pointer (Types.Pointer q) = refl
-result_pointer (Types.Array e n) = refl
-result_pointer (Types.Struct k) = refl
+result_pointer _ = refl
 
 result_is_value : (t : CType) → is_value_type t ≡ is_value (kind_of (kept_sort t))
 result_is_value Types.Void = refl
-result_is_value (Types.Int t) = refl
-result_is_value (Types.Pointer q) = refl
-result_is_value (Types.Array e n) = refl
-result_is_value (Types.Struct k) = refl
+result_is_value _ = refl
 
 called_result : (fs : List TypedFunctionTree) (f : ℕ) (g : Function) → slice_get (map called fs) f ≡ Some g
     → (get_or fs f no_typed_function).result ≡ g.result
@@ -120,16 +114,13 @@ module _ (laid : LaidTree) (path : ℕ) (locals : List LocalEntry) where
   w = file_context laid.file locals
 
   pointer_given : (k : ValueKind) (e : RvalueTree) → IsRvalue w k e → gives_pointer laid e ≡ is_pointer_kind k
-  pointer_given k (a_constant t z p) h = sym (ap is_pointer_kind h.0)
   pointer_given k (a_folded z e) h = pointer_given (a_number Ints.Int) e h.2 ∙ sym (ap is_pointer_kind h.0)
   pointer_given k (a_null p) h = sym (ap is_pointer_kind h)
   pointer_given k (a_load s v l) h = scalar_pointer s ∙ sym (ap is_pointer_kind h.2)
   pointer_given k (an_address l p) h = sym (ap is_pointer_kind h.1)
   pointer_given k (a_structure l) h = sym (ap is_pointer_kind h.1)
   pointer_given k (the_same e p) h = pointer_given k e h
-  pointer_given k (a_unary o t e p) h = sym (ap is_pointer_kind h.0)
   pointer_given k (a_binary o t l r p) h = sym (ap is_pointer_kind h.1)
-  pointer_given k (a_comparison_of_pointers b l r p) h = sym (ap is_pointer_kind h.0)
   pointer_given k (a_move m c f e i p) h = sym (ap is_pointer_kind h.1)
   pointer_given k (a_not e p) h = sym (ap is_pointer_kind h.1)
   pointer_given k (an_and l r p) h = sym (ap is_pointer_kind h.2)
@@ -143,11 +134,9 @@ module _ (laid : LaidTree) (path : ℕ) (locals : List LocalEntry) where
   pointer_given k (a_function_call f site es p) h =
       ap (λ n. is_pointer_type (ctype_of w.scope n)) (called_result laid.file.functions f h.0 h.1)
       ∙ result_pointer (ctype_of w.scope h.0.result) ∙ sym (ap is_pointer_kind h.2)
-  pointer_given k (an_input_value low high p) h = sym (ap is_pointer_kind h.0)
-  pointer_given k (a_probe m p) h = sym (ap is_pointer_kind h.0)
   pointer_given k (a_comma l r p) h = pointer_given k r h.2
-  pointer_given k (a_conversion f t e p) h = sym (ap is_pointer_kind h.0)
   pointer_given k (a_discard e p) h = sym (ap is_pointer_kind h.1)
+  pointer_given k _ h = sym (ap is_pointer_kind h.0)
 
   -- where an expression is tested as a pointer, it gives one
   if_pointer : (k : ValueKind) (e : RvalueTree) → IsRvalue w k e → gives_pointer laid e ≡ true → k ≡ a_pointer
@@ -178,10 +167,8 @@ module _ (laid : LaidTree) (path : ℕ) (locals : List LocalEntry) where
     leads n (an_object (Objects.Static x) p) h q = stage.objects (Objects.Static x) n h q
     leads n (an_object (Objects.Local x) p) h q = stage.objects (Objects.Local x) n h tt
     leads n (an_element l i m c p) h q = leads h.0 l h.5 q.0
-    leads n (a_pointed_element e i c t p) h q = tt
-    leads n (a_pointed e t p) h q = tt
-    leads n (an_arrow e t c p) h q = tt
     leads n (a_part l c p) h q = leads h.0 l h.4 q
+    leads n _ h q = tt
 
     pub is_mutex : (m : ℕ) → m < length laid.file.mutexes → IsMutex laid m
     is_mutex m l = let f = stage.few in (l, omega (arith, l, f))
@@ -229,7 +216,7 @@ module _ (laid : LaidTree) (path : ℕ) (locals : List LocalEntry) where
       codes_fit k (the_same e p) h q =
           valued_fits laid Call (gives_pointer laid e) p k _ (if_pointer k e h) (codes_fit k e h q).value
       codes_fit k (a_unary o t e p) h q =
-          let v = (codes_fit (a_number t) e h.1 q).value in
+          let v = (codes_fit (a_number t) e h.1 q.1).value in
           of_kind laid Call k (a_number t) None _ h.0
           (valued_fits laid Call false p (a_number t) _ (never (a_number t)) (
             t,

@@ -1,6 +1,7 @@
 -- What is built follows: each temporary so far is given by an edge so far, and each copy is one of a temporary that an
 -- earlier edge gives.
-use Rattle.std.proofs.Common.{◌≡◌, refl, sym, subst, ℕ, suc, ◌<◌, ◌⊎◌, inl, inr, List, [], ◌∷◌, ◌++◌, length, Some, arith}
+use Rattle.std.proofs.Common.{◌≡◌, refl, sym, subst, ℕ, suc, ◌<◌, ◌⊎◌, inl, inr, List, [], ◌∷◌, ◌++◌, length, Some}
+use Rattle.std.proofs.Common.{arith}
 use Rattle.std.proofs.lemmas.Bool.{cases_eq}
 use Rattle.std.proofs.lemmas.Option.{slice_get_within}
 use Rattle.std.proofs.lemmas.List.{append-nil, append_assoc}
@@ -70,28 +71,7 @@ follows_new count a e q h k = record {
 -- what an operation copies has a sort, so that it is one of the temporaries so far
 pub copy_given : (laid : LaidTree) (ss : List Sort) (count : ℕ) (graph : Edges) → length ss ≡ count
     → Follows count graph → (op : Operation) → Works laid ss op → IsCopyOfGiven graph op
-copy_given laid ss count graph l h Op.Skip w = tt
-copy_given laid ss count graph l h (Op.Const to value) w = tt
 copy_given laid ss count graph l h (Op.Copy to from) w =
     let lt = slice_get_within ss from w.1.0 w.1.1 in
     h.given from (omega (arith, lt, l))
-copy_given laid ss count graph l h (Op.Un to o of from place) w = tt
-copy_given laid ss count graph l h (Op.Bin to o of left right place) w = tt
-copy_given laid ss count graph l h (Op.BinPointers to equal left right) w = tt
-copy_given laid ss count graph l h (Op.Convert to was of from) w = tt
-copy_given laid ss count graph l h (Op.Base to object) w = tt
-copy_given laid ss count graph l h (Op.Offset to from cells) w = tt
-copy_given laid ss count graph l h (Op.Index to from length' cells by place) w = tt
-copy_given laid ss count graph l h (Op.Move to from cells minus by place) w = tt
-copy_given laid ss count graph l h (Op.Deref to from target path place) w = tt
-copy_given laid ss count graph l h (Op.Load to address scalar place) w = tt
-copy_given laid ss count graph l h (Op.LoadAny to address scalar place) w = tt
-copy_given laid ss count graph l h (Op.Store address value scalar into place) w = tt
-copy_given laid ss count graph l h (Op.Any to low high) w = tt
-copy_given laid ss count graph l h (Op.Clear object) w = tt
-copy_given laid ss count graph l h (Op.Usable pointer place) w = tt
-copy_given laid ss count graph l h (Op.Assume test) w = tt
-copy_given laid ss count graph l h (Op.Lock mutex place) w = tt
-copy_given laid ss count graph l h (Op.Unlock mutex place) w = tt
-copy_given laid ss count graph l h Op.Yield w = tt
-copy_given laid ss count graph l h (Op.Probe to mutex place) w = tt
+copy_given laid ss count graph l h _ w = tt

@@ -54,15 +54,13 @@ use Rattle.operation_laws.proofs.ExpressionSorts.{IsStage, result_sort, w, is_mu
 -- the sort of a result is that of its scalar
 pub scalar_result : (e : TypeEntry) (t : CType) (s : Scalar) → scalar_by e t ≡ Some s
     → result_sort t ≡ Some (sort_of_scalar s)
-scalar_result e Types.Void s q = absurd cc
 scalar_result e (Types.Int t) s q = let P : Option Scalar
     → Type 0 = λ z. elim z as (λ x. Type 0)
     [ None ↦ ⊥ | Some y ↦ result_sort (Types.Int t) ≡ Some (sort_of_scalar y) ] in subst P q refl
 scalar_result e (Types.Pointer r) s q = let P : Option Scalar
     → Type 0 = λ z. elim z as (λ x. Type 0)
     [ None ↦ ⊥ | Some y ↦ result_sort (Types.Pointer r) ≡ Some (sort_of_scalar y) ] in subst P q refl
-scalar_result e (Types.Array f n) s q = absurd cc
-scalar_result e (Types.Struct n) s q = absurd cc
+scalar_result e _ s q = absurd cc
 
 module _ (laid : LaidTree) (path : ℕ) (locals : List LocalEntry) (defined : ℕ → Bool) (calls : List ℕ)
     (Call : ℕ → List Sort → Option Sort → Type 0) (stage : IsStage laid path locals defined calls Call)
@@ -257,7 +255,7 @@ module _ (laid : LaidTree) (path : ℕ) (locals : List LocalEntry) (defined : �
     )
     plan_fits loop switch (selects t e cs) h q g =
         let v = (codes_fit laid path locals defined calls Call stage (a_number t) e h.0 q.0).value in
-        (t, numbers v.0, v.1, v.2, parts_fit loop true cs h.1 q.1 g)
+        (numbers v.0, (t, v.2), v.1, parts_fit loop true cs h.1 q.1 g)
     plan_fits loop switch breaks h q g = tt
     plan_fits loop switch continues h q g = tt
     plan_fits loop switch (returns e) h q g = returned_fits e h q

@@ -32,9 +32,9 @@ use Rattle.lowering_laws.specs.lowering.Table.{changed_steps}
 use Rattle.lowering_laws.specs.lowering.Table.{changed_at, compound_with, unit_step_with, moved_code, converted_code}
 use Rattle.lowering_laws.specs.lowering.Table.{call_code}
 use Rattle.lowering_laws.proofs.Operands.{is_value}
-use Rattle.operation_laws.proofs.Within.{within_self, Grows, grows_on}
+use Rattle.operation_laws.proofs.Within.{within_self}
 use Rattle.operation_laws.proofs.StepSorts.{StepsFit, StepFits, InputsFit, CodeFits, ForkFits}
-use Rattle.operation_laws.proofs.BuiltSorts.{grows_end, length_end}
+use Rattle.operation_laws.proofs.Growing.{Grows, grows_on, grows_end, length_end}
 use Rattle.operation_laws.proofs.Conversions.{Converts, conversion_converts, convert_vars, convert_grows, convert_count}
 use Rattle.operation_laws.proofs.Conversions.{last_is, converted_is, holds_grown, right_fits, compared_right}
 use Rattle.operation_laws.proofs.Conversions.{outcome_typed, outcome_within, convert_step, after_operands}

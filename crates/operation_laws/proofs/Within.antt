@@ -19,36 +19,19 @@ use Rattle.temporary_types.specs.flow_graph.Operations.{given, opposite}
 use Rattle.temporary_types.specs.Sorts.{Sort, numbers, pointers, Within, Holds, HoldsNumbers, HoldsAny, HoldsRight}
 use Rattle.temporary_types.specs.Sorts.{WorksTest, Works, Gives, GivesTo, FitsSorts}
 use Rattle.lowering_laws.specs.lowering.Built.{renamed_test, renamed}
+use Rattle.operation_laws.proofs.Growing.{Grows}
 
 -- ## Sorts within others
 
 pub within_self : (s : Sort) → Within s s
 within_self (numbers Ints.Bool) = refl
-within_self (numbers Ints.Char) = refl
-within_self (numbers Ints.UChar) = refl
-within_self (numbers Ints.Short) = refl
-within_self (numbers Ints.UShort) = refl
-within_self (numbers Ints.Int) = refl
-within_self (numbers Ints.UInt) = refl
-within_self (numbers Ints.Long) = refl
-within_self (numbers Ints.ULong) = refl
-within_self (numbers Ints.LLong) = refl
-within_self (numbers Ints.ULLong) = refl
 within_self pointers = tt
+within_self _ = refl
 
 -- every type has 0 and 1
 pub truth_within : (t : IntType) → Within (numbers Ints.Bool) (numbers t)
 truth_within Ints.Bool = refl
-truth_within Ints.Char = refl
-truth_within Ints.UChar = refl
-truth_within Ints.Short = refl
-truth_within Ints.UShort = refl
-truth_within Ints.Int = refl
-truth_within Ints.UInt = refl
-truth_within Ints.Long = refl
-truth_within Ints.ULong = refl
-truth_within Ints.LLong = refl
-truth_within Ints.ULLong = refl
+truth_within _ = refl
 
 le_through : (a b c : ℤ) → int_le a b ≡ true → int_le b c ≡ true → int_le a c ≡ true
 le_through a b c h k = le_is a c (through a b c (is_le a b h) (is_le b c k))
@@ -90,16 +73,6 @@ holds_own sorts temp s e = (s, e, within_self s)
 abbrev pub Maps : (ℕ → ℕ) → List Sort → List Sort → Type 0
 Maps f vs ss = (v : ℕ) (s : Sort) → slice_get vs v ≡ Some s → slice_get ss (f v) ≡ Some s
 
--- there are more temporaries
-abbrev pub Grows : List Sort → List Sort → Type 0
-Grows vs ss = (v : ℕ) (s : Sort) → slice_get vs v ≡ Some s → slice_get ss v ≡ Some s
-
-pub grows_on : (a b c : List Sort) → Grows a b → Grows b c → Grows a c
-grows_on a b c h k v s e = k v s (h v s e)
-
-pub grows_same : (a : List Sort) → Grows a a
-grows_same a v s e = e
-
 module _ (f : ℕ → ℕ) (vs ss : List Sort) (m : Maps f vs ss) where
   pub holds_mapped : (v : ℕ) (s : Sort) → Holds vs v s → Holds ss (f v) s
   holds_mapped v s h = (h.0, m v h.0 h.1, h.2)
@@ -113,20 +86,7 @@ module _ (f : ℕ → ℕ) (vs ss : List Sort) (m : Maps f vs ss) where
   right_mapped : (op : BinOp) (t : IntType) (v : ℕ) → HoldsRight vs op t v → HoldsRight ss op t (f v)
   right_mapped Bins.Shl t v h = numbers_mapped v h
   right_mapped Bins.Shr t v h = numbers_mapped v h
-  right_mapped Bins.Add t v h = holds_mapped v (numbers t) h
-  right_mapped Bins.Sub t v h = holds_mapped v (numbers t) h
-  right_mapped Bins.Mul t v h = holds_mapped v (numbers t) h
-  right_mapped Bins.Div t v h = holds_mapped v (numbers t) h
-  right_mapped Bins.Rem t v h = holds_mapped v (numbers t) h
-  right_mapped Bins.And t v h = holds_mapped v (numbers t) h
-  right_mapped Bins.Or t v h = holds_mapped v (numbers t) h
-  right_mapped Bins.Xor t v h = holds_mapped v (numbers t) h
-  right_mapped Bins.Lt t v h = holds_mapped v (numbers t) h
-  right_mapped Bins.Le t v h = holds_mapped v (numbers t) h
-  right_mapped Bins.Gt t v h = holds_mapped v (numbers t) h
-  right_mapped Bins.Ge t v h = holds_mapped v (numbers t) h
-  right_mapped Bins.Eq t v h = holds_mapped v (numbers t) h
-  right_mapped Bins.Ne t v h = holds_mapped v (numbers t) h
+  right_mapped _ t v h = holds_mapped v (numbers t) h
 
   pub tests_mapped : (test : Test) → WorksTest vs test → WorksTest ss (renamed_test f test)
   tests_mapped (Tested.Numbers op of left right) h =
@@ -146,7 +106,6 @@ module _ (f : ℕ → ℕ) (vs ss : List Sort) (m : Maps f vs ss) where
   works_mapped laid u (Op.BinPointers t equal left right) h =
       (holds_mapped left pointers h.0, holds_mapped right pointers h.1)
   works_mapped laid u (Op.Convert t was of from) h = holds_mapped from (numbers was) h
-  works_mapped laid u (Op.Base t object) h = h
   works_mapped laid u (Op.Offset t from cells) h = holds_mapped from pointers h
   works_mapped laid u (Op.Index t from length' cells by place) h =
       (holds_mapped from pointers h.0, numbers_mapped by h.1)
@@ -158,38 +117,22 @@ module _ (f : ℕ → ℕ) (vs ss : List Sort) (m : Maps f vs ss) where
   works_mapped laid u (Op.Store address value scalar into place) h =
       (holds_mapped address pointers h.0, holds_mapped value _ h.1, h.2)
   works_mapped laid u (Op.Any t low high) h = tt
-  works_mapped laid u (Op.Clear object) h = h
   works_mapped laid u (Op.Usable pointer place) h = holds_mapped pointer pointers h
   works_mapped laid u (Op.Assume test) h = tests_mapped test h
-  works_mapped laid u (Op.Lock mutex place) h = h
-  works_mapped laid u (Op.Unlock mutex place) h = h
   works_mapped laid u Op.Yield h = tt
-  works_mapped laid u (Op.Probe t mutex place) h = h
+  works_mapped laid u _ h = h
 
   pub gives_mapped : (u : ℕ) (op : Operation) (s : Sort) → Gives vs op s → Gives ss (renamed f u op) s
   gives_mapped u Op.Skip s h = tt
-  gives_mapped u (Op.Const t value) s h = h
   gives_mapped u (Op.Copy t from) s h = holds_mapped from s h
-  gives_mapped u (Op.Un t o of from place) s h = h
-  gives_mapped u (Op.Bin t o of left right place) s h = h
-  gives_mapped u (Op.BinPointers t equal left right) s h = h
-  gives_mapped u (Op.Convert t was of from) s h = h
-  gives_mapped u (Op.Base t object) s h = h
-  gives_mapped u (Op.Offset t from cells) s h = h
-  gives_mapped u (Op.Index t from length' cells by place) s h = h
-  gives_mapped u (Op.Move t from cells minus by place) s h = h
-  gives_mapped u (Op.Deref t from target path place) s h = h
-  gives_mapped u (Op.Load t address scalar place) s h = h
-  gives_mapped u (Op.LoadAny t address scalar place) s h = h
   gives_mapped u (Op.Store address value scalar into place) s h = tt
-  gives_mapped u (Op.Any t low high) s h = h
   gives_mapped u (Op.Clear object) s h = tt
   gives_mapped u (Op.Usable pointer place) s h = tt
   gives_mapped u (Op.Assume test) s h = tt
   gives_mapped u (Op.Lock mutex place) s h = tt
   gives_mapped u (Op.Unlock mutex place) s h = tt
   gives_mapped u Op.Yield s h = tt
-  gives_mapped u (Op.Probe t mutex place) s h = h
+  gives_mapped u _ s h = h
 
 -- an operation that names its own temporaries is over the same ones
 abbrev pub renamed_to : ℕ → Option ℕ → Option ℕ
@@ -198,35 +141,12 @@ renamed_to to None = None
 
 pub given_renamed : (f : ℕ → ℕ) (u : ℕ) (op : Operation) → given (renamed f u op) ≡ renamed_to u (given op)
 given_renamed f u Op.Skip = refl
-given_renamed f u (Op.Const to value) = refl
-given_renamed f u (Op.Copy to from) = refl
-given_renamed f u (Op.Un to operator of from place) = refl
-given_renamed f u (Op.Bin to operator of left right place) = refl
-given_renamed f u (Op.BinPointers to equal left right) = refl
-given_renamed f u (Op.Convert to was of from) = refl
-given_renamed f u (Op.Base to object) = refl
-given_renamed f u (Op.Offset to from cells) = refl
-given_renamed f u (Op.Index to from length' cells by place) = refl
-given_renamed f u (Op.Move to from cells minus by place) = refl
-given_renamed f u (Op.Deref to from target path place) = refl
-given_renamed f u (Op.Load to address scalar place) = refl
-given_renamed f u (Op.LoadAny to address scalar place) = refl
-given_renamed f u (Op.Store address value scalar into place) = refl
-given_renamed f u (Op.Any to low high) = refl
-given_renamed f u (Op.Clear object) = refl
-given_renamed f u (Op.Usable pointer place) = refl
-given_renamed f u (Op.Assume test) = refl
-given_renamed f u (Op.Lock mutex place) = refl
-given_renamed f u (Op.Unlock mutex place) = refl
-given_renamed f u Op.Yield = refl
-given_renamed f u (Op.Probe to mutex place) = refl
+given_renamed f u _ = refl
 
 -- over its own temporaries an operation is the same
 own_test : (test : Test) → renamed_test (λ v. v) test ≡ test
 own_test (Tested.Numbers op of left right) = refl
-own_test (Tested.Pointers equal left right) = refl
-own_test (Tested.Truth is value) = refl
-own_test (Tested.Case is label value) = refl
+own_test _ = refl
 
 -- the temporary that is given, or this one
 abbrev given_or : ℕ → Option ℕ → ℕ
@@ -234,29 +154,8 @@ given_or n (Some t) = t
 given_or n None = n
 
 own_renamed : (op : Operation) → renamed (λ v. v) (given_or 0 (given op)) op ≡ op
-own_renamed Op.Skip = refl
-own_renamed (Op.Const to value) = refl
-own_renamed (Op.Copy to from) = refl
-own_renamed (Op.Un to operator of from place) = refl
-own_renamed (Op.Bin to operator of left right place) = refl
-own_renamed (Op.BinPointers to equal left right) = refl
-own_renamed (Op.Convert to was of from) = refl
-own_renamed (Op.Base to object) = refl
-own_renamed (Op.Offset to from cells) = refl
-own_renamed (Op.Index to from length' cells by place) = refl
-own_renamed (Op.Move to from cells minus by place) = refl
-own_renamed (Op.Deref to from target path place) = refl
-own_renamed (Op.Load to address scalar place) = refl
-own_renamed (Op.LoadAny to address scalar place) = refl
-own_renamed (Op.Store address value scalar into place) = refl
-own_renamed (Op.Any to low high) = refl
-own_renamed (Op.Clear object) = refl
-own_renamed (Op.Usable pointer place) = refl
 own_renamed (Op.Assume test) = ap (λ z. Op.Assume z) (own_test test)
-own_renamed (Op.Lock mutex place) = refl
-own_renamed (Op.Unlock mutex place) = refl
-own_renamed Op.Yield = refl
-own_renamed (Op.Probe to mutex place) = refl
+own_renamed _ = refl
 
 module _ (laid : LaidTree) (vs ss : List Sort) (g : Grows vs ss) where
   pub works_grown : (op : Operation) → Works laid vs op → Works laid ss op
@@ -277,6 +176,4 @@ module _ (laid : LaidTree) (vs ss : List Sort) (g : Grows vs ss) where
 -- the opposite of a test is of the same temporaries
 pub tests_opposite : (sorts : List Sort) (test : Test) → WorksTest sorts test → WorksTest sorts (opposite test)
 tests_opposite sorts (Tested.Numbers op of left right) h = h
-tests_opposite sorts (Tested.Pointers equal left right) h = h
-tests_opposite sorts (Tested.Truth is value) h = h
-tests_opposite sorts (Tested.Case is label value) h = h
+tests_opposite sorts _ h = h

@@ -1,13 +1,12 @@
 -- The graphs of whole bodies keep kinds: calls store their arguments and go on in the body that is called, on the path
 -- where the call leads.
-use Rattle.std.proofs.Common.{◌≡◌, refl, sym, subst, ◌∙◌, ℕ, zero, suc, ◌<◌, ◌≤◌, inl, inr, Bool, true, false, List}
-use Rattle.std.proofs.Common.{[], ◌∷◌, ◌++◌, ap, length, Option, Some, None, slice_get}
-use Rattle.std.specs.Prelude.{if◌then◌else◌, nat_lt, All, Ok}
+use Rattle.std.proofs.Common.{◌≡◌, refl, sym, subst, ◌∙◌, ℕ, suc, ◌<◌, ◌≤◌, inl, inr, true, false, List}
+use Rattle.std.proofs.Common.{[], ◌∷◌, ◌++◌, ap, arith, length, Option, Some, None, slice_get}
+use Rattle.std.specs.Prelude.{All, Ok}
 use Rattle.std.proofs.lemmas.Bool.{cases_lt}
 use Rattle.std.proofs.lemmas.Option.{none-some}
 use Rattle.std.proofs.lemmas.List.{get_or_past}
 use Rattle.std.proofs.lemmas.List.Elements.{All-get_or}
-use Rattle.operation_laws.specs.tm_cint.IntTypes.{lo_of, hi_of}
 use Rattle.operation_laws.specs.tm_terms.declared.places.Place.{Place}
 use Rattle.operation_laws.specs.tm_terms.declared.refusals.Limit.TheVariants as Limits
 use Rattle.operation_laws.specs.tm_typed.declared.types.CType.{CType}
@@ -24,7 +23,6 @@ use Rattle.operation_laws.specs.tm_laid.Layouts.{LaidTree, layout_of, first_path
 use Rattle.operation_laws.specs.tm_laid.Layouts.{laid_out}
 use Rattle.operation_laws.specs.cell_layout.Laws.{GoesOnBy}
 use Rattle.operation_laws.proofs.low.cell_layout.PathCalls.{calls_lead}
-use Rattle.operation_laws.specs.concrete_values.Values.{nothing}
 use Rattle.operation_laws.specs.concrete_steps.Places.{result_type}
 use Rattle.operation_laws.specs.concrete_steps.NextAction.{scalar_at, function_at}
 use Rattle.operation_laws.specs.typed_file_laws.Mentions.{StatementsMention}
@@ -36,68 +34,47 @@ use Rattle.operation_laws.specs.flow_graph.declared.operations.Operation.{Operat
 use Rattle.operation_laws.specs.flow_graph.declared.operations.Operation.TheVariants as Op
 use Rattle.operation_laws.specs.flow_graph.Graphs.{Edges, Among}
 use Rattle.operation_laws.specs.lowering.Table.{plans}
-use Rattle.operation_laws.specs.lowering.Built.{Building, place, place_new, Passed, Later, Sites, is_return}
-use Rattle.operation_laws.specs.lowering.Built.{nodes_by, plan_piece}
-use Rattle.operation_laws.specs.lowering.Built.{stores_piece, fallen_piece, function_end, task_end, nothing_piece}
-use Rattle.operation_laws.specs.lowering.Built.{function_piece}
-use Rattle.operation_laws.specs.lowering.Built.{sites_of, path_piece, entry, graph_of}
+use Rattle.operation_laws.specs.lowering.Built.{Building, place, place_new}
+use Rattle.operation_laws.specs.lowering.Built.{stores_piece}
+use Rattle.operation_laws.specs.lowering.Built.{entry, built, graph_of}
 use Rattle.operation_laws.specs.next_action_laws.Actions.{IsBodyPath}
 use Rattle.operation_laws.proofs.low.next_action_laws.PathPlaces.{first_of}
-use Rattle.sound_runs.specs.Addresses.{Kind, anything, HasKinds, KeepsKinds}
-use Rattle.sound_addresses.proofs.BuiltKinds.{grows_on, grows_same, grows_end, KindsAre, AllFit, Fits, place_fits}
-use Rattle.sound_addresses.proofs.BuiltKinds.{place_dull, dull_none, meet_fits, Grown}
-use Rattle.sound_addresses.proofs.PlanKinds.{ResultIs, result_built, continued_fits, Through, plan_built}
+use Rattle.operation_laws.proofs.BuiltSteps.{Known, known, Built}
+use Rattle.operation_laws.proofs.BuiltBodies.{IsFree, Falls, Enters, graph_built}
+use Rattle.sound_runs.specs.Addresses.{Kind, address_of, anything, HasKinds, KeepsKinds}
+use Rattle.sound_addresses.proofs.StepKinds.{Calls, PlanFits, kinded}
+use Rattle.sound_addresses.proofs.BuiltKinds.{KindsAre, AllFit, Leads, sayings, dull_placed, dull_given, gives_new}
+use Rattle.sound_addresses.proofs.BuiltKinds.{kept}
 use Rattle.sound_addresses.proofs.StatementKinds.{plans_fit}
 use Rattle.sound_addresses.proofs.PathStages.{L, function_on, from_length, sizes, stage}
 
 module _ (laid : LaidTree) (body : ℕ) where
   -- a function that ends without `return`
-  fallen_built : (t : CType) (res : Option ℕ) (ss : List Kind) (b : Building) → Fits laid body ss b
-      → ResultIs laid body ss res → Grown laid body ss (fallen_piece t res b)
-  fallen_built (Types.Int t) res ss b f k =
-      let z = result_built laid body res (λ r. Op.Any r (lo_of t) (hi_of t)) (λ r. refl) (λ r. tt) ss b f k in
-      record { kinds = z.kinds; grows = z.grows; fits = z.fits }
-  fallen_built (Types.Pointer q) res ss b f k =
-      let z = result_built laid body res (λ r. Op.Const r nothing) (λ r. refl) (λ r. tt) ss b f k in
-      record { kinds = z.kinds; grows = z.grows; fits = z.fits }
-  fallen_built Types.Void res ss b f k = record { kinds = ss; grows = grows_same ss; fits = f }
-  fallen_built (Types.Array e n) res ss b f k = record { kinds = ss; grows = grows_same ss; fits = f }
-  fallen_built (Types.Struct n) res ss b f k = record { kinds = ss; grows = grows_same ss; fits = f }
-
-  -- where there is no body
-  nothing_built : (ss : List Kind) (b : Building) → Fits laid body ss b → Grown laid body ss (nothing_piece b).at
-  nothing_built ss b f = record {
-    kinds = ss ++ anything ∷ [];
-    grows = grows_end ss anything;
-    fits = place_dull laid body ss (Op.Const b.temps nothing) b tt refl f;
-  }
-
-  abbrev Closes : (List ℕ → Building → Building) → Type 0
-  Closes close = (ns : List ℕ) (ss : List Kind) (b : Building) → Fits laid body ss b → Fits laid body ss (close ns b)
-
-  ends_by : (t : Bool) → Closes (if t then task_end else function_end)
-  ends_by true ns ss b f = continued_fits laid body ss ns b f
-  ends_by false ns ss b f = meet_fits laid body ss (ns ++ b.node ∷ []) b f
+  falls_by : (t : CType) → Falls (kinded laid body) (sayings laid body) laid t (Some anything)
+  falls_by (Types.Int t) = λ ss n. dull_given laid body ss _ anything refl (λ r. tt) (λ r. refl)
+  falls_by (Types.Pointer q) = λ ss n. dull_given laid body ss _ anything refl (λ r. tt) (λ r. refl)
+  falls_by _ = tt
 
   -- arguments
-  stores_built : (path : ℕ) (p : Place) (k : ℕ) (ts : List ℕ) (ss : List Kind) (b : Building) → Fits laid body ss b
-      → Grown laid body ss (stores_piece laid path k ts p b)
-  stores_built path p k [] ss b f = record { kinds = ss; grows = grows_same ss; fits = f }
-  stores_built path p k (t ∷ ts) ss b f =
+  stores_built : (path : ℕ) (pl : Place) (k : ℕ) (ts : List ℕ) (p : Known Kind) (ss : List Kind) (b : Building)
+      → Leads laid body p (known ss b)
+      → Built (kinded laid body) (sayings laid body) p (stores_piece laid path k ts pl b)
+  stores_built path pl k [] p ss b f = record { natures = ss; leads = f }
+  stores_built path pl k (t ∷ ts) p ss b f =
       let o : ℕ = object_of laid path (Objects.Local k) in
       let more : List Kind = ss ++ anything ∷ [] in
-      let b1 : Building = place_new (λ x. Op.Base x o) b in
-      let f1 : Fits laid body more b1 = place_dull laid body ss (Op.Base b.temps o) b tt refl f in
-      let op : Operation = Op.Store b.temps t (scalar_at laid o 0) (Intos.Object o) p in
-      let f2 : Fits laid body more (place op b1) =
-      place_fits laid body more op b1 (dull_none laid body more op tt refl) f1 in
-      let r : Grown laid body more (stores_piece laid path (suc k) ts p (place op b1)) =
-      stores_built path p (suc k) ts more (place op b1) f2 in
-      record {
-        kinds = r.kinds;
-        grows = grows_on ss more r.kinds (grows_end ss anything) r.grows;
-        fits = r.fits;
-      }
+      let base : ℕ → Operation = λ x. Op.Base x o in
+      let b1 : Building = place_new base b in
+      let op : Operation = Op.Store b.temps t (scalar_at laid o 0) (Intos.Object o) pl in
+      stores_built path pl (suc k) ts p more (place op b1)
+      (dull_placed laid body p more b1 op tt refl
+      (gives_new laid body p ss b base anything (dull_given laid body ss base anything refl (λ x. tt) (λ x. refl)) f).0)
+
+  called : (o : Option Kind) (site : ℕ) (C : ℕ → Type 0) (ins : List Kind) → Calls C site ins o
+      → C site × IsFree (kinded laid body) (sayings laid body) laid o
+  called None site C ins h = (h, tt)
+  called (Some (address_of n)) site C ins h = absurd (cc)
+  called (Some anything) site C ins h = (h.0, tt)
 
   -- ## Kinds of all temporaries
 
@@ -142,66 +119,51 @@ module _ (file : TypedFileTree) (order : List ℕ) (h : IsLayable file order)
           (sym (ap (λ (x : TypedFunctionTree). x.body) (get_or_past file.functions f no_typed_function ge)) ∙ e))
     ]
 
-    abbrev Bodies : ℕ → Type 0
-    Bodies depth = (close : List ℕ → Building → Building) → Closes X body close → (path : ℕ) → IsBodyPath X body path
-        → (ss : List Kind) (b : Building) → Fits X body ss b → Grown X body ss (path_piece close X depth path b).at
+    abbrev Call : ℕ → ℕ → Type 0
+    Call path site = site < length (calls_in file.calls (on path))
 
-    calls_built : (depth : ℕ) → Bodies depth → (path : ℕ) → IsBodyPath X body path → (site : ℕ)
-        → site < length (calls_in file.calls (on path)) → (ss : List Kind) (ts : List ℕ) (p : Place) (x : Building)
-        → Fits X body ss x → Grown X body ss (sites_of X (path_piece function_end X depth) path site ts p x).at
+    enters : (depth path : ℕ) → IsBodyPath X body path → (b : TypedBodyTree)
+        → (function_of_file file (on path)).body ≡ Some b → (site : ℕ) (ins : List Kind) (o : Option Kind)
+        → Calls (Call path) site ins o
+        → Enters (kinded X body) (sayings X body) X (IsBodyPath X body) (λ path. Some anything) (callee X path site)
+        ins o
     unfolding layout_of
-    calls_built depth ih path u site lt ss ts p x fits =
-        let c : ℕ = callee X path site in
-        let goes : GoesOnBy file (layout_of file) path site = calls_lead file order h path site u.within lt in
-        let own : IsBodyPath X body c = record { within = goes.within; same = goes.body ∙ u.same } in
-        let s : Grown X body ss (stores_piece X c 0 ts p x) = stores_built X body c p 0 ts ss x fits in
-        let y : Grown X body s.kinds (path_piece function_end X depth c (stores_piece X c 0 ts p x)).at =
-        ih function_end (ends_by X body false) c own s.kinds (stores_piece X c 0 ts p x) s.fits in
-        record { kinds = y.kinds; grows = grows_on ss s.kinds y.kinds s.grows y.grows; fits = y.fits }
-
-    function_built : (depth : ℕ) → Bodies depth → (close : List ℕ → Building → Building) → Closes X body close
-        → (path : ℕ) → IsBodyPath X body path → (o : Option TypedBodyTree)
-        → (function_of_file file (on path)).body ≡ o → (ss : List Kind) (b : Building) → Fits X body ss b
-        → Grown X body ss
-        (function_piece (sites_of X (path_piece function_end X depth) path) X path close
-        (result_type X (function_at X path)) o b).at
-    function_built depth ih close closes path u None e ss b f = nothing_built X body ss b f
-    function_built depth ih close closes path u (Some b') e ss b f =
-        let F : TypedFunctionTree = function_of_file file (on path) in
-        let ok : IsBodyOf file F (Some b') =
-        subst (λ (y : Option TypedBodyTree). IsBodyOf file F y) e
-        (All-get_or (λ (y : TypedFunctionTree). IsBodyOf file y y.body) file.functions (on path) no_typed_function
-        (there (on path) b' e) formed) in
-        let call : Sites = sites_of X (path_piece function_end X depth) path in
-        let C : ℕ → Type 0 = λ site. site < length (calls_in file.calls (on path)) in
-        let x : Passed = plan_piece call (plans X path b'.statements) Later None b in
-        let y : Through X body C call (calls_built depth ih path u) ss x =
-        plan_built X body C call (calls_built depth ih path u) (plans X path b'.statements)
-        (plans_fit X body path b'.locals (is_defined_object file) (calls_in file.calls (on path))
-        (stage file order h within body scale out few path u b' e) (sizes file order h within body path u b' e)
-        (from_length X) F.result b'.statements ok (sites (on path) b' e).0) Later None ss b f tt in
-        let t : CType = result_type X F in
-        let z : Grown X body y.kinds (fallen_piece t x.result x.at) =
-        fallen_built X body t x.result y.kinds x.at y.fits y.result in
+    enters depth path u b e site ins o k =
+        let c = called X body o site (Call path) ins k in
+        let goes : GoesOnBy file (layout_of file) path site = calls_lead file order h path site u.within c.0 in
         record {
-          kinds = z.kinds;
-          grows = grows_on ss y.kinds z.kinds y.grows z.grows;
-          fits = closes (nodes_by is_return x.pending) z.kinds (fallen_piece t x.result x.at) z.fits;
+          on = record { within = goes.within; same = goes.body ∙ u.same };
+          stores = λ p ss ts pl x f a. stores_built X body (callee X path site) pl 0 ts p ss x f;
+          value = inl c.1;
         }
 
-    whole_built : (depth : ℕ) → Bodies depth
-    whole_built zero close closes path u ss b f = nothing_built X body ss b f
-    whole_built (suc depth) close closes path u ss b f =
-        function_built depth (whole_built depth) close closes path u (function_of_file file (on path)).body refl ss b f
+    fit : (depth path : ℕ) → IsBodyPath X body path → (b : TypedBodyTree)
+        → (function_of_file file (on path)).body ≡ Some b
+        → PlanFits X body (Call path) (plans X path b.statements)
+    fit depth path u b e =
+        let F : TypedFunctionTree = function_of_file file (on path) in
+        let ok : IsBodyOf file F (Some b) =
+        subst (λ (y : Option TypedBodyTree). IsBodyOf file F y) e
+        (All-get_or (λ (y : TypedFunctionTree). IsBodyOf file y y.body) file.functions (on path) no_typed_function
+        (there (on path) b e) formed) in
+        plans_fit X body path b.locals (is_defined_object file) (calls_in file.calls (on path))
+        (stage file order h within body scale out few path u b e) (sizes file order h within body path u b e)
+        (from_length X) F.result b.statements ok (sites (on path) b e).0
 
     pub graph_kinds : body < length (bodies_of file) → HasKinds X body (graph_of X body)
     graph_kinds lt =
         let first = first_of file body lt in
-        let path : ℕ = first_path X body in
-        let u : IsBodyPath X body path = record { within = first.0; same = first.1 } in
-        let close : List ℕ → Building → Building =
-        if nat_lt body (length file.tasks) then task_end else function_end in
-        let y : Grown X body [] (path_piece close X (length file.functions) path entry).at =
-        whole_built (length file.functions) close (ends_by X body (nat_lt body (length file.tasks))) path u [] entry
-        (refl, tt) in
-        kinds_of X body y.kinds (graph_of X body) y.fits.1
+        let u : IsBodyPath X body (first_path X body) = record { within = first.0; same = first.1 } in
+        let y : Built (kinded X body) (sayings X body) (known [] entry) (built X body) =
+        graph_built (kinded X body) (sayings X body) X (kept X body) (λ depth. IsBodyPath X body)
+        (λ path. Calls (Call path)) (λ path. Some anything)
+        (record {
+          invalid = anything;
+          gives = λ ss n. dull_given X body ss _ anything refl (λ r. tt) (λ r. refl);
+          deepest = λ path u b e. tt;
+          enters = enters;
+          fit = fit;
+          falls = λ path b e. falls_by X body (result_type X (function_at X path));
+        }) (record { grows = λ t k e. e; each = refl; fit = tt; later = omega arith }) body u in
+        let f : Leads X body (known [] entry) (known y.natures (built X body)) = y.leads in
+        kinds_of X body y.natures (graph_of X body) f.fit

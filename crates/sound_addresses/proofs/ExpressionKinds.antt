@@ -301,7 +301,7 @@ module _ (laid : LaidTree) (body path : ℕ) (locals : List LocalEntry) (defined
     codes_fit k (a_unary o t e p) h q =
         valued_fits laid body Call false p _
         (dull_code laid body Call (codes laid path (a_unary o t e p)).value
-        ((codes_fit (a_number t) e h.1 q).value, (tt, tt)))
+        ((codes_fit (a_number t) e h.1 q.1).value, (tt, tt)))
     codes_fit k (a_binary op t l r p) h q =
         binary_fits laid body Call (is_comparison op) op t p (codes laid path l).bare (implied l)
         (codes laid path r).bare (implied r) (codes_fit (a_number t) l h.3 q.0).bare
@@ -447,8 +447,9 @@ module _ (laid : LaidTree) (body path : ℕ) (locals : List LocalEntry) (defined
 
     inputs_fit : (ns : List ℕ) (es : RvalueTrees) → AreArguments w ns es → AllMention defined calls es
         → InputsFit laid body Call (inputs laid path es)
-    inputs_fit [] no_rvalues h q = tt
+    inputs_fit [] no_rvalues h q = ([], tt)
     inputs_fit (n ∷ ns) no_rvalues h q = absurd h
     inputs_fit [] (and_rvalue e es) h q = absurd h
     inputs_fit (n ∷ ns) (and_rvalue e es) h q =
-        ((codes_fit (kind_of_scalar h.0) e h.2 q.0).value, inputs_fit ns es h.3 q.1)
+        let rest = inputs_fit ns es h.3 q.1 in
+        (anything ∷ rest.0, ((codes_fit (kind_of_scalar h.0) e h.2 q.0).value, rest.1))

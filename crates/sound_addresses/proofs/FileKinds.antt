@@ -42,31 +42,11 @@ shifted_read laid (Pointers.To o k) z = refl
 
 addressed_read : (laid : LaidTree) (op : Operation) (t : Temps) → IsAddressed laid op t
     → IsAddressed (read_layout laid) op t
-addressed_read laid Op.Skip t h = tt
-addressed_read laid (Op.Const to value) t h = tt
-addressed_read laid (Op.Copy to from) t h = tt
-addressed_read laid (Op.Un to operator of from place) t h = tt
-addressed_read laid (Op.Bin to operator of left right place) t h = tt
-addressed_read laid (Op.BinPointers to equal left right) t h = tt
-addressed_read laid (Op.Convert to was of from) t h = tt
-addressed_read laid (Op.Base to object) t h = tt
 addressed_read laid (Op.Offset to from cells) t h =
     subst (λ o. IsSome o) (sym (shifted_read laid (pointer_of (t from)) (pos cells))) h
 addressed_read laid (Op.Index to from length' cells by place) t h =
     subst (λ o. IsSome o) (sym (shifted_read laid (pointer_of (t from)) (number_of (t by) *ℤ pos cells))) h
-addressed_read laid (Op.Move to from cells minus by place) t h = tt
-addressed_read laid (Op.Deref to from target path place) t h = tt
-addressed_read laid (Op.Load to address scalar place) t h = tt
-addressed_read laid (Op.LoadAny to address scalar place) t h = tt
-addressed_read laid (Op.Store address value scalar into place) t h = tt
-addressed_read laid (Op.Any to low high) t h = tt
-addressed_read laid (Op.Clear object) t h = tt
-addressed_read laid (Op.Usable pointer place) t h = tt
-addressed_read laid (Op.Assume test) t h = tt
-addressed_read laid (Op.Lock mutex place) t h = tt
-addressed_read laid (Op.Unlock mutex place) t h = tt
-addressed_read laid Op.Yield t h = tt
-addressed_read laid (Op.Probe to mutex place) t h = tt
+addressed_read laid _ t h = tt
 
 comes_read : (laid : LaidTree) (g : Edges) {node : ℕ} {temps : Temps} → Comes (read_layout laid) g node temps
     → Comes laid g node temps

@@ -31,29 +31,9 @@ IsDull (Op.Index to from length' cells by place) = ⊥
 IsDull op = Unit {0}
 
 dull_addressed : (laid : LaidTree) (op : Operation) → IsDull op → (t : Temps) → IsAddressed laid op t
-dull_addressed laid Op.Skip d t = tt
-dull_addressed laid (Op.Const to value) d t = tt
-dull_addressed laid (Op.Copy to from) d t = tt
-dull_addressed laid (Op.Un to operator of from place) d t = tt
-dull_addressed laid (Op.Bin to operator of left right place) d t = tt
-dull_addressed laid (Op.BinPointers to equal left right) d t = tt
-dull_addressed laid (Op.Convert to was of from) d t = tt
-dull_addressed laid (Op.Base to object) d t = tt
 dull_addressed laid (Op.Offset to from cells) d t = absurd d
 dull_addressed laid (Op.Index to from length' cells by place) d t = absurd d
-dull_addressed laid (Op.Move to from cells minus by place) d t = tt
-dull_addressed laid (Op.Deref to from target path place) d t = tt
-dull_addressed laid (Op.Load to address scalar place) d t = tt
-dull_addressed laid (Op.LoadAny to address scalar place) d t = tt
-dull_addressed laid (Op.Store address value scalar into place) d t = tt
-dull_addressed laid (Op.Any to low high) d t = tt
-dull_addressed laid (Op.Clear object) d t = tt
-dull_addressed laid (Op.Usable pointer place) d t = tt
-dull_addressed laid (Op.Assume test) d t = tt
-dull_addressed laid (Op.Lock mutex place) d t = tt
-dull_addressed laid (Op.Unlock mutex place) d t = tt
-dull_addressed laid Op.Yield d t = tt
-dull_addressed laid (Op.Probe to mutex place) d t = tt
+dull_addressed laid _ d t = tt
 
 -- ## What is given
 

@@ -14,7 +14,7 @@ use Rattle.operation_laws.specs.tm_typed.TypedStatements.{GivenTree, LocalInitia
 use Rattle.operation_laws.specs.tm_typed.TypedStatements.{evaluates, declares}
 use Rattle.operation_laws.specs.tm_typed.TypedStatements.{runs_block, branches, branches_else, loops_while, loops_do}
 use Rattle.operation_laws.specs.tm_typed.TypedStatements.{loops_for}
-use Rattle.operation_laws.specs.tm_typed.TypedStatements.{selects, breaks, continues, returns, locks, unlocks, yields}
+use Rattle.operation_laws.specs.tm_typed.TypedStatements.{selects, breaks, continues, returns}
 use Rattle.operation_laws.specs.tm_typed.TypedStatements.{TypedTrees}
 use Rattle.operation_laws.specs.tm_typed.TypedStatements.{no_statements, and_statement, a_label, a_default_label}
 use Rattle.operation_laws.specs.tm_typed.TypedStatements.{a_labelled_step}
@@ -58,7 +58,7 @@ module _ (laid : LaidTree) (body path : ℕ) (locals : List LocalEntry) (defined
       → AnySteps laid body C (effect_steps laid path e)
   effect_fits None h q = ([], refl)
   effect_fits (Some e) h q =
-      ([], (None, (codes_fit laid body path locals defined calls stage h.0 e h.1 q).value, refl))
+      ([], (None, (Some anything, (codes_fit laid body path locals defined calls stage h.0 e h.1 q).value), refl))
 
   test_fits : (e : Option RvalueTree) → IfGiven (IsTest W) e → MayMention defined calls e
       → MaybeFork laid body C (optional_fork laid path e)
@@ -69,7 +69,7 @@ module _ (laid : LaidTree) (body path : ℕ) (locals : List LocalEntry) (defined
       → MaybeCode laid body C (optional_code laid path e)
   returned_fits None h q = tt
   returned_fits (Some e) h q =
-      (codes_fit laid body path locals defined calls stage (kind_of_scalar h.0) e h.2 q).value
+      (anything, (codes_fit laid body path locals defined calls stage (kind_of_scalar h.0) e h.2 q).value, refl)
 
   -- ## Declarations
 
@@ -122,6 +122,7 @@ module _ (laid : LaidTree) (body path : ℕ) (locals : List LocalEntry) (defined
         (Some anything, h, (None, tt, refl)),
       ),
     ),
+    tt,
   )
 
   cells_fit : (o t : ℕ) (p : Place) (n k : ℕ) (gs : List GivenTree) → IsPlace laid body o 0 t
@@ -131,8 +132,11 @@ module _ (laid : LaidTree) (body path : ℕ) (locals : List LocalEntry) (defined
   cells_fit o t p zero k gs l le h rest f = f
   cells_fit o t p (suc n) k gs l le h rest f = (
     None,
-    cell_fits (is_alone laid path o k) o t p k (scalar_at laid o k) _ l (omega (arith, le))
-        (cell_value_fits (scalar_at laid o k) (is_given k gs) gs h),
+    (
+      Some anything,
+      cell_fits (is_alone laid path o k) o t p k (scalar_at laid o k) _ l (omega (arith, le))
+          (cell_value_fits (scalar_at laid o k) (is_given k gs) gs h),
+    ),
     cells_fit o t p n (suc k) (rest_of (is_given k gs) gs) l (omega (arith, le)) (rest_given (is_given k gs) gs h)
         rest f,
   )
@@ -177,13 +181,12 @@ module _ (laid : LaidTree) (body path : ℕ) (locals : List LocalEntry) (defined
     plan_fits (loops_for f c e s) h q =
         (plan_fits f h.0 q.0, (test_fits c h.1 q.1, effect_fits e h.2 q.2, plan_fits s h.3 q.3))
     plan_fits (selects t e cs) h q =
-        ((codes_fit laid body path locals defined calls stage (a_number t) e h.0 q.0).value, parts_fit cs h.1 q.1)
+        let v = (codes_fit laid body path locals defined calls stage (a_number t) e h.0 q.0).value in
+        (anything, tt, v, parts_fit cs h.1 q.1)
     plan_fits breaks h q = tt
     plan_fits continues h q = tt
     plan_fits (returns e) h q = returned_fits e h q
-    plan_fits (locks m p) h q = ([], (None, tt, refl))
-    plan_fits (unlocks m p) h q = ([], (None, tt, refl))
-    plan_fits yields h q = ([], (None, tt, refl))
+    plan_fits _ h q = ([], (None, tt, refl))
 
     pub plans_fit : (ss : TypedTrees) → AreStatements W result ss → StatementsMention defined calls ss
         → PlanFits laid body C (plans laid path ss)

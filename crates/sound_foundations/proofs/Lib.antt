@@ -1,12 +1,4 @@
--- Typed trees in which `~` works in no `_Bool` (WorkingRules, WorkingTyping, WorkingSteps, WorkingFiles), the
--- operations that are built of them (FittingSteps, FittingGraphs), the graphs of files (Founded), and which temporaries
--- are told to hold pointers (Truths).
-pub mod WorkingRules
-pub mod WorkingTyping
-pub mod WorkingSteps
-pub mod WorkingFiles
-pub mod FittingSteps
-pub mod FittingGraphs
+-- What the graphs of files keep (Founded), and which temporaries are told to hold pointers (Truths).
 pub mod Founded
 pub mod Truths
 pub mod low

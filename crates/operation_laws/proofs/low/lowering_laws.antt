@@ -5,3 +5,4 @@ pub use Rattle.lowering_laws.proofs.GraphLaws
 pub use Rattle.lowering_laws.proofs.Lowered
 pub use Rattle.lowering_laws.proofs.Ranges
 pub use Rattle.lowering_laws.proofs.TableGraphs
+pub use Rattle.lowering_laws.proofs.TypedGraphs
