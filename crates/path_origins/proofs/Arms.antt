@@ -1,5 +1,6 @@
 -- Statements of each kind, once their parts are walked.
-use Rattle.std.proofs.Common.{◌≡◌, ℕ, zero, suc, ◌+◌, Bool, true, false, List, length, map, Option, Some, None, Result, refl, ap}
+use Rattle.std.proofs.Common.{◌≡◌, ℕ, zero, suc, ◌+◌, Bool, true, false, List, length, map, Option, Some, None, Result}
+use Rattle.std.proofs.Common.{refl, ap}
 use Rattle.std.proofs.Common.{sym, ◌∙◌, add-zero, zero-add}
 use Rattle.std.specs.Prelude.{Box, OnOk}
 use Rattle.std.specs.declared.alloc.Global.{Global}
@@ -15,7 +16,8 @@ use Rattle.tm_typed.specs.declared.statements.TypedSwitchPart.{TypedSwitchPart}
 use Rattle.tm_typed.specs.declared.statements.TypedSwitchPart.TheVariants as Parts
 use Rattle.tm_typed.specs.TypedTrees.{RvalueTree, rvalue_tree}
 use Rattle.tm_typed.specs.TypedStatements.{typed_tree, as_typed_trees, typed_case, as_typed_cases, local_tree}
-use Rattle.tm_typed.specs.TypedStatements.{optional_rvalue_tree, runs_block, selects, branches, branches_else, loops_while}
+use Rattle.tm_typed.specs.TypedStatements.{optional_rvalue_tree, runs_block, selects, branches, branches_else}
+use Rattle.tm_typed.specs.TypedStatements.{loops_while}
 use Rattle.tm_typed.specs.TypedStatements.{loops_do, loops_for}
 use Rattle.tm_typed.proofs.TypedStatementTrees.{typed_tree-block}
 use Rattle.tm_typed.specs.declared.types.CType.{CType}
@@ -31,13 +33,15 @@ use Rattle.path_origins.specs.declared.types.Given.{Given}
 use Rattle.path_origins.specs.Types.{given, differs}
 use Rattle.path_origins.specs.Expressions.{walked}
 use Rattle.path_origins.specs.Noted.{Noted, nothing, behind, one, skips, passing_if}
-use Rattle.path_origins.specs.Statements.{Left, goes_on, left_behind, in_turn, then_noted, nowhere, statement, statements}
+use Rattle.path_origins.specs.Statements.{Left, goes_on, left_behind, in_turn, then_noted, nowhere, statement}
+use Rattle.path_origins.specs.Statements.{statements}
 use Rattle.path_origins.specs.Statements.{case_of, cases, skip, test_of, value_of, effect_of, entered, outs, returned}
 use Rattle.path_origins.specs.Statements.{all_declared, continued, closed, exit_of, has_default, labels_tested}
 use Rattle.path_origins.specs.Bodies.{fallen, closing, is_task_path, noted_body, noted_path}
 use Rattle.path_origins.specs.Shown.{shown}
 use Rattle.path_origins.specs.reading.Walks.{IsBehind, IsLeftBehind, sequenced_from, scoped_from}
-use Rattle.path_origins.specs.reading.Leaving.{with_break, with_return, inside_of, chosen_in, behind_loop, behind_choice}
+use Rattle.path_origins.specs.reading.Leaving.{with_break, with_return, inside_of, chosen_in, behind_loop}
+use Rattle.path_origins.specs.reading.Leaving.{behind_choice}
 use Rattle.path_origins.specs.reading.Leaving.{IsClosed, turns_met}
 use Rattle.path_origins.specs.reading.Leaving.{loop_end, gone_on, labels_noted, is_default_among, select_end}
 use Rattle.path_origins.specs.reading.Leaving.{body_noted, function_noted}

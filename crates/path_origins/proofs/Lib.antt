@@ -8,6 +8,9 @@ pub mod Leaving
 pub mod Cells
 -- What is noted of expressions, step by step.
 pub mod Values
+-- What the arms of the walk read, and those of operators and of what changes objects.
+pub mod ReadTrees
+pub mod Computing
 -- What is noted of calls.
 pub mod Calls
 -- What the functions that note need.

@@ -1,35 +1,38 @@
 -- What is noted of expressions for their values and as branches, step by step: a was noted before, and each further
 -- name stands for what is noted behind the next step.
 use Rattle.std.proofs.Common.{◌≡◌, ◌⊎◌, inl, inr, ℕ, suc, Bool, true, false, List, [], ◌∷◌, length, refl, ap, sym, ◌∙◌}
-use Rattle.std.proofs.Common.{ap₂}
-use Rattle.std.specs.Prelude.{ℤ, cond}
+use Rattle.std.proofs.Common.{ap₂, Result}
+use Rattle.std.proofs.lemmas.Result.{on_ok_weaker, IfOk-weaker}
+use Rattle.std.specs.Prelude.{ℤ, cond, IfOk, OnOk}
 use Rattle.tm_terms.specs.declared.places.Place.{Place}
 use Rattle.tm_typed.specs.declared.expressions.Rvalue.{Rvalue}
 use Rattle.tm_typed.specs.declared.expressions.Lvalue.{Lvalue}
 use Rattle.tm_typed.specs.declared.types.Qualified.{Qualified}
-use Rattle.tm_typed.specs.TypedTrees.{RvalueTree, RvalueTrees, a_folded, a_function_call, as_rvalues, rvalue_tree}
-use Rattle.tm_typed.specs.TypedTrees.{lvalue_tree}
+use Rattle.tm_typed.specs.TypedTrees.{RvalueTree, RvalueTrees, LvalueTree, a_folded, a_function_call, as_rvalues}
+use Rattle.tm_typed.specs.TypedTrees.{rvalue_tree, lvalue_tree}
 use Rattle.tm_laid.specs.Layouts.{LaidTree, callee}
 use Rattle.body_builder.specs.concrete_steps.NextAction.{function_at}
 use Rattle.body_builder.specs.concrete_steps.Places.{rvalue_place, result_type}
 use Rattle.path_origins.specs.declared.origins.Form.{Form}
 use Rattle.path_origins.specs.declared.origins.Form.TheVariants as Forms
+use Rattle.path_origins.specs.declared.origins.Passed.TheVariants as Passes
 use Rattle.path_origins.specs.declared.origins.Span.{Span}
 use Rattle.path_origins.specs.declared.walks.Wanted.{Wanted}
 use Rattle.path_origins.specs.declared.walks.Wanted.TheVariants as Wants
 use Rattle.path_origins.specs.declared.types.Given.{Given}
-use Rattle.path_origins.specs.Types.{given, type_of, given_by, is_pointer}
+use Rattle.path_origins.specs.Types.{given, type_of, given_by, is_pointer, has_value, casts_number}
 use Rattle.path_origins.specs.Noted.{Noted, nothing, behind, both, sequenced, scoped, passing_if, one, one_if, skips}
-use Rattle.path_origins.specs.Noted.{stored}
+use Rattle.path_origins.specs.Noted.{stored, enumerating_if}
 use Rattle.path_origins.specs.Expressions.{all_arguments, walked, addressed, valued, decided, met, converted_if}
-use Rattle.path_origins.specs.Expressions.{tested, operated, compared}
+use Rattle.path_origins.specs.Expressions.{tested, operated, compared, against}
 use Rattle.path_origins.specs.Expressions.{changed, called, count_of}
-use Rattle.path_origins.specs.reading.Walks.{by_wanted, end_by, decided_by, operands_added}
-use Rattle.path_origins.specs.reading.Walks.{sequenced_from, stored_from}
+use Rattle.path_origins.specs.reading.Walks.{by_wanted, end_by, decided_by, operands_added, reload_added}
+use Rattle.path_origins.specs.reading.Walks.{sequenced_from, stored_from, right_added}
 use Rattle.path_origins.specs.reading.Ends.{converted_end, operator_end, equality_end, change_end}
 use Rattle.path_origins.specs.reading.Ends.{stores_and_body}
 use Rattle.path_origins.proofs.Laws.{behind_behind, behind_nothing, then_behind, value_ended, value_noted, fork_noted}
-use Rattle.path_origins.proofs.Beside.{both_noted, stored_noted, sequenced_noted, passing_noted}
+use Rattle.path_origins.proofs.Beside.{both_noted, stored_noted, sequenced_noted, passing_noted, given_noted}
+use Rattle.path_origins.proofs.Beside.{against_noted, span_is}
 
 -- ## Steps in a row
 
@@ -41,6 +44,31 @@ three_behind a b c d x y z e f g = then_behind a b d x (behind y z) e (then_behi
 pub as_one : (p : Place) (f : Form) (is has : Bool) (a b : Noted) → is ≡ has → b ≡ behind a (one_if is p f)
     → b ≡ behind a (one_if has p f)
 as_one p f is has a b e h = h ∙ ap (λ k. behind a (one_if k p f)) e
+
+-- what is passed and what stands against what are noted apart
+passed_beside : (is : Bool) (q p : Place) (first second : Span) (x : Noted)
+    → passing_if is q (operands_added p first second x) ≡ operands_added p first second (passing_if is q x)
+passed_beside true q p first second x = refl
+passed_beside false q p first second x = refl
+
+-- two operands, of which the second one stands against the first
+pub both_against : (p : Place) (first second : Span) (a b c x y : Noted) → b ≡ behind a x → first.first ≡ a.size
+    → first.end ≡ b.size → second.first ≡ b.size → second.end ≡ c.size
+    → c ≡ operands_added p first second (behind b y) → c ≡ behind a (both p x y)
+both_against p first second a b c x y eb e1 e2 e3 e4 ec =
+    both_noted p first second a b (behind b y) c x y eb refl e1 e2 e3 (e4 ∙ ap (λ z. z.size) ec) ec
+
+-- the right side of `op=`, step by step
+pub right_steps : (p : Place) (edges right : Span) (a b c d l r : Noted) → b ≡ behind a l → c ≡ behind b r
+    → right.first ≡ b.size → right.end ≡ c.size
+    → d ≡ reload_added p a.size right (operands_added p edges right c) → d ≡ right_added p edges a l r
+right_steps p edges right a b c d l r eb ec e1 e2 ed =
+    let y : Noted = behind a l in
+    let z : Noted = behind y r in
+    let own : Span = record { first = y.size; end = z.size } in
+    let whole : c ≡ z = ec ∙ ap (λ v. behind v r) eb in
+    let same : right ≡ own = span_is right own (e1 ∙ ap (λ v. v.size) eb) (e2 ∙ ap (λ v. v.size) whole) in
+    ed ∙ ap₂ (λ (s : Span) (v : Noted). reload_added p a.size s (operands_added p edges s v)) same whole
 
 -- two edges on which control goes on
 two_skips : (p : Place) → skips p 2 ≡ behind (one p Forms.Skip) (one p Forms.Skip)
@@ -105,12 +133,36 @@ module _ (laid : LaidTree) (is_open : Place → Bool) (sizes : ℕ → ℕ) (pat
       value_noted laid is_open sizes path w pointer p a b c x first
       (second ∙ ap (λ r. behind b (end_by w pointer r)) place)
 
-  pub load_noted : (w : Wanted) (is pointer : Bool) (q p : Place) (a b c d x : Noted) → q ≡ p → is ≡ pointer
-      → b ≡ behind a x → c ≡ behind b (one q Forms.Load) → d ≡ behind c (end_by w is q)
-      → d ≡ behind a (by_wanted w (valued laid is_open sizes path pointer p (behind x (one p Forms.Load))))
-  load_noted w is pointer q p a b c d x place same e f g =
-      two_given w is pointer p a b c d x (one p Forms.Load) same e
-      (f ∙ ap (λ r. behind b (one r Forms.Load)) place) (g ∙ ap (λ r. behind c (end_by w is r)) place)
+  -- an edge and the end of its value, alone and behind a part
+  pub only_valued : (w : Wanted) (pointer : Bool) (p : Place) (f : Form) (a b : Noted)
+      → b ≡ behind a (behind (one p f) (end_by w pointer p))
+      → b ≡ behind a (by_wanted w (valued laid is_open sizes path pointer p (one p f)))
+  only_valued w pointer p f a b e = e ∙ ap (behind a) (value_ended laid is_open sizes path w pointer p (one p f))
+
+  pub edge_valued : (w : Wanted) (is pointer : Bool) (p : Place) (f : Form) (a b c x : Noted) → is ≡ pointer
+      → b ≡ behind a x → c ≡ behind b (behind (one p f) (end_by w is p))
+      → c ≡ behind a (by_wanted w (valued laid is_open sizes path pointer p (behind x (one p f))))
+  edge_valued w is pointer p f a b c x same e g =
+      two_given w is pointer p a b (behind b (one p f)) c x (one p f) same e refl
+      (g ∙ sym (behind_behind b (one p f) (end_by w is p)))
+
+  pub load_noted : (w : Wanted) (is pointer : Bool) (q p : Place) (a b c x : Noted) → q ≡ p → is ≡ pointer
+      → b ≡ behind a x → c ≡ behind b (behind (one q Forms.Load) (end_by w is q))
+      → c ≡ behind a (by_wanted w (valued laid is_open sizes path pointer p (behind x (one p Forms.Load))))
+  load_noted w is pointer q p a b c x place same e f =
+      edge_valued w is pointer p Forms.Load a b c x same e
+      (f ∙ ap (λ r. behind b (behind (one r Forms.Load) (end_by w is r))) place)
+
+  -- a value that is passed on, or cast
+  pub same_noted : (w : Wanted) (g h : Given) (is has : Bool) (p : Place) (a b c x : Noted) → g ≡ h → is ≡ has
+      → b ≡ behind a x → c ≡ behind (enumerating_if (casts_number is g) p b) (end_by w (is_pointer g) p)
+      → c ≡ behind a (by_wanted w (valued laid is_open sizes path (is_pointer h) p
+      (enumerating_if (casts_number has h) p x)))
+  same_noted w g h is has p a b c x gives same e f =
+      value_given w (is_pointer g) (is_pointer h) p a (enumerating_if (casts_number is g) p b) c
+      (enumerating_if (casts_number has h) p x) (ap is_pointer gives)
+      (given_noted (casts_number has h) Passes.Enumeration p a b (enumerating_if (casts_number is g) p b) x e
+      (ap₂ (λ i j. enumerating_if (casts_number i j) p b) same gives)) f
 
   -- what is folded
   pub folded_branch : (w : Wanted) (used : Bool) (z : ℤ) (e : RvalueTree) (a b : Noted) → w ≡ Wants.Branch
@@ -181,21 +233,29 @@ module _ (laid : LaidTree) (is_open : Place → Bool) (sizes : ℕ → ℕ) (pat
       (ap (behind c) (two_skips p))) (g ∙ sym (behind_behind c s (decided_by w p)))
 
   -- the condition, the first value and its copy, the second one and its copy, two edges, and the end
-  pub choice_noted : (w : Wanted) (is pointer : Bool) (p : Place) (n : ℕ) (copy : Bool)
-      (a b c d f g h i k x y z : Noted) → is ≡ pointer → n ≡ length a.pending → b ≡ behind a z
-      → c ≡ sequenced_from n b → d ≡ behind c x → f ≡ behind d (one_if copy p Forms.Copy) → g ≡ behind f y
-      → h ≡ behind g (one_if copy p Forms.Copy) → i ≡ behind h (skips p 2) → k ≡ behind i (end_by w is p)
-      → k ≡ behind a (by_wanted w (valued laid is_open sizes path pointer p (behind (sequenced z)
-      (behind (behind x (one_if copy p Forms.Copy)) (behind (behind y (one_if copy p Forms.Copy))
+  pub choice_noted : (w : Wanted) (g h : Given) (p : Place) (is : Bool) (a b c d f k x y z : Noted) → g ≡ h
+      → is ≡ has_value g → b ≡ behind a (sequenced z) → c ≡ behind b x → d ≡ behind c (one_if is p Forms.Copy)
+      → f ≡ behind d y → k ≡ behind f (behind (behind (one_if (has_value g) p Forms.Copy) (skips p 2))
+      (end_by w (is_pointer g) p))
+      → k ≡ behind a (by_wanted w (valued laid is_open sizes path (is_pointer h) p (behind (sequenced z)
+      (behind (behind x (one_if (has_value h) p Forms.Copy)) (behind (behind y (one_if (has_value h) p Forms.Copy))
       (met laid is_open sizes path p))))))
-  choice_noted w is pointer p n copy a b c d f g h i k x y z same first eb ec ed ef eg eh ei ek =
-      let copied = one_if copy p Forms.Copy in
-      value_given w is pointer p a i k (behind (sequenced z) (behind (behind x copied) (behind (behind y copied)
-      (met laid is_open sizes path p)))) same
-      (then_behind a c i (sequenced z) (behind (behind x copied) (behind (behind y copied)
-      (met laid is_open sizes path p))) (sequenced_noted n a b c z first eb ec)
-      (three_behind c f h i (behind x copied) (behind y copied) (met laid is_open sizes path p)
-      (then_behind c d f x copied ed ef) (then_behind f g h y copied eg eh) (ei ∙ ap (behind h) (two_skips p)))) ek
+  choice_noted w g h p is a b c d f k x y z gives same eb ec ed ef ek =
+      let copied = one_if (has_value g) p Forms.Copy in
+      let s : Noted = skips p 2 in
+      let meets : Noted = met laid is_open sizes path p in
+      let end = end_by w (is_pointer g) p in
+      let l : Noted = behind f copied in
+      let both_ways : Noted = behind (behind x copied) (behind (behind y copied) meets) in
+      value_noted laid is_open sizes path w (is_pointer g) p a (behind l s) k (behind (sequenced z) both_ways)
+      (then_behind a b (behind l s) (sequenced z) both_ways eb
+      (three_behind b d l (behind l s) (behind x copied) (behind y copied) meets
+      (then_behind b c d x copied ec (ed ∙ ap (λ i. behind c (one_if i p Forms.Copy)) same))
+      (then_behind d f l y copied ef refl) (ap (behind l) (two_skips p))))
+      (ek ∙ sym (behind_behind f (behind copied s) end) ∙ ap (λ v. behind v end) (sym (behind_behind f copied s)))
+      ∙ ap (λ v. behind a (by_wanted w (valued laid is_open sizes path (is_pointer v) p (behind (sequenced z)
+      (behind (behind x (one_if (has_value v) p Forms.Copy)) (behind (behind y (one_if (has_value v) p Forms.Copy))
+      (met laid is_open sizes path p))))))) gives
 
   -- the arguments, their stores with the body of the path, and the end
   pub call_noted : (w : Wanted) (is pointer : Bool) (p : Place) (to count n : ℕ) (used : Bool) (a b c d x : Noted)
@@ -237,6 +297,21 @@ module _ (laid : LaidTree) (is_open : Place → Bool) (sizes : ℕ → ℕ) (pat
       (ec ∙ ap (λ k. behind b (scoped (stores_and_body laid is_open sizes path k used n p))) goes) ed
       ∙ ap (λ v. behind a (by_wanted w (walked laid is_open sizes path used v))) (sym tree)
 
+  -- the same, where one call notes all behind the arguments
+  pub call_ended : (w : Wanted) (used : Bool) (u : RvalueTree) (f site : ℕ) (p : Place) (xs : List Rvalue) (to n : ℕ)
+      (a b c : Noted) → u ≡ a_function_call f site (as_rvalues xs) p → to ≡ callee laid path site → n ≡ length xs
+      → b ≡ behind a (sequenced (all_arguments laid is_open sizes path p (function_at laid to).parameters true nothing
+      (as_rvalues xs)))
+      → c ≡ behind b (behind (scoped (stores_and_body laid is_open sizes path to used n p))
+      (end_by w (is_pointer (given_by (function_at laid to).result (result_type laid (function_at laid to)))) p))
+      → c ≡ behind a (by_wanted w (walked laid is_open sizes path used u))
+  call_ended w used u f site p xs to n a b c tree goes counted eb ec =
+      let s : Noted = scoped (stores_and_body laid is_open sizes path to used n p) in
+      let g = given_by (function_at laid to).result (result_type laid (function_at laid to)) in
+      call_read w used u f site p xs to n (is_pointer g) a b (behind b s) c tree goes
+      (ap is_pointer (call_given u f site p (as_rvalues xs) to g tree goes refl)) counted eb refl
+      (ec ∙ sym (behind_behind b s (end_by w (is_pointer g) p)))
+
   -- ## Operators
 
   operator_ended : (comparison unsigned : Bool) (w : Wanted) (p : Place) (x : Noted)
@@ -250,7 +325,7 @@ module _ (laid : LaidTree) (is_open : Place → Bool) (sizes : ℕ → ℕ) (pat
       ∙ value_ended laid is_open sizes path w false p (behind x (one p (Forms.Binary unsigned)))
 
   -- both operands with their edges, the conversions of both, and the operator
-  pub binary_noted : (comparison unsigned : Bool) (w : Wanted) (p pl pr : Place) (il ir : Bool) (a b c d f x : Noted)
+  binary_noted : (comparison unsigned : Bool) (w : Wanted) (p pl pr : Place) (il ir : Bool) (a b c d f x : Noted)
       → b ≡ behind a x → c ≡ behind b (one_if il pl Forms.Conversion)
       → d ≡ behind c (one_if ir pr Forms.Conversion) → f ≡ behind d (operator_end comparison unsigned w p)
       → f ≡ behind a (by_wanted w (operated laid is_open sizes path comparison unsigned p
@@ -262,6 +337,18 @@ module _ (laid : LaidTree) (is_open : Place → Bool) (sizes : ℕ → ℕ) (pat
       then_behind a d f z (operator_end comparison unsigned w p)
       (then_behind a c d (behind x l) r (then_behind a b c x l eb ec) ed) ef
       ∙ ap (behind a) (operator_ended comparison unsigned w p z)
+
+  pub binary_ended : (comparison unsigned : Bool) (w : Wanted) (p pl pr : Place) (il ir : Bool) (a b c x : Noted)
+      → b ≡ behind a x → c ≡ behind b (behind (behind (one_if il pl Forms.Conversion)
+      (one_if ir pr Forms.Conversion)) (operator_end comparison unsigned w p))
+      → c ≡ behind a (by_wanted w (operated laid is_open sizes path comparison unsigned p
+      (behind (behind x (one_if il pl Forms.Conversion)) (one_if ir pr Forms.Conversion))))
+  binary_ended comparison unsigned w p pl pr il ir a b c x eb ec =
+      let l = one_if il pl Forms.Conversion in
+      let r = one_if ir pr Forms.Conversion in
+      let end = operator_end comparison unsigned w p in
+      binary_noted comparison unsigned w p pl pr il ir a b (behind b l) (behind (behind b l) r) c x eb refl refl
+      (ec ∙ sym (behind_behind b (behind l r) end) ∙ ap (λ v. behind v end) (sym (behind_behind b l r)))
 
   equality_ended : (w : Wanted) (p : Place) (x : Noted)
       → behind (behind x (behind (one p Forms.Usable) (one p Forms.Usable))) (equality_end w p)
@@ -290,7 +377,7 @@ module _ (laid : LaidTree) (is_open : Place → Bool) (sizes : ℕ → ℕ) (pat
   -- ## What changes objects
 
   -- the address, the value, a pointer that is passed, both with their edges, the store, and the end
-  pub assignment_noted : (w : Wanted) (is pointer : Bool) (p q : Place) (n : ℕ) (passed passes : Bool)
+  assignment_noted : (w : Wanted) (is pointer : Bool) (p q : Place) (n : ℕ) (passed passes : Bool)
       (first second : Span) (a b c d f g h x y : Noted) → is ≡ pointer → passed ≡ passes → n ≡ length a.pending
       → b ≡ behind a x → c ≡ behind b y → d ≡ passing_if passed q c → first.first ≡ a.size → first.end ≡ b.size
       → second.first ≡ b.size → second.end ≡ c.size → f ≡ operands_added p first second d
@@ -306,6 +393,19 @@ module _ (laid : LaidTree) (is_open : Place → Bool) (sizes : ℕ → ℕ) (pat
       (stored_noted n p a f g (both p x given) before
       (both_noted p first second a b d f x given eb (passing_noted passes q b c d y ec dd) e1 e2 e3 end ef) eg) eh
 
+  pub assigned : (w : Wanted) (is pointer : Bool) (p q : Place) (n : ℕ) (passed passes : Bool) (first second : Span)
+      (a b c d f x y : Noted) → is ≡ pointer → passed ≡ passes → n ≡ length a.pending → b ≡ behind a x
+      → first.first ≡ a.size → first.end ≡ b.size → second.first ≡ b.size → second.end ≡ c.size
+      → c ≡ operands_added p first second (behind b y) → d ≡ passing_if passed q c
+      → f ≡ behind (stored_from n p d) (end_by w is p)
+      → f ≡ behind a (by_wanted w (valued laid is_open sizes path pointer p
+      (stored p (both p x (passing_if passes q y)))))
+  assigned w is pointer p q n passed passes first second a b c d f x y same other before eb e1 e2 e3 e4 ec ed ef =
+      let z : Noted = behind b y in
+      assignment_noted w is pointer p q n passed passes first second a b z (passing_if passed q z) d
+      (stored_from n p d) f x y same other before eb refl refl e1 e2 e3 (e4 ∙ ap (λ k. k.size) ec)
+      (ed ∙ (ap (passing_if passed q) ec ∙ passed_beside passed q p first second z)) refl ef
+
   -- conversions of both sides, the operator, and a conversion back
   in_turn : (y k l m o : Noted)
       → behind y (behind (behind (behind k l) m) o) ≡ behind (behind (behind (behind y k) l) m) o
@@ -314,7 +414,7 @@ module _ (laid : LaidTree) (is_open : Place → Bool) (sizes : ℕ → ℕ) (pat
       ∙ ap (λ z. behind z o) (sym (behind_behind y (behind k l) m)
       ∙ ap (λ z. behind z m) (sym (behind_behind y k l)))
 
-  pub change_noted : (p at behind_it : Place) (n : ℕ) (unsigned loaded operand back : Bool) (a b c x : Noted)
+  change_noted : (p at behind_it : Place) (n : ℕ) (unsigned loaded operand back : Bool) (a b c x : Noted)
       → n ≡ length a.pending → b ≡ behind a x
       → c ≡ stored_from n p (behind b (change_end unsigned loaded at operand behind_it back p))
       → c ≡ behind a (changed laid is_open sizes path unsigned loaded at operand behind_it back p x)
@@ -328,7 +428,7 @@ module _ (laid : LaidTree) (is_open : Place → Bool) (sizes : ℕ → ℕ) (pat
       (then_behind a b (behind b end) x end e refl ∙ ap (behind a) (in_turn x l r operator o)) f
 
   -- an operator with its operand is stored, and the end
-  pub compound_noted : (w : Wanted) (p at behind_it : Place) (n : ℕ) (found unsigned : Bool)
+  compound_noted : (w : Wanted) (p at behind_it : Place) (n : ℕ) (found unsigned : Bool)
       (loaded operand operates back : Bool) (a b c d x : Noted) → found ≡ unsigned → operand ≡ operates
       → n ≡ length a.pending → b ≡ behind a x
       → c ≡ stored_from n p (behind b (change_end found loaded at operand behind_it back p))
@@ -341,8 +441,20 @@ module _ (laid : LaidTree) (is_open : Place → Bool) (sizes : ℕ → ℕ) (pat
       (change_noted p at behind_it n unsigned loaded operates back a b c x before eb
       (ec ∙ ap₂ (λ u k. stored_from n p (behind b (change_end u loaded at k behind_it back p))) other same)) ed
 
+  pub compound_ended : (w : Wanted) (p at behind_it : Place) (n : ℕ) (found unsigned : Bool)
+      (loaded operand operates back : Bool) (a b c x : Noted) → found ≡ unsigned → operand ≡ operates
+      → n ≡ length a.pending → b ≡ behind a x
+      → c ≡ behind (stored_from n p (behind b (change_end found loaded at operand behind_it back p)))
+      (end_by w false p)
+      → c ≡ behind a (by_wanted w (valued laid is_open sizes path false p
+      (changed laid is_open sizes path unsigned loaded at operates behind_it back p x)))
+  compound_ended w p at behind_it n found unsigned loaded operand operates back a b c x other same before eb ec =
+      compound_noted w p at behind_it n found unsigned loaded operand operates back a b
+      (stored_from n p (behind b
+      (change_end found loaded at operand behind_it back p))) c x other same before eb refl ec
+
   -- a pointer is moved and stored, and the end
-  pub moved_noted : (w : Wanted) (p : Place) (n k m : ℕ) (a b c d f x : Noted) → k ≡ m → n ≡ length a.pending
+  moved_noted : (w : Wanted) (p : Place) (n k m : ℕ) (a b c d f x : Noted) → k ≡ m → n ≡ length a.pending
       → b ≡ behind a x → c ≡ behind b (one p (Forms.Move k)) → d ≡ stored_from n p c
       → f ≡ behind d (end_by w true p)
       → f ≡ behind a (by_wanted w (valued laid is_open sizes path true p
@@ -352,20 +464,50 @@ module _ (laid : LaidTree) (is_open : Place → Bool) (sizes : ℕ → ℕ) (pat
       (stored_noted n p a c d (behind x (one p (Forms.Move m))) before
       (then_behind a b c x (one p (Forms.Move m)) eb (ec ∙ ap (λ i. behind b (one p (Forms.Move i))) same)) ed) ef
 
--- ## Addresses
+  pub moved_ended : (w : Wanted) (p : Place) (n k m : ℕ) (a b c x : Noted) → k ≡ m → n ≡ length a.pending
+      → b ≡ behind a x → c ≡ behind (stored_from n p (behind b (one p (Forms.Move k)))) (end_by w true p)
+      → c ≡ behind a (by_wanted w (valued laid is_open sizes path true p
+      (stored p (behind x (one p (Forms.Move m))))))
+  moved_ended w p n k m a b c x same before eb ec =
+      moved_noted w p n k m a b (behind b (one p (Forms.Move k))) (stored_from n p (behind b (one p (Forms.Move k))))
+      c x same before eb refl refl ec
 
--- two operands with their edges, and an edge
-pub element_noted : (p : Place) (f : Form) (first second : Span) (a b c d g x y : Noted) → b ≡ behind a x
-    → c ≡ behind b y → first.first ≡ a.size → first.end ≡ b.size → second.first ≡ b.size → second.end ≡ c.size
-    → d ≡ operands_added p first second c → g ≡ behind d (one p f) → g ≡ behind a (behind (both p x y) (one p f))
-element_noted p f first second a b c d g x y eb ec e1 e2 e3 e4 ed eg =
-    then_behind a d g (both p x y) (one p f) (both_noted p first second a b c d x y eb ec e1 e2 e3 e4 ed) eg
+  -- the right side of `op=`, behind the address
+  pub right_noted : (p : Place) (edges : Span) (a b c x l r : Noted) → b ≡ behind a x → edges.first ≡ a.size
+      → edges.end ≡ b.size → c ≡ right_added p edges b l r → c ≡ behind a (against laid is_open sizes path p x l r)
+  right_noted p edges a b c x l r eb e1 e2 ec =
+      let y : Noted = behind b l in
+      let z : Noted = behind y r in
+      let right : Span = record { first = y.size; end = z.size } in
+      against_noted laid is_open sizes path p edges b.size right a b y z (operands_added p edges right z) c x l r eb
+      refl refl e1 e2 refl refl refl refl ec
 
--- the same with two edges
-pub subscript_noted : (p : Place) (f h : Form) (first second : Span) (a b c d g k x y : Noted) → b ≡ behind a x
-    → c ≡ behind b y → first.first ≡ a.size → first.end ≡ b.size → second.first ≡ b.size → second.end ≡ c.size
-    → d ≡ operands_added p first second c → g ≡ behind d (one p f) → k ≡ behind g (one p h)
-    → k ≡ behind a (behind (both p x y) (behind (one p f) (one p h)))
-subscript_noted p f h first second a b c d g k x y eb ec e1 e2 e3 e4 ed eg ek =
-    three_behind a d g k (both p x y) (one p f) (one p h)
-    (both_noted p first second a b c d x y eb ec e1 e2 e3 e4 ed) eg ek
+  -- ## What an arm of the walk reads, once the call with which it ends has noted and given something
+
+  pub ends_read : {T E P : Type 0} (r : Result T E) (w : Wanted) (used : Bool) (u : Rvalue) (e : RvalueTree)
+      (a b : Noted) → rvalue_tree u ≡ e → OnOk r P
+      → (P → b ≡ behind a (by_wanted w (walked laid is_open sizes path used e)))
+      → OnOk r (b ≡ behind a (by_wanted w (walked laid is_open sizes path used (rvalue_tree u))))
+  ends_read r w used u e a b is h f =
+      on_ok_weaker r (λ p. f p ∙ ap (λ (v : RvalueTree). behind a (by_wanted w (walked laid is_open sizes path used v)))
+      (sym is)) h
+
+  pub ends_given : {E : Type 0} (r : Result Given E) (u : Rvalue) (e : RvalueTree) (g : Given) → rvalue_tree u ≡ e
+      → IfOk r (λ x. x ≡ g) → g ≡ given laid is_open path e
+      → IfOk r (λ x. x ≡ given laid is_open path (rvalue_tree u))
+  ends_given r u e g is h gives =
+      IfOk-weaker r (λ x. x ≡ g) (λ x. x ≡ given laid is_open path (rvalue_tree u))
+      (λ x same. same ∙ (gives ∙ ap (given laid is_open path) (sym is))) h
+
+  pub ends_addressed : {T E P : Type 0} (r : Result T E) (u : Lvalue) (l : LvalueTree) (a b : Noted)
+      → lvalue_tree u ≡ l → OnOk r P → (P → b ≡ behind a (addressed laid is_open sizes path l))
+      → OnOk r (b ≡ behind a (addressed laid is_open sizes path (lvalue_tree u)))
+  ends_addressed r u l a b is h f =
+      on_ok_weaker r (λ p. f p ∙ ap (λ (v : LvalueTree). behind a (addressed laid is_open sizes path v)) (sym is)) h
+
+  pub ends_typed : {E : Type 0} (r : Result Qualified E) (u : Lvalue) (l : LvalueTree) (q : Qualified)
+      → lvalue_tree u ≡ l → IfOk r (λ x. x ≡ q) → q ≡ type_of laid is_open path l
+      → IfOk r (λ x. x ≡ type_of laid is_open path (lvalue_tree u))
+  ends_typed r u l q is h of =
+      IfOk-weaker r (λ x. x ≡ q) (λ x. x ≡ type_of laid is_open path (lvalue_tree u))
+      (λ x same. same ∙ (of ∙ ap (type_of laid is_open path) (sym is))) h

@@ -71,7 +71,8 @@ module _ (laid : LaidTree) (is_open : Place → Bool) (sizes : ℕ → ℕ) (pat
 
   -- the value of a cell, which is zero or null unless it is given
   abbrev pub cell_value : Qualified → Place → Bool → List GivenTree → Noted
-  cell_value q p true (g ∷ gs) = passing_if (differs (given laid is_open path g.value) (cell_type laid (record { of = q; cell = g.cell })))
+  cell_value q p true (g ∷ gs) = passing_if (differs (given laid is_open path g.value) (cell_type laid
+      (record { of = q; cell = g.cell })))
       (rvalue_place g.value) (walked laid is_open sizes path true g.value).value
   cell_value q p true [] = one p Forms.Constant
   cell_value q p false gs = one p Forms.Constant

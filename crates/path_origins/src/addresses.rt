@@ -2,8 +2,8 @@
 ghost use Rattle.std.specs.Prelude.{IfOk};
 ghost use Rattle.path_origins.specs.reading.Reading.{IsTyped, IsAddressed};
 
-use crate::expressions::{walk_part, walk_rvalue};
-use crate::notes::{note, note_operands, since};
+use crate::expressions::{walk_against, walk_part, walk_rvalue};
+use crate::notes::{note, note_type, note_type_behind, since};
 use crate::origins::{Form, Notes};
 use crate::types::{element_of, member_at, object_type};
 use crate::walks::{Here, Wanted};
@@ -35,10 +35,8 @@ pub(crate) fn walk_address(
             let begin = to.size;
             let of = walk_address(here, to, array)?;
             let base = since(to, begin);
-            let by = walk_part(here, to, index, Wanted::Value)?;
-            note_operands(to, *place, base, by.edges)?;
-            note(to, *place, Form::Element)?;
-            Ok(element_of(here.laid, of))
+            let _by = walk_against(here, to, base, index, Wanted::Value, *place)?;
+            note_type(to, *place, Form::Element, element_of(here.laid, of))
         }
         Lvalue::Subscript {
             pointer,
@@ -48,11 +46,9 @@ pub(crate) fn walk_address(
             ..
         } => {
             let base = walk_part(here, to, pointer, Wanted::Value)?;
-            let by = walk_part(here, to, index, Wanted::Value)?;
-            note_operands(to, *place, base.edges, by.edges)?;
-            note(to, *place, Form::Move(*target))?;
-            note(to, *place, Form::Follow)?;
-            Ok(base.given.followed(*target))
+            let _by = walk_against(here, to, base.edges, index, Wanted::Value, *place)?;
+            let of = base.given.followed(*target);
+            note_type_behind(to, *place, Form::Move(*target), Form::Follow, of)
         }
         Lvalue::Pointed {
             pointer,
@@ -60,8 +56,7 @@ pub(crate) fn walk_address(
             place,
         } => {
             let given = walk_rvalue(here, to, pointer, Wanted::Value, true)?;
-            note(to, *place, Form::Follow)?;
-            Ok(given.followed(*target))
+            note_type(to, *place, Form::Follow, given.followed(*target))
         }
         Lvalue::Arrow {
             pointer,
@@ -70,9 +65,8 @@ pub(crate) fn walk_address(
             place,
         } => {
             let given = walk_rvalue(here, to, pointer, Wanted::Value, true)?;
-            note(to, *place, Form::Follow)?;
-            note(to, *place, Form::Part)?;
-            Ok(member_at(here.laid, given.followed(*target), *cell))
+            let of = member_at(here.laid, given.followed(*target), *cell);
+            note_type_behind(to, *place, Form::Follow, Form::Part, of)
         }
         Lvalue::Member {
             structure,
@@ -80,8 +74,7 @@ pub(crate) fn walk_address(
             place,
         } => {
             let of = walk_address(here, to, structure)?;
-            note(to, *place, Form::Part)?;
-            Ok(member_at(here.laid, of, *cell))
+            note_type(to, *place, Form::Part, member_at(here.laid, of, *cell))
         }
     }
 }

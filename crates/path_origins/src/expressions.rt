@@ -7,13 +7,14 @@ ghost use Rattle.tm_terms.specs.declared.places.Place.{Place as APlace};
 ghost use Rattle.body_builder.specs.concrete_steps.NextAction.{function_at};
 ghost use Rattle.body_builder.specs.concrete_steps.Places.{rvalue_place, result_type};
 ghost use Rattle.body_builder.specs.lowering.Table.{implied};
-ghost use Rattle.path_origins.specs.Types.{given, given_by, pointer_to};
-ghost use Rattle.path_origins.specs.Noted.{behind, one_if, scoped, skips};
+ghost use Rattle.path_origins.specs.Types.{given, given_by, pointer_to, is_pointer, has_value, chosen, cast_if};
+ghost use Rattle.path_origins.specs.Types.{casts_number};
+ghost use Rattle.path_origins.specs.Noted.{behind, one_if, scoped, skips, enumerating_if};
 ghost use Rattle.path_origins.specs.Expressions.{walked};
 ghost use Rattle.path_origins.specs.Shown.{shown, sizes_in};
-ghost use Rattle.path_origins.specs.reading.Walks.{by_wanted, decided_by, IsBehind};
+ghost use Rattle.path_origins.specs.reading.Walks.{by_wanted, end_by, decided_by, IsBehind};
 ghost use Rattle.path_origins.specs.reading.Ends.{converted_end, stores, stores_and_body, life_from};
-ghost use Rattle.path_origins.specs.reading.Reading.{IsGiven, IsRead, IsTested, AreRead};
+ghost use Rattle.path_origins.specs.reading.Reading.{IsGiven, IsRead, IsReadAgainst, IsTested, AreRead};
 ghost use Rattle.path_origins.specs.Opens.{is_among};
 
 use crate::addresses::walk_address;
@@ -22,8 +23,8 @@ use crate::lookups::{
     rvalue_place,
 };
 use crate::notes::{
-    end_scopes, note, note_against, note_body, note_end, note_fork_end, note_given, note_if,
-    note_life, note_passing, note_skips, sequence, since,
+    end_scopes, end_with, note, note_against, note_body, note_end, note_fork_end, note_given,
+    note_if, note_life, note_operands, note_passing, note_skips, note_value, sequence, since,
 };
 use crate::operators::walk_operator;
 use crate::origins::{Form, Life, Notes, Passed, Span};
@@ -68,9 +69,7 @@ pub(crate) fn walk_rvalue(
 {
     match rvalue {
         Rvalue::Constant { place, .. } => {
-            note(to, *place, Form::Constant)?;
-            note_end(to, wanted, false, *place)?;
-            Ok(Given::Number)
+            note_value(to, *place, Form::Constant, wanted, false, Given::Number)
         }
         Rvalue::Folded { form, .. } => match wanted {
             Wanted::Branch => {
@@ -82,39 +81,35 @@ pub(crate) fn walk_rvalue(
                 Ok(Given::Number)
             }
         },
-        Rvalue::Null { place } => {
-            note(to, *place, Form::Constant)?;
-            note_end(to, wanted, true, *place)?;
-            Ok(Given::Null)
-        }
+        Rvalue::Null { place } => note_value(to, *place, Form::Constant, wanted, true, Given::Null),
         Rvalue::Load { scalar, lvalue, .. } => {
             let place = lvalue.place();
             let of = walk_address(here, to, lvalue)?;
-            note(to, place, Form::Load)?;
-            note_end(to, wanted, is_pointer_scalar(*scalar), place)?;
-            Ok(held_by(here.laid, *scalar, of))
+            let gives = held_by(here.laid, *scalar, of);
+            note_value(
+                to,
+                place,
+                Form::Load,
+                wanted,
+                is_pointer_scalar(*scalar),
+                gives,
+            )
         }
         Rvalue::Address { lvalue, place } => {
             let is_bare = is_same_place(*place, lvalue.place());
             let of = walk_address(here, to, lvalue)?;
-            note_end(to, wanted, true, *place)?;
-            Ok(pointer_to(here.laid, is_bare, of))
+            end_with(to, wanted, true, *place, pointer_to(here.laid, is_bare, of))
         }
         Rvalue::Structure { lvalue } => {
             let place = lvalue.place();
             let _of = walk_address(here, to, lvalue)?;
-            note_end(to, wanted, false, place)?;
-            Ok(Given::Nothing)
+            end_with(to, wanted, false, place, Given::Nothing)
         }
         Rvalue::Input { place, .. } => {
-            note(to, *place, Form::Any)?;
-            note_end(to, wanted, false, *place)?;
-            Ok(Given::Number)
+            note_value(to, *place, Form::Any, wanted, false, Given::Number)
         }
         Rvalue::Probe { place, .. } => {
-            note(to, *place, Form::Probe)?;
-            note_end(to, wanted, false, *place)?;
-            Ok(Given::Number)
+            note_value(to, *place, Form::Probe, wanted, false, Given::Number)
         }
         _ => walk_call(here, to, rvalue, wanted, used),
     }
@@ -137,10 +132,7 @@ fn walk_call(
     match rvalue {
         Rvalue::Same { value, place } => {
             let given = walk_rvalue(here, to, value, Wanted::Value, true)?;
-            let is_cast = here.opens.has(*place);
-            note_given(to, given.casts_number(is_cast), Passed::Enumeration, *place)?;
-            note_end(to, wanted, given.is_pointer(), *place)?;
-            Ok(given.cast_if(is_cast))
+            same_end(to, wanted, given, here.opens.has(*place), *place)
         }
         Rvalue::Call {
             site,
@@ -150,10 +142,7 @@ fn walk_call(
         } => {
             let path = callee(here.laid, here.path, *site);
             walk_arguments(here, to, path, arguments, *place)?;
-            note_call(here, to, path, arguments.len(), *place, used)?;
-            let given = given_by_call(here.laid, path);
-            note_end(to, wanted, given.is_pointer(), *place)?;
-            Ok(given)
+            call_end(here, to, path, arguments.len(), *place, wanted, used)
         }
         Rvalue::Convert {
             from,
@@ -163,13 +152,19 @@ fn walk_call(
         } => {
             let is_same = is_same_place(*place, rvalue_place(value));
             let given = walk_rvalue(here, to, value, Wanted::Value, true)?;
-            conversion_ends(to, wanted, is_same, *place, is_conversion(*from, *of))?;
-            Ok(converted(*of, is_same, given))
+            let gives = converted(*of, is_same, given);
+            conversion_end(
+                to,
+                wanted,
+                is_same,
+                *place,
+                is_conversion(*from, *of),
+                gives,
+            )
         }
         Rvalue::Discard { value, place } => {
             let _given = walk_rvalue(here, to, value, Wanted::Value, false)?;
-            note_end(to, wanted, false, *place)?;
-            Ok(Given::Nothing)
+            end_with(to, wanted, false, *place, Given::Nothing)
         }
         _ => walk_choice(here, to, rvalue, wanted, used),
     }
@@ -195,25 +190,21 @@ fn walk_choice(
             let _first = walk_rvalue(here, to, left, Wanted::Value, false)?;
             sequence(to, pending);
             let given = walk_rvalue(here, to, right, Wanted::Value, used)?;
-            note_end(to, wanted, given.is_pointer(), *place)?;
-            Ok(given)
+            end_with(to, wanted, given.is_pointer(), *place, given)
         }
         Rvalue::Not { value, place } => {
             let _given = walk_rvalue(here, to, value, Wanted::Branch, true)?;
-            note_fork_end(to, wanted, *place)?;
-            Ok(Given::Number)
+            fork_end(to, wanted, *place)
         }
         Rvalue::And { left, right, place } => {
             walk_tested(here, to, left)?;
             let _second = walk_rvalue(here, to, right, Wanted::Branch, true)?;
-            note_both_end(to, wanted, *place)?;
-            Ok(Given::Number)
+            both_end(to, wanted, *place)
         }
         Rvalue::Or { left, right, place } => {
             walk_tested(here, to, left)?;
             let _second = walk_rvalue(here, to, right, Wanted::Branch, true)?;
-            note_both_end(to, wanted, *place)?;
-            Ok(Given::Number)
+            both_end(to, wanted, *place)
         }
         Rvalue::Conditional {
             condition,
@@ -221,16 +212,11 @@ fn walk_choice(
             second,
             place,
         } => {
-            let pending = to.pending.len();
-            let _given = walk_rvalue(here, to, condition, Wanted::Branch, true)?;
-            sequence(to, pending);
+            walk_tested(here, to, condition)?;
             let one = walk_rvalue(here, to, first, Wanted::Value, used)?;
             note_if(to, one.has_value(), *place, Form::Copy)?;
             let other = walk_rvalue(here, to, second, Wanted::Value, used)?;
-            note_if(to, one.has_value(), *place, Form::Copy)?;
-            note_skips(to, *place, 2)?;
-            note_end(to, wanted, one.is_pointer(), *place)?;
-            Ok(one.or(other))
+            choice_end(to, wanted, one, other, *place)
         }
         _ => walk_operator(here, to, rvalue, wanted, used),
     }
@@ -248,13 +234,61 @@ fn walk_tested(here: &Here<'_>, to: &mut Notes, rvalue: &Rvalue) -> Result<(), N
     Ok(())
 }
 
+// A value that is passed on, or cast to an enumeration.
+fn same_end(
+    to: &mut Notes,
+    wanted: Wanted,
+    value: Given,
+    is_cast: bool,
+    place: Place,
+) -> Result<Given, NoMemory>
+    ensures noted { OnOk result (shown to.new ≡ behind (enumerating_if (casts_number is_cast value) place
+        (shown to.old)) (end_by wanted (is_pointer value) place)) }
+    ensures given { IfOk result (λ g. g ≡ cast_if is_cast value) }
+{
+    note_given(to, value.casts_number(is_cast), Passed::Enumeration, place)?;
+    end_with(
+        to,
+        wanted,
+        value.is_pointer(),
+        place,
+        value.cast_if(is_cast),
+    )
+}
+
+// The end of `!`.
+fn fork_end(to: &mut Notes, wanted: Wanted, place: Place) -> Result<Given, NoMemory>
+    ensures noted { OnOk result (IsBehind to.old to.new (decided_by wanted place)) }
+    ensures given { IfOk result (λ g. g ≡ Given.Number) }
+{
+    note_fork_end(to, wanted, place)?;
+    Ok(Given::Number)
+}
+
 // The end of `&&` or `||`, where its ways meet.
-fn note_both_end(to: &mut Notes, wanted: Wanted, place: Place) -> Result<(), NoMemory>
-    ensures { OnOk result (IsBehind to.old to.new (behind (skips place 2) (decided_by wanted place))) }
+fn both_end(to: &mut Notes, wanted: Wanted, place: Place) -> Result<Given, NoMemory>
+    ensures noted { OnOk result (IsBehind to.old to.new (behind (skips place 2) (decided_by wanted place))) }
+    ensures given { IfOk result (λ g. g ≡ Given.Number) }
 {
     note_skips(to, place, 2)?;
-    note_fork_end(to, wanted, place)?;
-    Ok(())
+    fork_end(to, wanted, place)
+}
+
+// The end of `?:` behind the second value, of which there is a copy if there is a first one.
+fn choice_end(
+    to: &mut Notes,
+    wanted: Wanted,
+    first: Given,
+    second: Given,
+    place: Place,
+) -> Result<Given, NoMemory>
+    ensures noted { OnOk result (IsBehind to.old to.new (behind (behind (one_if (has_value first) place Form.Copy)
+        (skips place 2)) (end_by wanted (is_pointer first) place))) }
+    ensures given { IfOk result (λ g. g ≡ chosen first second) }
+{
+    note_if(to, first.has_value(), place, Form::Copy)?;
+    note_skips(to, place, 2)?;
+    end_with(to, wanted, first.is_pointer(), place, first.or(second))
 }
 
 // A conversion, which an operator makes itself where it stands at the place of its operand.
@@ -279,6 +313,22 @@ fn conversion_ends(
             note_end(to, wanted, false, place)
         }
     }
+}
+
+// The same, of a value that gives this.
+fn conversion_end(
+    to: &mut Notes,
+    wanted: Wanted,
+    is_same: bool,
+    place: Place,
+    is: bool,
+    gives: Given,
+) -> Result<Given, NoMemory>
+    ensures noted { OnOk result (IsBehind to.old to.new (converted_end wanted is_same place is)) }
+    ensures given { IfOk result (λ g. g ≡ gives) }
+{
+    conversion_ends(to, wanted, is_same, place, is)?;
+    Ok(gives)
 }
 
 /// What is walked of an operand: what it gives, and its edges.
@@ -310,6 +360,27 @@ pub(crate) fn walk_part(
     })
 }
 
+/// An operand that stands against an earlier one with these edges, between which there is no sequence point.
+#[cycle(walk)]
+pub(crate) fn walk_against(
+    here: &Here<'_>,
+    to: &mut Notes,
+    first: Span,
+    rvalue: &Rvalue,
+    wanted: Wanted,
+    place: Place,
+) -> Result<Walked, NoMemory>
+    ensures noted { IfOk result (λ w. IsReadAgainst here.now.laid.now here.now.opens.now here.now.sizes.now
+        here.now.path wanted rvalue.now place first w.edges to.old to.new) }
+    ensures given { IfOk result (λ w. IsGiven here.now.laid.now here.now.opens.now here.now.path rvalue.now
+        w.given) }
+    ensures edges { IfOk result (λ w. (w.edges.first ≡ to.old.size) × (w.edges.end ≡ to.new.size)) }
+{
+    let walked = walk_part(here, to, rvalue, wanted)?;
+    note_operands(to, place, first, walked.edges)?;
+    Ok(walked)
+}
+
 /// The implied conversion of an operand.
 pub(crate) fn note_implied(to: &mut Notes, value: &Rvalue) -> Result<(), NoMemory>
     ensures { OnOk result (IsBehind to.old to.new (one_if (is_some (implied (rvalue_tree value.now)))
@@ -321,8 +392,8 @@ pub(crate) fn note_implied(to: &mut Notes, value: &Rvalue) -> Result<(), NoMemor
 // The pointer to an lvalue; or to the first element of an array, where no `&` stands (C99 6.3.2.1p3).
 #[tactic(auto, unfolding(body_builder::specs::Fragments::tree_in))]
 fn pointer_to(laid: &Laid, is_bare: bool, of: Qualified) -> Given
-    ensures { (o : APlace → Bool) (p : ℕ)
-        → result ≡ pointer_to (laid_tree laid.now) o p is_bare (entry_of (laid_tree laid.now).file of.number).ctype of }
+    ensures { (o : APlace → Bool) (p : ℕ) → result ≡ pointer_to (laid_tree laid.now) o p is_bare
+        (entry_of (laid_tree laid.now).file of.number).ctype of }
 {
     match type_at(laid, of.number) {
         CType::Array { element, .. } => {
@@ -473,4 +544,26 @@ fn note_call(
     note_body(to, path, size_of(here.sizes, path), used)?;
     end_scopes(to, outer)?;
     Ok(())
+}
+
+// The same with the end of the call, and what it gives.
+fn call_end(
+    here: &Here<'_>,
+    to: &mut Notes,
+    path: u32,
+    count: usize,
+    place: Place,
+    wanted: Wanted,
+    used: bool,
+) -> Result<Given, NoMemory>
+    ensures noted { OnOk result (IsBehind to.old to.new (behind (scoped (stores_and_body (laid_tree here.now.laid.now)
+        (is_among here.now.opens.now) (sizes_in here.now.sizes.now) here.now.path path used count place))
+        (end_by wanted (is_pointer (given_by (function_at (laid_tree here.now.laid.now) path).result
+        (result_type (laid_tree here.now.laid.now) (function_at (laid_tree here.now.laid.now) path)))) place))) }
+    ensures given { IfOk result (λ g. g ≡ given_by (function_at (laid_tree here.now.laid.now) path).result
+        (result_type (laid_tree here.now.laid.now) (function_at (laid_tree here.now.laid.now) path))) }
+{
+    note_call(here, to, path, count, place, used)?;
+    let gives = given_by_call(here.laid, path);
+    end_with(to, wanted, gives.is_pointer(), place, gives)
 }

@@ -1,8 +1,8 @@
 //! What a walk notes.
-ghost use Rattle.std.specs.Prelude.{◌≡◌, ◌++◌, map, drop, OnOk};
+ghost use Rattle.std.specs.Prelude.{◌≡◌, ◌++◌, map, drop, OnOk, IfOk};
 ghost use Rattle.path_origins.specs.Types.{differs};
-ghost use Rattle.path_origins.specs.Noted.{nothing, one, one_if, tests, skips, called_body, given_if, passing_if};
-ghost use Rattle.path_origins.specs.Noted.{ending, overwrites_of};
+ghost use Rattle.path_origins.specs.Noted.{nothing, behind, one, one_if, tests, skips, called_body, given_if};
+ghost use Rattle.path_origins.specs.Noted.{passing_if, ending, overwrites_of};
 ghost use Rattle.path_origins.specs.Shown.{shown};
 ghost use Rattle.path_origins.specs.reading.Walks.{IsBehind, end_by, decided_by, operands_added, reload_added};
 ghost use Rattle.path_origins.specs.reading.Ends.{against_before};
@@ -17,7 +17,7 @@ use body_builder::more;
 use std::alloc::Global;
 use tm_lattice::NoMemory;
 use tm_terms::Place;
-use tm_typed::CType;
+use tm_typed::{CType, Qualified};
 
 /// Nothing.
 pub(crate) fn no_notes(alloc: Global) -> Notes
@@ -104,6 +104,66 @@ pub(crate) fn note_end(
             note_tests(to, place, Form::Test(false))
         }
     }
+}
+
+/// The same, of a value that gives this.
+pub(crate) fn end_with(
+    to: &mut Notes,
+    wanted: Wanted,
+    pointer: bool,
+    place: Place,
+    gives: Given,
+) -> Result<Given, NoMemory>
+    ensures noted { OnOk result (IsBehind to.old to.new (end_by wanted pointer place)) }
+    ensures given { IfOk result (λ g. g ≡ gives) }
+{
+    note_end(to, wanted, pointer, place)?;
+    Ok(gives)
+}
+
+/// The same behind an edge.
+pub(crate) fn note_value(
+    to: &mut Notes,
+    place: Place,
+    edge: Form,
+    wanted: Wanted,
+    pointer: bool,
+    gives: Given,
+) -> Result<Given, NoMemory>
+    ensures noted { OnOk result (IsBehind to.old to.new (behind (one place edge) (end_by wanted pointer place))) }
+    ensures given { IfOk result (λ g. g ≡ gives) }
+{
+    note(to, place, edge)?;
+    end_with(to, wanted, pointer, place, gives)
+}
+
+/// An edge behind which an lvalue is known, with the type of what it designates.
+pub(crate) fn note_type(
+    to: &mut Notes,
+    place: Place,
+    edge: Form,
+    of: Qualified,
+) -> Result<Qualified, NoMemory>
+    ensures noted { OnOk result (IsBehind to.old to.new (one place edge)) }
+    ensures typed { IfOk result (λ q. q ≡ of) }
+{
+    note(to, place, edge)?;
+    Ok(of)
+}
+
+/// The same behind another edge.
+pub(crate) fn note_type_behind(
+    to: &mut Notes,
+    place: Place,
+    first: Form,
+    form: Form,
+    of: Qualified,
+) -> Result<Qualified, NoMemory>
+    ensures noted { OnOk result (IsBehind to.old to.new (behind (one place first) (one place form))) }
+    ensures typed { IfOk result (λ q. q ≡ of) }
+{
+    note(to, place, first)?;
+    note_type(to, place, form, of)
 }
 
 /// Control goes one of two ways, and for a value 1 and 0 meet.

@@ -8,7 +8,8 @@ ghost use Rattle.body_builder.specs.concrete_steps.NextAction.{is_given, rest_of
 ghost use Rattle.body_builder.specs.lowering.Table.{is_scalar_object};
 ghost use Rattle.path_origins.specs.Noted.{nothing, behind, sequenced};
 ghost use Rattle.path_origins.specs.Expressions.{walked};
-ghost use Rattle.path_origins.specs.Statements.{statement, statements, case_of, cases, skip, test_of, effect_of, entered};
+ghost use Rattle.path_origins.specs.Statements.{statement, statements, case_of, cases, skip, test_of, effect_of};
+ghost use Rattle.path_origins.specs.Statements.{entered};
 ghost use Rattle.path_origins.specs.Statements.{outs, returned, is_first, cell_value, cell_stored, cells_stored};
 ghost use Rattle.path_origins.specs.Statements.{initialised, declared, all_declared, nowhere};
 ghost use Rattle.path_origins.specs.Shown.{shown, sizes_in};

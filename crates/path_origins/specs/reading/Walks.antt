@@ -54,6 +54,14 @@ abbrev pub reload_added : Place → ℕ → Span → Noted → Noted
 reload_added p load right x =
     record x { reloads = x.reloads ++ record { place = p; load = load; right = right } ∷ [] }
 
+-- the right side of `op=`, which stands against the address with these edges and against what is loaded of it
+abbrev pub right_added : Place → Span → Noted → Noted → Noted → Noted
+right_added p edges x load r =
+    let y : Noted = behind x load in
+    let z : Noted = behind y r in
+    let right : Span = record { first = y.size; end = z.size } in
+    reload_added p x.size right (operands_added p edges right z)
+
 -- a sequence point follows the stores behind so many
 abbrev pub sequenced_from : ℕ → Noted → Noted
 sequenced_from n x = record x { pending = take n x.pending }

@@ -29,7 +29,8 @@ loop-number-preserved c =
     (cells_stored laid is_open sizes path at.object at.of at.place n 0 (map given_tree c.args.given.now) nothing)
     c.is_given.result c.since-before.result c.since-edges.result c.args.to.now c.loop-number.to c.walk_cell.new.to
     c.note_against.new.to c.loop-number-test.true c.is_given.ensures c.rest_of-rest.ensures c.in_ok-walk_cell.ensures
-    c.since-before.ensures.first c.since-before.ensures.end c.since-edges.ensures.first c.since-edges.ensures.end c.in_ok-note_against.ensures
+    c.since-before.ensures.first c.since-before.ensures.end c.since-edges.ensures.first c.since-edges.ensures.end
+    c.in_ok-note_against.ensures
     c.loop-number.invariant
 
 pub returns : goal.returns
@@ -48,7 +49,8 @@ returns c =
     (cells_stored laid is_open sizes path at.object at.of at.place n 0 gs nothing) a b c.loop-number-test.false
     c.loop-number.invariant in
     let cells = ap (λ (o : LaidObject). o.cells) c.object_at-number-end.ensures in
-    let own = all ∙ ap (λ m. behind (shown a) (cells_stored laid is_open sizes path at.object at.of at.place m 0 gs nothing))
+    let own = all ∙ ap (λ m. behind (shown a)
+    (cells_stored laid is_open sizes path at.object at.of at.place m 0 gs nothing))
     cells in
     let pending : c.len-pending.result ≡ length a.pending.items =
     omega (arith, c.len-pending.ensures, a.pending.ok.0) in

@@ -28,6 +28,7 @@ returns c =
     on_ok_weaker c.note_life.result (λ (k : shown c.note_life.new.to ≡ life_added life (shown end)).
     declared_noted laid is_open sizes c.args.here.now.path (local_tree c.args.local.now) c.in_ok-object.object
     c.object_at.result.place c.since-scope.result c.in_ok-initialiser.initialiser life c.args.to.now c.note.new.to
-    end c.note_life.new.to c.in_ok-object.ensures (ap (λ (o : LaidObject). o.place) c.object_at.ensures) c.in_ok-note.ensures
+    end c.note_life.new.to c.in_ok-object.ensures (ap (λ (o : LaidObject). o.place) c.object_at.ensures)
+    c.in_ok-note.ensures
     c.since-scope.ensures.first c.since-scope.ensures.end c.in_ok-initialiser.ensures.noted
     c.in_ok-initialiser.ensures.span refl k) c.note_life.ensures
