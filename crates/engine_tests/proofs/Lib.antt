@@ -1,4 +1,5 @@
 pub mod CongruenceRows
+pub mod EmptyFiles
 pub mod IntegerRows
 pub mod IntervalRows
 pub mod Writers

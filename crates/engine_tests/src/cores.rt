@@ -3,6 +3,7 @@ ghost use Rattle.std.specs.Prelude.{◌≤◌};
 
 use crate::toy::{Numbers, TwoTasks};
 use std::alloc::Global;
+use std::process::Abort;
 use std::sync::Arc;
 use std::test::Fail;
 use store_core::{Contribution, Event, Grew, Refused, Snapshot, StoreCore, Taken};
@@ -161,13 +162,8 @@ fn first_otherwise_by(
     Ok(None)
 }
 
-#[test]
-fn two_workers_on_two_tasks(rt: HostRuntime) -> Result<(), Fail> {
-    let alloc = rt.alloc();
-    let mut cores = [core(alloc, true, 2)?];
-    assert!(rt; !cores[0].quiet());
-    assert!(rt; first_otherwise(alloc, &mut cores, &TWO_WORKERS)? == None);
-    let core = &cores[0];
+// How a core stands when all of its calls were answered.
+fn is_settled(rt: &impl Abort, core: &StoreCore<TwoTasks>) {
     assert!(rt; core.quiet());
     assert!(rt; core.version() == 2);
     assert!(rt; core.store().same(&Numbers::new(true, true, true, true)));
@@ -175,7 +171,23 @@ fn two_workers_on_two_tasks(rt: HostRuntime) -> Result<(), Fail> {
     assert!(rt; core.kept(0).is_some_and(|kept| kept.passes == 3));
     assert!(rt; core.kept(1).is_some_and(|kept| kept.passes == 3));
     assert!(rt; core.kept(2).is_none());
+}
+
+fn are_answered(
+    rt: &impl Abort,
+    alloc: Global,
+    cores: &mut [StoreCore<TwoTasks>; 1],
+) -> Result<(), Fail> {
+    assert!(rt; !cores[0].quiet());
+    assert!(rt; first_otherwise(alloc, cores, &TWO_WORKERS)? == None);
+    is_settled(rt, &cores[0]);
     Ok(())
+}
+
+#[test]
+fn two_workers_on_two_tasks(rt: HostRuntime) -> Result<(), Fail> {
+    let mut cores = [core(rt.alloc(), true, 2)?];
+    are_answered(&rt, rt.alloc(), &mut cores)
 }
 
 fn push_cores(alloc: Global, cores: &mut Vec<StoreCore<TwoTasks>>) -> Result<(), Fail> {
@@ -254,17 +266,32 @@ fn has_lines(history: &[Event<TwoTasks>], lines: &[Line]) -> bool {
     history.len() == lines.len()
 }
 
+// The one worker takes and publishes until all is quiet.
+fn work_alone(
+    alloc: Global,
+    core: &mut StoreCore<TwoTasks>,
+    hand: &mut Option<Snapshot<TwoTasks>>,
+) -> Result<(), NoMemory> {
+    for _ in 0..16 {
+        if take(core, 0, hand)? == AllQuiet {
+            return Ok(());
+        }
+        publish(alloc, core, 0, hand)?;
+    }
+    Ok(())
+}
+
+// Whether its history is as it should be then.
+fn has_worked(alloc: Global, core: &mut StoreCore<TwoTasks>) -> Result<bool, NoMemory> {
+    let mut hand = None;
+    work_alone(alloc, core, &mut hand)?;
+    Ok(has_lines(core.history(), &ONE_WORKER))
+}
+
 #[test]
 fn the_history_of_one_worker(rt: HostRuntime) -> Result<(), Fail> {
-    let alloc = rt.alloc();
-    let mut core = core(alloc, true, 1)?;
-    let mut hand = None;
-    for _ in 0..16 {
-        if take(&mut core, 0, &mut hand)? == AllQuiet {
-            break;
-        }
-        publish(alloc, &mut core, 0, &mut hand)?;
-    }
-    assert!(rt; has_lines(core.history(), &ONE_WORKER));
+    let mut core = core(rt.alloc(), true, 1)?;
+    let is_so = has_worked(rt.alloc(), &mut core)?;
+    assert!(rt; is_so);
     Ok(())
 }

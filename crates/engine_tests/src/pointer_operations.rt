@@ -1,156 +1,16 @@
-//! Operations on pointers that were worked by hand.
-ghost use Rattle.std.specs.Prelude.{◌≢◌, ◌≤◌, ℕ, ℤ};
-ghost use Rattle.strided_dom.specs.Progression.{Has};
-ghost use Rattle.pointer_dom.specs.Advances.{IsInteger};
+//! Operations on pointers that were worked by hand: moves, subscripts, parts, uses, dereferences and comparisons.
+ghost use Rattle.std.specs.Prelude.{◌≢◌, ◌≤◌, ℕ};
 
+use crate::number_sets::{NONE, Numbers, set};
+use crate::pointer_sets::Change::Part;
+use crate::pointer_sets::PointerRow::{self, Changed, Equal, Reaches};
+use crate::pointer_sets::Step::{self, Dereference, Index, Move, Use};
+use crate::pointer_sets::{NO_POINTER, Targets, pointers};
 use crate::tables::assert_rows;
 use pointer_dom::{Layout, Offsets, PointerSet, Reached, equality};
 use std::alloc::Global;
-use std::test::Fail;
 use strided_dom::Strided;
-use tm_lattice::{Keyed, Lattice, NoMemory};
-
-/// The first, the last and the stride of a set of numbers; no number where the last is below the first.
-type Numbers = (i32, i32, u8);
-
-const NONE: Numbers = (1, 0, 1);
-
-/// The numbers of a row.
-fn set(row: Numbers) -> Strided
-    ensures { (n : ℤ) → Has result n → IsInteger n }
-{
-    Strided::range(
-        i128::from(row.0),
-        i128::from(row.1),
-        i128::from(row.2.max(1)),
-    )
-}
-
-/// Pointers to object 1, of 10 cells, at these offsets.
-fn into(alloc: Global, row: Numbers) -> Result<PointerSet, NoMemory> {
-    let mut objects = Keyed::new(alloc);
-    objects.join_at(1, &Offsets::within(10, &set(row)))?;
-    Ok(PointerSet::from_parts(false, false, objects))
-}
-
-/// Those pointers, with null.
-fn or_null(alloc: Global, row: Numbers) -> Result<PointerSet, NoMemory> {
-    into(alloc, row)?.join(alloc, &PointerSet::null(alloc))
-}
-
-/// Whether a set has these pointers.
-fn are(alloc: Global, set: &PointerSet, row: Numbers) -> Result<bool, NoMemory> {
-    let wanted = into(alloc, row)?;
-    Ok(set.same(&wanted))
-}
-
-/// Whether an operation has reached these pointers, and its class is not excluded where `may_fail` says so.
-fn is(alloc: Global, reached: &Reached, row: Numbers, may_fail: bool) -> Result<bool, NoMemory> {
-    Ok(are(alloc, &reached.pointers, row)? & (reached.may_fail == may_fail))
-}
-
-/// Whether it moves forward, by how many cells for each count, the counts, the offsets of the pointers and those that
-/// are reached, and whether the class is not excluded.
-type Move = (bool, u32, Numbers, Numbers, Numbers, bool);
-
-fn is_move(alloc: Global, row: &Move) -> Result<bool, NoMemory> {
-    let moved = into(alloc, row.3)?.moved(alloc, row.0, row.1, &set(row.2))?;
-    is(alloc, &moved, row.4, row.5)
-}
-
-const MOVES: [Move; 6] = [
-    (true, 1, (0, 2, 1), (2, 2, 1), (2, 4, 1), false),
-    (true, 2, (1, 3, 1), (4, 6, 2), (6, 10, 2), true),
-    (true, 3, (-1, -1, 1), (3, 9, 3), (0, 6, 3), false),
-    (true, 1, (1, 1, 1), (10, 10, 1), NONE, true),
-    (false, 1, (0, 3, 1), (2, 2, 1), (0, 2, 1), true),
-    (true, 1, NONE, (2, 2, 1), NONE, false),
-];
-
-/// Null does not move.
-fn null_stays(alloc: Global) -> Result<bool, NoMemory> {
-    let moved = or_null(alloc, (1, 1, 1))?.moved(alloc, true, 1, &set((1, 1, 1)))?;
-    is(alloc, &moved, (2, 2, 1), true)
-}
-
-#[test]
-fn arithmetic(rt: HostRuntime) -> Result<(), Fail> {
-    let alloc = rt.alloc();
-    assert_rows(&rt, &MOVES, |row| is_move(alloc, row) == Ok(true));
-    assert!(rt; null_stays(alloc)?);
-    Ok(())
-}
-
-/// How many elements the array has, the cells of each, the subscripts, the offsets of the pointers and those that are
-/// reached, and whether the class is not excluded.
-type Subscript = (u32, u32, Numbers, Numbers, Numbers, bool);
-
-fn is_element(alloc: Global, row: &Subscript) -> Result<bool, NoMemory> {
-    let elements = into(alloc, row.3)?.index(alloc, row.0, row.1, &set(row.2))?;
-    is(alloc, &elements, row.4, row.5)
-}
-
-const SUBSCRIPTS: [Subscript; 4] = [
-    (4, 2, (0, 3, 1), (0, 0, 1), (0, 6, 2), false),
-    (4, 2, (2, 5, 1), (0, 0, 1), (4, 6, 2), true),
-    (3, 1, (3, 3, 1), (0, 0, 1), NONE, true),
-    (2, 3, (1, 1, 1), (0, 4, 4), (3, 7, 4), false),
-];
-
-/// Null has no part.
-fn null_has_no_part(alloc: Global) -> Result<bool, NoMemory> {
-    let parts = or_null(alloc, (0, 6, 2))?.offset(alloc, 3)?;
-    are(alloc, &parts, (3, 9, 2))
-}
-
-#[test]
-fn subscripts(rt: HostRuntime) -> Result<(), Fail> {
-    let alloc = rt.alloc();
-    assert_rows(&rt, &SUBSCRIPTS, |row| is_element(alloc, row) == Ok(true));
-    assert!(rt; null_has_no_part(alloc)?);
-    Ok(())
-}
-
-/// Whether it is `==`, the offsets of both sides, and the values of the comparison.
-type Equality = (bool, Numbers, Numbers, Numbers);
-
-fn is_equality_with(alloc: Global, left: &PointerSet, row: &Equality) -> Result<bool, NoMemory> {
-    let right = into(alloc, row.2)?;
-    Ok(equality(row.0, left, &right) == set(row.3))
-}
-
-fn is_equality(alloc: Global, row: &Equality) -> Result<bool, NoMemory> {
-    let left = into(alloc, row.1)?;
-    is_equality_with(alloc, &left, row)
-}
-
-const EQUALITIES: [Equality; 6] = [
-    (true, (2, 2, 1), (2, 2, 1), (1, 1, 1)),
-    (true, (2, 8, 2), (4, 4, 1), (0, 1, 1)),
-    (true, (2, 8, 2), (3, 9, 2), (0, 0, 1)),
-    (false, (2, 2, 1), (2, 2, 1), (0, 0, 1)),
-    (false, (2, 8, 2), (3, 9, 2), (1, 1, 1)),
-    (false, NONE, (3, 9, 2), NONE),
-];
-
-/// Those pointers, with the invalid one.
-fn or_invalid(alloc: Global, row: Numbers) -> Result<PointerSet, NoMemory> {
-    into(alloc, row)?.join(alloc, &PointerSet::invalid(alloc))
-}
-
-/// The invalid pointer is not used.
-fn invalid_is_not_used(alloc: Global) -> Result<bool, NoMemory> {
-    let usable = or_invalid(alloc, (1, 2, 1))?.usable(alloc)?;
-    is(alloc, &usable, (1, 2, 1), true)
-}
-
-#[test]
-fn comparisons(rt: HostRuntime) -> Result<(), Fail> {
-    let alloc = rt.alloc();
-    assert_rows(&rt, &EQUALITIES, |row| is_equality(alloc, row) == Ok(true));
-    assert!(rt; invalid_is_not_used(alloc)?);
-    Ok(())
-}
+use tm_lattice::NoMemory;
 
 /// Objects up to the one of this number are alive, and a cell of the pointed type stands at each offset up to this one.
 #[derive(Drop)]
@@ -175,40 +35,232 @@ impl Layout for Flat {
     }
 }
 
-/// The greatest object and offset of the layout, the offsets of the pointers and those that are reached, and whether
-/// the class is not excluded.
-type Access = (u32, u32, Numbers, Numbers, bool);
-
-fn is_access(alloc: Global, row: &Access) -> Result<bool, NoMemory> {
-    let layout = Flat {
-        objects: row.0,
-        offsets: row.1,
-    };
-    let cells = into(alloc, row.2)?.dereferenced(alloc, &layout)?;
-    is(alloc, &cells, row.3, row.4)
+fn led_to(alloc: Global, from: &PointerSet, by: &Step) -> Result<Reached, NoMemory> {
+    match by {
+        Move(forward, cells, counts) => from.moved(alloc, *forward, *cells, &set(*counts)),
+        Index(count, cells, subscripts) => from.index(alloc, *count, *cells, &set(*subscripts)),
+        Use => from.usable(alloc),
+        Dereference(objects, offsets) => {
+            let layout = Flat {
+                objects: *objects,
+                offsets: *offsets,
+            };
+            from.dereferenced(alloc, &layout)
+        }
+    }
 }
 
-const ACCESSES: [Access; 4] = [
-    (1, 9, (0, 8, 2), (0, 8, 2), false),
-    (1, 5, (0, 8, 2), (0, 4, 2), true),
-    (1, 5, (6, 8, 2), NONE, true),
-    (0, 9, (0, 8, 2), NONE, true),
+/// Whether what was reached are these pointers, and its class is not excluded where `may_fail` says so.
+fn are(alloc: Global, reached: &Reached, to: &Targets, may_fail: bool) -> Result<bool, NoMemory> {
+    let wanted = pointers(alloc, to)?;
+    Ok(reached.pointers.same(&wanted) & (reached.may_fail == may_fail))
+}
+
+/// Whether a step leads there.
+pub(crate) fn is_reached_by(
+    alloc: Global,
+    from: &PointerSet,
+    by: &Step,
+    to: &Targets,
+    may_fail: bool,
+) -> Result<bool, NoMemory> {
+    let reached = led_to(alloc, from, by)?;
+    are(alloc, &reached, to, may_fail)
+}
+
+fn is_equality_with(
+    alloc: Global,
+    equal: bool,
+    left: &PointerSet,
+    right: &Targets,
+    wanted: Numbers,
+) -> Result<bool, NoMemory> {
+    let right = pointers(alloc, right)?;
+    Ok(equality(equal, left, &right) == set(wanted))
+}
+
+/// Whether the comparison of two sets has these values.
+pub(crate) fn is_equality(
+    alloc: Global,
+    equal: bool,
+    left: &Targets,
+    right: &Targets,
+    wanted: Numbers,
+) -> Result<bool, NoMemory> {
+    let left = pointers(alloc, left)?;
+    is_equality_with(alloc, equal, &left, right, wanted)
+}
+
+static MOVES: [PointerRow; 7] = [
+    Reaches(
+        (false, false, (2, 2, 1), NONE),
+        Move(true, 1, (0, 2, 1)),
+        (false, false, (2, 4, 1), NONE),
+        false,
+    ),
+    Reaches(
+        (false, false, (4, 6, 2), NONE),
+        Move(true, 2, (1, 3, 1)),
+        (false, false, (6, 10, 2), NONE),
+        true,
+    ),
+    Reaches(
+        (false, false, (3, 9, 3), NONE),
+        Move(true, 3, (-1, -1, 1)),
+        (false, false, (0, 6, 3), NONE),
+        false,
+    ),
+    Reaches(
+        (false, false, (10, 10, 1), NONE),
+        Move(true, 1, (1, 1, 1)),
+        NO_POINTER,
+        true,
+    ),
+    Reaches(
+        (false, false, (2, 2, 1), NONE),
+        Move(false, 1, (0, 3, 1)),
+        (false, false, (0, 2, 1), NONE),
+        true,
+    ),
+    Reaches(
+        (false, false, (2, 2, 1), NONE),
+        Move(true, 1, NONE),
+        NO_POINTER,
+        false,
+    ),
+    // Null does not move.
+    Reaches(
+        (true, false, (1, 1, 1), NONE),
+        Move(true, 1, (1, 1, 1)),
+        (false, false, (2, 2, 1), NONE),
+        true,
+    ),
 ];
 
-/// Null has no cell.
-fn null_is_not_dereferenced(alloc: Global) -> Result<bool, NoMemory> {
-    let layout = Flat {
-        objects: 1,
-        offsets: 9,
-    };
-    let cells = or_null(alloc, (1, 1, 1))?.dereferenced(alloc, &layout)?;
-    is(alloc, &cells, (1, 1, 1), true)
+#[test]
+fn arithmetic(rt: HostRuntime) {
+    assert_rows(&rt, rt.alloc(), &MOVES);
 }
 
+static SUBSCRIPTS: [PointerRow; 5] = [
+    Reaches(
+        (false, false, (0, 0, 1), NONE),
+        Index(4, 2, (0, 3, 1)),
+        (false, false, (0, 6, 2), NONE),
+        false,
+    ),
+    Reaches(
+        (false, false, (0, 0, 1), NONE),
+        Index(4, 2, (2, 5, 1)),
+        (false, false, (4, 6, 2), NONE),
+        true,
+    ),
+    Reaches(
+        (false, false, (0, 0, 1), NONE),
+        Index(3, 1, (3, 3, 1)),
+        NO_POINTER,
+        true,
+    ),
+    Reaches(
+        (false, false, (0, 4, 4), NONE),
+        Index(2, 3, (1, 1, 1)),
+        (false, false, (3, 7, 4), NONE),
+        false,
+    ),
+    // Null has no part.
+    Changed(
+        (true, false, (0, 6, 2), NONE),
+        Part(3),
+        (false, false, (3, 9, 2), NONE),
+    ),
+];
+
 #[test]
-fn dereferences(rt: HostRuntime) -> Result<(), Fail> {
-    let alloc = rt.alloc();
-    assert_rows(&rt, &ACCESSES, |row| is_access(alloc, row) == Ok(true));
-    assert!(rt; null_is_not_dereferenced(alloc)?);
-    Ok(())
+fn subscripts(rt: HostRuntime) {
+    assert_rows(&rt, rt.alloc(), &SUBSCRIPTS);
+}
+
+static COMPARISONS: [PointerRow; 7] = [
+    Equal(
+        true,
+        (false, false, (2, 2, 1), NONE),
+        (false, false, (2, 2, 1), NONE),
+        (1, 1, 1),
+    ),
+    Equal(
+        true,
+        (false, false, (2, 8, 2), NONE),
+        (false, false, (4, 4, 1), NONE),
+        (0, 1, 1),
+    ),
+    Equal(
+        true,
+        (false, false, (2, 8, 2), NONE),
+        (false, false, (3, 9, 2), NONE),
+        (0, 0, 1),
+    ),
+    Equal(
+        false,
+        (false, false, (2, 2, 1), NONE),
+        (false, false, (2, 2, 1), NONE),
+        (0, 0, 1),
+    ),
+    Equal(
+        false,
+        (false, false, (2, 8, 2), NONE),
+        (false, false, (3, 9, 2), NONE),
+        (1, 1, 1),
+    ),
+    Equal(false, NO_POINTER, (false, false, (3, 9, 2), NONE), NONE),
+    // The invalid pointer is not used.
+    Reaches(
+        (false, true, (1, 2, 1), NONE),
+        Use,
+        (false, false, (1, 2, 1), NONE),
+        true,
+    ),
+];
+
+#[test]
+fn comparisons(rt: HostRuntime) {
+    assert_rows(&rt, rt.alloc(), &COMPARISONS);
+}
+
+static ACCESSES: [PointerRow; 5] = [
+    Reaches(
+        (false, false, (0, 8, 2), NONE),
+        Dereference(1, 9),
+        (false, false, (0, 8, 2), NONE),
+        false,
+    ),
+    Reaches(
+        (false, false, (0, 8, 2), NONE),
+        Dereference(1, 5),
+        (false, false, (0, 4, 2), NONE),
+        true,
+    ),
+    Reaches(
+        (false, false, (6, 8, 2), NONE),
+        Dereference(1, 5),
+        NO_POINTER,
+        true,
+    ),
+    Reaches(
+        (false, false, (0, 8, 2), NONE),
+        Dereference(0, 9),
+        NO_POINTER,
+        true,
+    ),
+    // Null has no cell.
+    Reaches(
+        (true, false, (1, 1, 1), NONE),
+        Dereference(1, 9),
+        (false, false, (1, 1, 1), NONE),
+        true,
+    ),
+];
+
+#[test]
+fn dereferences(rt: HostRuntime) {
+    assert_rows(&rt, rt.alloc(), &ACCESSES);
 }

@@ -1,49 +1,11 @@
 //! States of a task at a node.
-use crate::numbers::{NONE, Numbers, is_numbers, numbers};
-use cell_env::{CellState, State, TempState};
+use crate::made_states::{Cell, Temp, state};
+use crate::numbers::{NONE, is_numbers};
+use cell_env::State;
 use pointer_dom::AbsValue;
-use state_tree::Tree;
 use std::alloc::Global;
 use std::test::Fail;
-use tm_lattice::{Keyed, Lattice, NoMemory};
-
-/// A temporary: its number, its value, and the cell of which it is a copy.
-type Temp = (u32, Numbers, Option<u32>);
-
-/// A cell: its number, its own value, its pending mutexes, and whether it is fresh and stored.
-type Cell = (u32, Numbers, u16, bool, bool);
-
-fn temps_of(alloc: Global, rows: &[Temp]) -> Result<Keyed<TempState<AbsValue>>, NoMemory> {
-    let mut live = Keyed::new(alloc);
-    for (temp, row, copy) in rows {
-        let entry = TempState {
-            value: numbers(*row),
-            copy: *copy,
-        };
-        live.put(*temp, entry)?;
-    }
-    Ok(live)
-}
-
-fn cells_of(alloc: Global, rows: &[Cell]) -> Result<Tree<CellState<AbsValue>>, NoMemory> {
-    let mut own = Tree::new(alloc);
-    for (cell, row, pending, fresh, stored) in rows {
-        let entry = CellState {
-            value: numbers(*row),
-            pending: *pending,
-            fresh: *fresh,
-            stored: *stored,
-        };
-        own.put(*cell, entry)?;
-    }
-    Ok(own)
-}
-
-fn state(alloc: Global, temps: &[Temp], cells: &[Cell]) -> Result<State<AbsValue>, NoMemory> {
-    let live = temps_of(alloc, temps)?;
-    let own = cells_of(alloc, cells)?;
-    Ok(State::new(live, own))
-}
+use tm_lattice::{Lattice, NoMemory};
 
 /// Whether a state has such a temporary.
 fn has_temp(state: &State<AbsValue>, temp: &Temp) -> bool {

@@ -2,6 +2,7 @@
 ghost use Rattle.std.specs.Prelude.{IsTrue};
 ghost use Rattle.interfere_set.specs.Stores.{HavePriorities};
 
+use crate::made_states::{Entry, store};
 use crate::numbers::{NONE, Numbers, numbers};
 use interfere_set::{Store, seen_at_read, taken_at_lock};
 use pointer_dom::AbsValue;
@@ -9,39 +10,16 @@ use std::alloc::Global;
 use std::test::Fail;
 use tm_lattice::{Lattice, NoMemory};
 
-/// What was written to the cell 0: the task, the mutexes held, and the value; or left there under the mutex 0.
-const ENTRIES: [(bool, u32, u16, Numbers); 6] = [
-    (false, 1, 0b00, (0, 0)),
-    (false, 1, 0b01, (3, 3)),
-    (false, 1, 0b10, (8, 8)),
-    (false, 2, 0b00, (20, 20)),
-    (true, 1, 0, (5, 5)),
-    (true, 2, 0, (30, 30)),
+/// What was written to the cell 0, by the task, the mutexes held, the cell and the number.
+const WRITTEN: [Entry; 4] = [
+    (1, 0b00, 0, 0),
+    (1, 0b01, 0, 3),
+    (1, 0b10, 0, 8),
+    (2, 0b00, 0, 20),
 ];
 
-/// A store with an entry more.
-fn with_entry(
-    alloc: Global,
-    store: &Store,
-    entry: &(bool, u32, u16, Numbers),
-) -> Result<Store, NoMemory> {
-    let (is_left, task, set, value) = *entry;
-    let one = if is_left {
-        Store::left(alloc, task, u32::from(set), 0, numbers(value))?
-    } else {
-        Store::written(alloc, task, set, 0, numbers(value))?
-    };
-    store.join(alloc, &one)
-}
-
-/// What was written to the cell 0, and what was left there.
-fn store(alloc: Global) -> Result<Store, NoMemory> {
-    let mut all = Store::new(alloc);
-    for entry in &ENTRIES {
-        all = with_entry(alloc, &all, entry)?;
-    }
-    Ok(all)
-}
+/// What was left there under the mutex 0.
+const LEFT: [Entry; 2] = [(1, 0, 0, 5), (2, 0, 0, 30)];
 
 /// A reader: its task, the mutexes that it holds and found free, the cell, whether that is fresh; and the hull of what
 /// it sees.
@@ -70,7 +48,7 @@ fn has_ends(value: &AbsValue, row: Numbers) -> bool {
 }
 
 /// Whether each task that wrote something is one of so many tasks.
-fn have_priorities(store: &Store, tasks: usize) -> bool
+pub(crate) fn have_priorities(store: &Store, tasks: usize) -> bool
     ensures { IsTrue result → HavePriorities store.now tasks }
 {
     for (writer, _written) in store.weak().entries() {
@@ -122,7 +100,7 @@ fn are_handed(alloc: Global, store: &Store) -> Result<bool, NoMemory> {
 
 /// Whether all that is read and handed over is as the rows say.
 fn is_shown(alloc: Global) -> Result<bool, NoMemory> {
-    let store = store(alloc)?;
+    let store = store(alloc, &WRITTEN, &LEFT)?;
     is_shown_of(alloc, &store)
 }
 

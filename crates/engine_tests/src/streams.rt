@@ -1,6 +1,7 @@
 //! Sources and sinks of the runtime, call by call.
 use std::alloc::{AllocError, Global};
 use std::io::{self, ErrorKind, Read, Write};
+use std::process::Abort;
 use std::test::Fail;
 use tm_io::{Failed, Gate, OpenGate, Sink, Source, StdSink, StdSource, Stop};
 
@@ -77,22 +78,50 @@ impl Write for Stuck {
     }
 }
 
+/// Six reads of a source give this log. (What owns a log has one way out behind it: how it is let go is proved for each
+/// way out.)
+fn are_read<S: Source>(
+    rt: &impl Abort,
+    alloc: Global,
+    source: S,
+    wanted: &[u8],
+) -> Result<(), AllocError>
+where
+    S: Drop,
+{
+    let log = reads(alloc, source, 4)?;
+    assert!(rt; log.as_slice() == wanted);
+    Ok(())
+}
+
+/// Six writes to a sink give this log.
+fn are_written<K: Sink>(
+    rt: &impl Abort,
+    alloc: Global,
+    sink: &mut K,
+    wanted: &[usize],
+) -> Result<(), AllocError> {
+    let log = writes(alloc, sink)?;
+    assert!(rt; log.as_slice() == wanted);
+    Ok(())
+}
+
+/// What is written to a list stands in it.
+fn list_is_written(rt: &impl Abort, alloc: Global) -> Result<(), AllocError> {
+    let mut held = Vec::new(alloc);
+    are_written(rt, alloc, &mut StdSink::new(&mut held), &[7, 0, 0, 0, 0, 0])?;
+    assert!(rt; held.as_slice() == TEXT);
+    Ok(())
+}
+
 #[test]
 fn readers_and_writers(rt: HostRuntime) -> Result<(), Fail> {
     let alloc = rt.alloc();
-    let through = reads(alloc, StdSource::new(TEXT), 4)?;
-    assert!(rt; through.as_slice() == b"abcd|efg|||||".as_slice());
-    let broken = reads(alloc, StdSource::new(Broken), 4)?;
-    assert!(rt; broken.as_slice() == b"!|!|!|!|!|!|".as_slice());
-
-    let mut held = Vec::new(alloc);
-    let through = writes(alloc, &mut StdSink::new(&mut held))?;
-    assert!(rt; through.as_slice() == [7, 0, 0, 0, 0, 0].as_slice());
-    assert!(rt; held.as_slice() == TEXT);
-    let broken = writes(alloc, &mut StdSink::new(Broken))?;
-    assert!(rt; broken.as_slice() == [FAULT; 6].as_slice());
-    let stuck = writes(alloc, &mut StdSink::new(Stuck))?;
-    assert!(rt; stuck.as_slice() == [FAULT; 6].as_slice());
+    are_read(&rt, alloc, StdSource::new(TEXT), b"abcd|efg|||||")?;
+    are_read(&rt, alloc, StdSource::new(Broken), b"!|!|!|!|!|!|")?;
+    list_is_written(&rt, alloc)?;
+    are_written(&rt, alloc, &mut StdSink::new(Broken), &[FAULT; 6])?;
+    are_written(&rt, alloc, &mut StdSink::new(Stuck), &[FAULT; 6])?;
     assert!(rt; StdSink::new(Stuck).write(b"") == Ok(0));
     assert!(rt; StdSink::new(io::writer(&rt)).write(b"") == Ok(0));
     OpenGate.began(0, 0);

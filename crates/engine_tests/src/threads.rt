@@ -4,6 +4,7 @@ ghost use Rattle.std.specs.Prelude.{◌≤◌};
 use crate::toy::{Numbers, TwoTasks};
 use held_passes::HoldsTheFirst;
 use std::alloc::Global;
+use std::process::Abort;
 use std::sync::{Arc, Wait};
 use std::test::Fail;
 use std::thread::Threads;
@@ -35,20 +36,31 @@ fn is_counted(gate: &HoldsTheFirst, history: &[Event<TwoTasks>], worker: u32, ta
     gate.passes(worker, task) == Some(readings(history, worker, task))
 }
 
-#[test]
-fn two_passes_begin_before_the_first_ends(rt: HostRuntime) -> Result<(), Fail> {
-    let alloc = rt.alloc();
-    let gate = Arc::new(alloc, HoldsTheFirst::after(0))?;
-    let program = TwoTasks::told_to(Arc::try_clone(&gate)?);
-    let core = solve(&rt, alloc, Arc::new(alloc, program)?, 2, &*gate)?;
+// Two passes began before the first ended, each behind what told the gate of it, and each stands in the history.
+fn are_beside(rt: &impl Abort, gate: &HoldsTheFirst, history: &[Event<TwoTasks>]) {
     assert!(rt; gate.begun_before_an_end() > 1);
     // No pass computed before the gate was told that it began, and none ended before it computed.
     assert!(rt; gate.out_of_order() == 0);
-    let history = core.history();
-    assert!(rt; is_counted(&gate, history, 0, 0) & is_counted(&gate, history, 0, 1));
-    assert!(rt; is_counted(&gate, history, 1, 0) & is_counted(&gate, history, 1, 1));
+    assert!(rt; is_counted(gate, history, 0, 0) & is_counted(gate, history, 0, 1));
+    assert!(rt; is_counted(gate, history, 1, 0) & is_counted(gate, history, 1, 1));
     assert!(rt; gate.begun() == history.len() as u64 / 2);
+}
+
+fn solve_beside<R: Abort + Threads + Wait + Sync>(
+    rt: &R,
+    alloc: Global,
+    gate: &Arc<HoldsTheFirst>,
+) -> Result<(), Fail> {
+    let program = TwoTasks::told_to(Arc::try_clone(gate)?);
+    let core = solve(rt, alloc, Arc::new(alloc, program)?, 2, &**gate)?;
+    are_beside(rt, gate, core.history());
     Ok(())
+}
+
+#[test]
+fn two_passes_begin_before_the_first_ends(rt: HostRuntime) -> Result<(), Fail> {
+    let gate = Arc::new(rt.alloc(), HoldsTheFirst::after(0))?;
+    solve_beside(&rt, rt.alloc(), &gate)
 }
 
 // Whether so many workers end in this store.

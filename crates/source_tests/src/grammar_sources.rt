@@ -1,8 +1,7 @@
 //! Whole sources: those that the grammar takes, each production and each word of the language in at least one, and
 //! those that it refuses.
 
-use crate::grammar_answers::answers;
-use std::alloc::Global;
+use crate::stations::{Way, answers, rows_are_so};
 use std::test::Fail;
 
 // Plain C, which gcc takes too: vectors/sources.sh asks it. All of them in turn are one source.
@@ -54,16 +53,22 @@ static PLAIN: [&str; 45] = [
     "#pragma once upon a time",
 ];
 
-// With the analyser's own words, with empty parts of a file, or with what typing refuses.
-static OWN: [&str; 8] = [
-    "__mutex m; int s; __task(1) void low(void) { __lock(m); s = __input(0, 10); __unlock(m); __yield(); }",
-    "__task(2 + 1) void high(void) { }",
-    "__mutex m; int f(void) { return __islocked(m) ? 1 : __input(-1, +1); }",
-    ";",
-    "int x;;",
-    "",
-    "typedef int T; T T_to_int(T t) { return (T)t; }",
-    "int *volatile restless;",
+// Sources and their answers: with the analyser's own words, with empty parts of a file, or with what typing refuses.
+static OWN: [(&str, &str); 8] = [
+    (
+        "__mutex m; int s; __task(1) void low(void) { __lock(m); s = __input(0, 10); __unlock(m); __yield(); }",
+        "taken",
+    ),
+    ("__task(2 + 1) void high(void) { }", "taken"),
+    (
+        "__mutex m; int f(void) { return __islocked(m) ? 1 : __input(-1, +1); }",
+        "taken",
+    ),
+    (";", "taken"),
+    ("int x;;", "taken"),
+    ("", "taken"),
+    ("typedef int T; T T_to_int(T t) { return (T)t; }", "taken"),
+    ("int *volatile restless;", "taken"),
 ];
 
 // Sources that are refused, and the lines that say so.
@@ -105,59 +110,20 @@ static REFUSED: [(&str, &str); 29] = [
     ("__mutex 1;", "1:9 refused Syntax\n"),
 ];
 
-// A front, how often a middle stands behind it, a back, and the answer.
-static REPEATED: [(&str, &str, u32, &str, &str); 9] = [
-    ("", ";", 200_000, "", "taken"),
-    ("", ";", 200_001, "", "refused Limit tokens 200000\n"),
-    ("", "(", 1_048_576, "", "refused Limit tokens 200000\n"),
-    ("", "(", 1_048_575, "@", "1:1048576 refused Lexical\n"),
-    ("int x=", "(", 201, "1;", "1:207 refused Deep\n"),
-    ("int x=1", "+1", 496, ";", "taken"),
-    ("int x=1", "+1", 497, ";", "1:1002 refused Syntax\n"),
-    ("int x=1", "+1", 599, ";", "1:1006 refused Syntax\n"),
-    (
-        "void f(void){",
-        "if(1)",
-        40_000,
-        "",
-        "1:2498 refused Syntax\n",
-    ),
-];
-
-// The text of a row of these.
-fn repeated(
-    alloc: Global,
-    front: &str,
-    middle: &str,
-    count: u32,
-    back: &str,
-) -> Result<Vec<u8>, Fail> {
-    let mut text = front.as_bytes().to_vec(alloc)?;
-    for _i in 0..count {
-        text.extend_from_slice(middle.as_bytes())?;
+// The texts of `PLAIN`, one behind the other.
+fn push_whole(source: &mut Vec<u8>) -> Result<(), Fail> {
+    for text in PLAIN.iter() {
+        source.extend_from_slice(text.as_bytes())?;
+        source.push(b'\n')?;
     }
-    text.extend_from_slice(back.as_bytes())?;
-    Ok(text)
+    Ok(())
 }
 
 #[test]
 fn sources(rt: HostRuntime) -> Result<(), Fail> {
-    let alloc = rt.alloc();
-    let mut whole = Vec::new(alloc);
-    for source in PLAIN.iter() {
-        whole.extend_from_slice(source.as_bytes())?;
-        whole.push(b'\n')?;
-    }
-    answers(&rt, alloc, &whole, "taken")?;
-    for source in OWN.iter() {
-        answers(&rt, alloc, source.as_bytes(), "taken")?;
-    }
-    for (source, line) in REFUSED.iter() {
-        answers(&rt, alloc, source.as_bytes(), *line)?;
-    }
-    for (front, middle, count, back, line) in REPEATED.iter() {
-        let source = repeated(alloc, *front, *middle, *count, *back)?;
-        answers(&rt, alloc, &source, *line)?;
-    }
-    Ok(())
+    let mut whole = Vec::new(rt.alloc());
+    push_whole(&mut whole)?;
+    answers(&rt, rt.alloc(), Way::Taken, "plain C", &whole, "taken")?;
+    rows_are_so(&rt, rt.alloc(), Way::Taken, &OWN)?;
+    rows_are_so(&rt, rt.alloc(), Way::Taken, &REFUSED)
 }

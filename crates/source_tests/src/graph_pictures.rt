@@ -1,13 +1,13 @@
 //! Graphs as text: for each edge its nodes and what it does. Of `1>2 t1=[t0] Int 2:30` the first is `1`, and it loads a
 //! cell of the type `int` at the address in the temporary 0 into the temporary 1, at column 30 of line 2.
 
+use crate::forms::push_form;
 use concrete_values::{Pointer, Value};
-use flow_graph::{Edge, Graph, Into, Operation, Test};
+use flow_graph::{Graph, Into, Operation, Test};
 use std::alloc::Global;
 use std::test::Fail;
 use tm_cint::{BinOp, IntType};
 use tm_laid::Laid;
-use tm_terms::Place;
 use tm_typed::{CType, Scalar, Unary};
 
 fn operator_told(operator: BinOp) -> &'static str {
@@ -22,19 +22,12 @@ fn operator_told(operator: BinOp) -> &'static str {
         BinOp::And => "&",
         BinOp::Or => "|",
         BinOp::Xor => "^",
-        _ => comparison_told(operator),
-    }
-}
-
-fn comparison_told(operator: BinOp) -> &'static str {
-    match operator {
         BinOp::Lt => "<",
         BinOp::Le => "<=",
         BinOp::Gt => ">",
         BinOp::Ge => ">=",
         BinOp::Eq => "==",
         BinOp::Ne => "!=",
-        _ => "?",
     }
 }
 
@@ -79,71 +72,43 @@ fn type_told(laid: &Laid, number: u32) -> &'static str {
     }
 }
 
-// A number of a C type.
-fn number_told(alloc: Global, number: i128) -> Result<String, Fail> {
-    match i64::try_from(number) {
-        Ok(small) => Ok(format!(in alloc; "{small}")?),
-        Err(_) => match u64::try_from(number) {
-            Ok(large) => Ok(format!(in alloc; "{large}")?),
-            Err(_) => Ok(format!(in alloc; "beyond")?),
-        },
-    }
-}
+// A text with gaps for numbers and words, and its numbers.
+type Form = (&'static str, [i128; 7]);
 
-fn value_told(alloc: Global, value: Value) -> Result<String, Fail> {
+fn const_form(to: u32, value: Value) -> Form {
+    let to = to as i128;
     match value {
-        Value::Number(number) => number_told(alloc, number),
-        Value::Pointer(Pointer::Null) => Ok(format!(in alloc; "null")?),
-        Value::Pointer(Pointer::Invalid) => Ok(format!(in alloc; "invalid")?),
-        Value::Pointer(Pointer::To { object, offset }) => {
-            Ok(format!(in alloc; "&{object}+{offset}")?)
-        }
+        Value::Number(number) => ("t#=#", [to, number, 0, 0, 0, 0, 0]),
+        Value::Pointer(Pointer::Null) => ("t#=null", [to, 0, 0, 0, 0, 0, 0]),
+        Value::Pointer(Pointer::Invalid) => ("t#=invalid", [to, 0, 0, 0, 0, 0, 0]),
+        Value::Pointer(Pointer::To { object, offset }) => (
+            "t#=&#+#",
+            [to, object as i128, offset as i128, 0, 0, 0, 0],
+        ),
     }
 }
 
-fn place_told(alloc: Global, place: Place) -> Result<String, Fail> {
-    let line = place.line;
-    let col = place.col;
-    Ok(format!(in alloc; "{line}:{col}")?)
-}
-
-fn test_told(alloc: Global, test: Test) -> Result<String, Fail> {
+fn test_form(test: Test) -> Form {
     match test {
-        Test::Numbers {
-            operator,
-            left,
-            right,
-            ..
-        } => {
-            let operator = operator_told(operator);
-            Ok(format!(in alloc; "if t{left}{operator}t{right}")?)
+        Test::Numbers { left, right, .. } | Test::Pointers { left, right, .. } => {
+            ("if t#$t#", [left as i128, right as i128, 0, 0, 0, 0, 0])
         }
-        Test::Pointers { equal, left, right } => {
-            let operator = equality_told(equal);
-            Ok(format!(in alloc; "if t{left}{operator}t{right}")?)
-        }
-        Test::Truth { holds: true, value } => Ok(format!(in alloc; "if t{value}")?),
-        Test::Truth {
-            holds: false,
-            value,
-        } => Ok(format!(in alloc; "if !t{value}")?),
-        Test::Case {
-            holds,
-            label,
-            value,
-        } => {
-            let operator = equality_told(holds);
-            let label = number_told(alloc, label)?;
-            Ok(format!(in alloc; "if t{value}{operator}{label}")?)
-        }
+        Test::Truth { holds, value } => (
+            if holds { "if t#" } else { "if !t#" },
+            [value as i128, 0, 0, 0, 0, 0, 0],
+        ),
+        Test::Case { label, value, .. } => ("if t#$#", [value as i128, label, 0, 0, 0, 0, 0]),
     }
 }
 
 // An operation on addresses.
-fn address_told(alloc: Global, laid: &Laid, op: Operation) -> Result<String, Fail> {
+fn address_form(op: Operation) -> Form {
     match op {
-        Operation::Base { to, object } => Ok(format!(in alloc; "t{to}=&{object}")?),
-        Operation::Offset { to, from, cells } => Ok(format!(in alloc; "t{to}=t{from}.{cells}")?),
+        Operation::Base { to, object } => ("t#=&#", [to as i128, object as i128, 0, 0, 0, 0, 0]),
+        Operation::Offset { to, from, cells } => (
+            "t#=t#.#",
+            [to as i128, from as i128, cells as i128, 0, 0, 0, 0],
+        ),
         Operation::Index {
             to,
             from,
@@ -151,10 +116,18 @@ fn address_told(alloc: Global, laid: &Laid, op: Operation) -> Result<String, Fai
             cells,
             by,
             place,
-        } => {
-            let at = place_told(alloc, place)?;
-            Ok(format!(in alloc; "t{to}=t{from}[t{by}] {length}x{cells} {at}")?)
-        }
+        } => (
+            "t#=t#[t#] #x# #:#",
+            [
+                to as i128,
+                from as i128,
+                by as i128,
+                length as i128,
+                cells as i128,
+                place.line as i128,
+                place.col as i128,
+            ],
+        ),
         Operation::Move {
             to,
             from,
@@ -162,184 +135,315 @@ fn address_told(alloc: Global, laid: &Laid, op: Operation) -> Result<String, Fai
             minus,
             by,
             place,
-        } => {
-            let sign = if minus { "-" } else { "+" };
-            let at = place_told(alloc, place)?;
-            Ok(format!(in alloc; "t{to}=t{from}{sign}t{by}x{cells} {at}")?)
-        }
+        } => (
+            if minus {
+                "t#=t#-t#x# #:#"
+            } else {
+                "t#=t#+t#x# #:#"
+            },
+            [
+                to as i128,
+                from as i128,
+                by as i128,
+                cells as i128,
+                place.line as i128,
+                place.col as i128,
+                0,
+            ],
+        ),
         Operation::Deref {
             to,
             from,
-            target,
             path,
             place,
-        } => {
-            let target = type_told(laid, target);
-            let at = place_told(alloc, place)?;
-            Ok(format!(in alloc; "t{to}=*t{from} {target} on {path} {at}")?)
-        }
-        Operation::Usable { pointer, place } => {
-            let at = place_told(alloc, place)?;
-            Ok(format!(in alloc; "usable t{pointer} {at}")?)
-        }
-        _ => Ok(format!(in alloc; "?")?),
+            ..
+        } => (
+            "t#=*t# $ on # #:#",
+            [
+                to as i128,
+                from as i128,
+                path as i128,
+                place.line as i128,
+                place.col as i128,
+                0,
+                0,
+            ],
+        ),
+        Operation::Usable { pointer, place } => (
+            "usable t# #:#",
+            [
+                pointer as i128,
+                place.line as i128,
+                place.col as i128,
+                0,
+                0,
+                0,
+                0,
+            ],
+        ),
+        _ => ("?", [0; 7]),
     }
 }
 
 // An operation on cells.
-fn memory_told(alloc: Global, laid: &Laid, op: Operation) -> Result<String, Fail> {
+fn memory_form(op: Operation) -> Form {
     match op {
         Operation::Load {
             to,
             address,
-            scalar,
             place,
-        } => {
-            let scalar = scalar_told(scalar);
-            let at = place_told(alloc, place)?;
-            Ok(format!(in alloc; "t{to}=[t{address}] {scalar} {at}")?)
-        }
+            ..
+        } => (
+            "t#=[t#] $ #:#",
+            [
+                to as i128,
+                address as i128,
+                place.line as i128,
+                place.col as i128,
+                0,
+                0,
+                0,
+            ],
+        ),
         Operation::LoadAny {
             to,
             address,
-            scalar,
             place,
-        } => {
-            let scalar = scalar_told(scalar);
-            let at = place_told(alloc, place)?;
-            Ok(format!(in alloc; "t{to}=any[t{address}] {scalar} {at}")?)
-        }
+            ..
+        } => (
+            "t#=any[t#] $ #:#",
+            [
+                to as i128,
+                address as i128,
+                place.line as i128,
+                place.col as i128,
+                0,
+                0,
+                0,
+            ],
+        ),
         Operation::Store {
             address,
             value,
-            scalar,
-            into,
+            into: Into::Object(object),
             place,
-        } => {
-            let scalar = scalar_told(scalar);
-            let at = place_told(alloc, place)?;
-            match into {
-                Into::Object(object) => {
-                    Ok(format!(in alloc; "[t{address}]=t{value} {scalar} of {object} {at}")?)
-                }
-                Into::Pointed => {
-                    Ok(format!(in alloc; "[t{address}]=t{value} {scalar} pointed {at}")?)
-                }
-            }
-        }
-        Operation::Clear { object } => Ok(format!(in alloc; "clear {object}")?),
-        _ => address_told(alloc, laid, op),
+            ..
+        } => (
+            "[t#]=t# $ of # #:#",
+            [
+                address as i128,
+                value as i128,
+                object as i128,
+                place.line as i128,
+                place.col as i128,
+                0,
+                0,
+            ],
+        ),
+        Operation::Store {
+            address,
+            value,
+            into: Into::Pointed,
+            place,
+            ..
+        } => (
+            "[t#]=t# $ pointed #:#",
+            [
+                address as i128,
+                value as i128,
+                place.line as i128,
+                place.col as i128,
+                0,
+                0,
+                0,
+            ],
+        ),
+        Operation::Clear { object } => ("clear #", [object as i128, 0, 0, 0, 0, 0, 0]),
+        _ => address_form(op),
     }
 }
 
 // What goes on with other tasks, and tests.
-fn control_told(alloc: Global, laid: &Laid, op: Operation) -> Result<String, Fail> {
+fn control_form(op: Operation) -> Form {
     match op {
-        Operation::Skip => Ok(format!(in alloc; "skip")?),
-        Operation::Yield => Ok(format!(in alloc; "yield")?),
-        Operation::Assume { test } => test_told(alloc, test),
-        Operation::Lock { mutex, place } => {
-            let at = place_told(alloc, place)?;
-            Ok(format!(in alloc; "lock {mutex} {at}")?)
-        }
-        Operation::Unlock { mutex, place } => {
-            let at = place_told(alloc, place)?;
-            Ok(format!(in alloc; "unlock {mutex} {at}")?)
-        }
-        Operation::Probe { to, mutex, place } => {
-            let at = place_told(alloc, place)?;
-            Ok(format!(in alloc; "t{to}=probe {mutex} {at}")?)
-        }
-        _ => memory_told(alloc, laid, op),
+        Operation::Skip => ("skip", [0; 7]),
+        Operation::Yield => ("yield", [0; 7]),
+        Operation::Assume { test } => test_form(test),
+        Operation::Lock { mutex, place } => (
+            "lock # #:#",
+            [
+                mutex as i128,
+                place.line as i128,
+                place.col as i128,
+                0,
+                0,
+                0,
+                0,
+            ],
+        ),
+        Operation::Unlock { mutex, place } => (
+            "unlock # #:#",
+            [
+                mutex as i128,
+                place.line as i128,
+                place.col as i128,
+                0,
+                0,
+                0,
+                0,
+            ],
+        ),
+        Operation::Probe { to, mutex, place } => (
+            "t#=probe # #:#",
+            [
+                to as i128,
+                mutex as i128,
+                place.line as i128,
+                place.col as i128,
+                0,
+                0,
+                0,
+            ],
+        ),
+        _ => memory_form(op),
     }
 }
 
-// An operator on two values.
-fn binary_told(
-    alloc: Global,
-    to: u32,
-    sides: (u32, u32),
-    operator: &str,
-    of: &str,
-    place: Place,
-) -> Result<String, Fail> {
-    let (left, right) = sides;
-    let at = place_told(alloc, place)?;
-    Ok(format!(in alloc; "t{to}=t{left}{operator}t{right} {of} {at}")?)
-}
-
-fn operation_told(alloc: Global, laid: &Laid, op: Operation) -> Result<String, Fail> {
+// An operation; here those on values.
+fn operation_form(op: Operation) -> Form {
     match op {
-        Operation::Const { to, value } => {
-            let value = value_told(alloc, value)?;
-            Ok(format!(in alloc; "t{to}={value}")?)
-        }
-        Operation::Copy { to, from } => Ok(format!(in alloc; "t{to}=t{from}")?),
+        Operation::Const { to, value } => const_form(to, value),
+        Operation::Copy { to, from } => ("t#=t#", [to as i128, from as i128, 0, 0, 0, 0, 0]),
         Operation::Un {
             to,
             operator,
-            of,
             from,
             place,
-        } => {
-            let sign = match operator {
-                Unary::Negate => "-",
-                Unary::Complement => "~",
-            };
-            let of = int_told(of);
-            let at = place_told(alloc, place)?;
-            Ok(format!(in alloc; "t{to}={sign}t{from} {of} {at}")?)
-        }
+            ..
+        } => (
+            match operator {
+                Unary::Negate => "t#=-t# $ #:#",
+                Unary::Complement => "t#=~t# $ #:#",
+            },
+            [
+                to as i128,
+                from as i128,
+                place.line as i128,
+                place.col as i128,
+                0,
+                0,
+                0,
+            ],
+        ),
         Operation::Bin {
             to,
-            operator,
-            of,
             left,
             right,
             place,
-        } => binary_told(
-            alloc,
-            to,
-            (left, right),
-            operator_told(operator),
-            int_told(of),
-            place,
+            ..
+        } => (
+            "t#=t#$t# $ #:#",
+            [
+                to as i128,
+                left as i128,
+                right as i128,
+                place.line as i128,
+                place.col as i128,
+                0,
+                0,
+            ],
         ),
         Operation::BinPointers {
             to,
-            equal,
             left,
             right,
-        } => {
-            let operator = equality_told(equal);
-            Ok(format!(in alloc; "t{to}=t{left}{operator}t{right} ptr")?)
+            ..
+        } => (
+            "t#=t#$t# ptr",
+            [to as i128, left as i128, right as i128, 0, 0, 0, 0],
+        ),
+        Operation::Convert { to, from, .. } => {
+            ("t#=($)t#", [to as i128, from as i128, 0, 0, 0, 0, 0])
         }
-        Operation::Convert { to, of, from, .. } => {
-            let of = int_told(of);
-            Ok(format!(in alloc; "t{to}=({of})t{from}")?)
-        }
-        Operation::Any { to, low, high } => {
-            let low = number_told(alloc, low)?;
-            let high = number_told(alloc, high)?;
-            Ok(format!(in alloc; "t{to}={low}..{high}")?)
-        }
-        _ => control_told(alloc, laid, op),
+        Operation::Any { to, low, high } => ("t#=#..#", [to as i128, low, high, 0, 0, 0, 0]),
+        _ => control_form(op),
     }
 }
 
-fn edge_told(alloc: Global, laid: &Laid, edge: Edge) -> Result<String, Fail> {
-    let from = edge.from;
-    let to = edge.to;
-    let op = operation_told(alloc, laid, edge.op)?;
-    Ok(format!(in alloc; "{from}>{to} {op}; ")?)
+// The word of a test.
+fn test_word(test: Test) -> &'static str {
+    match test {
+        Test::Numbers { operator, .. } => operator_told(operator),
+        Test::Pointers { equal, .. } => equality_told(equal),
+        Test::Case { holds, .. } => equality_told(holds),
+        Test::Truth { .. } => "",
+    }
 }
 
-/// The edges of a graph.
-pub fn graph_told(alloc: Global, laid: &Laid, graph: &Graph) -> Result<String, Fail> {
-    let mut text = String::new(alloc);
+// The type by which an operation works, or its sign where it has no type.
+fn type_word(laid: &Laid, op: Operation) -> &'static str {
+    match op {
+        Operation::Un { of, .. } | Operation::Bin { of, .. } | Operation::Convert { of, .. } => {
+            int_told(of)
+        }
+        Operation::BinPointers { equal, .. } => equality_told(equal),
+        Operation::Load { scalar, .. } => scalar_told(scalar),
+        Operation::LoadAny { scalar, .. } => scalar_told(scalar),
+        Operation::Store { scalar, .. } => scalar_told(scalar),
+        Operation::Deref { target, .. } => type_told(laid, target),
+        Operation::Assume { test } => test_word(test),
+        _ => "",
+    }
+}
+
+fn push_operation(
+    alloc: Global,
+    text: &mut String,
+    laid: &Laid,
+    op: Operation,
+) -> Result<(), Fail> {
+    let (form, numbers) = operation_form(op);
+    let word = type_word(laid, op);
+    match op {
+        Operation::Bin { operator, .. } => {
+            push_form(
+                alloc,
+                text,
+                form,
+                &numbers,
+                &[operator_told(operator), word],
+            )
+        }
+        _ => push_form(alloc, text, form, &numbers, &[word]),
+    }
+}
+
+// How many nodes a graph has, and its edges.
+fn push_graph(alloc: Global, text: &mut String, laid: &Laid, graph: &Graph) -> Result<(), Fail> {
+    push_form(alloc, text, "# nodes: ", &[graph.nodes as i128], &[])?;
     for edge in &graph.edges {
-        let told = edge_told(alloc, laid, *edge)?;
-        text.push_str(&told)?;
+        push_form(
+            alloc,
+            text,
+            "#># ",
+            &[edge.from as i128, edge.to as i128],
+            &[],
+        )?;
+        push_operation(alloc, text, laid, edge.op)?;
+        text.push_str("; ")?;
     }
-    Ok(text)
+    Ok(())
+}
+
+/// Graphs, one behind the other.
+pub fn push_graphs(
+    alloc: Global,
+    text: &mut String,
+    laid: &Laid,
+    graphs: &[Graph],
+) -> Result<(), Fail> {
+    for graph in graphs {
+        push_graph(alloc, text, laid, graph)?;
+    }
+    Ok(())
 }

@@ -1,6 +1,6 @@
 //! Small sources, and how many call paths, objects, cells and abstract cells they have.
 
-use crate::layout_answers::answers;
+use crate::stations::{Way, rows_are_so};
 use std::test::Fail;
 
 // A source, and what its layout has.
@@ -53,8 +53,5 @@ void f(int n){int m;g(1);g(2);}__task(1) void t(void){f(1);g(3);}",
 
 #[test]
 fn rows(rt: HostRuntime) -> Result<(), Fail> {
-    for (source, line) in ROWS.iter() {
-        answers(&rt, rt.alloc(), source.as_bytes(), *line)?;
-    }
-    Ok(())
+    rows_are_so(&rt, rt.alloc(), Way::Laid, &ROWS)
 }

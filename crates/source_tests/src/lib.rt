@@ -1,6 +1,7 @@
 //! Tests from the text of a source on, over public calls alone: tokens, trees and refusals of the front end, typing,
 //! layouts, graphs and worlds. What a layout needs for its graphs and worlds follows from its typing by laws. It holds no
-//! code of its own, and it proves nothing of the crates that it calls.
+//! code of its own, and it proves nothing of the crates that it calls. All rows from a source on go over one driver,
+//! `stations`, and a row that fails is named by its text.
 //!
 //! A row of the front end is a text and what it must give, as `x = a + b * c` and the tree `xabc*+=`; one of typing is a
 //! text and the line by which it is refused, as `int x;char x;` and `1:12 refused Redeclared`, or `typed`; of expressions
@@ -15,23 +16,19 @@
 #[cfg(test)]
 mod expression_trees;
 #[cfg(test)]
-mod grammar_answers;
+mod forms;
 #[cfg(test)]
 mod grammar_sources;
 #[cfg(test)]
 mod graph_pictures;
 #[cfg(test)]
-mod graph_rows;
-#[cfg(test)]
 mod graph_tables;
-#[cfg(test)]
-mod layout_answers;
-#[cfg(test)]
-mod layout_limits;
 #[cfg(test)]
 mod layout_rows;
 #[cfg(test)]
 mod lines;
+#[cfg(test)]
+mod made_texts;
 #[cfg(test)]
 mod run_pictures;
 #[cfg(test)]
@@ -43,6 +40,8 @@ mod sources;
 #[cfg(test)]
 mod splices;
 #[cfg(test)]
+mod stations;
+#[cfg(test)]
 mod texts;
 #[cfg(test)]
 mod tokens;
@@ -50,9 +49,5 @@ mod tokens;
 mod typed_declarations;
 #[cfg(test)]
 mod typed_expressions;
-#[cfg(test)]
-mod typing_answers;
-#[cfg(test)]
-mod typing_limits;
 #[cfg(test)]
 mod typing_refusals;

@@ -1,5 +1,6 @@
 //! The lines of reports and refusals.
 
+use crate::texts::assert_text;
 use std::alloc::Global;
 use std::process::Abort;
 use std::test::Fail;
@@ -36,7 +37,7 @@ fn is_refused(
 ) -> Result<(), Fail> {
     let place = Place { line: 12, col: 7 };
     let given = refusal_line(alloc, &Refusal { kind, place, limit })?;
-    assert!(rt; given.as_str() == line);
+    assert_text(rt, line, &given, line);
     Ok(())
 }
 
@@ -47,7 +48,7 @@ fn is_reported(
     lines: &str,
 ) -> Result<(), Fail> {
     let given = plain(alloc, &Report { alarms })?;
-    assert!(rt; given.as_str() == lines);
+    assert_text(rt, lines, &given, lines);
     Ok(())
 }
 
@@ -68,6 +69,11 @@ fn lines(rt: HostRuntime) -> Result<(), Fail> {
     is_reported(&rt, alloc, Vec::new(alloc), "alarms 0\n")?;
     let two = vec![in alloc; race, div]?;
     is_reported(&rt, alloc, two, "1:30 RACE\n2:27 DIV\nalarms 2\n")?;
-    assert!(rt; usage_line() == "usage: COMMAND [OPTIONS] < source\n");
+    assert_text(
+        &rt,
+        "usage",
+        usage_line(),
+        "usage: COMMAND [OPTIONS] < source\n",
+    );
     Ok(())
 }

@@ -1,70 +1,58 @@
 //! Worlds as text.
 
+use crate::forms::push_form;
 use concrete_steps::{Content, Status};
 use concrete_values::{Pointer, Value};
 use concrete_worlds::{Held, World};
-use std::alloc::{AllocError, Global};
+use std::alloc::Global;
 use std::test::Fail;
-
-// A number of a C type.
-fn push_number(alloc: Global, text: &mut String, number: i128) -> Result<(), Fail> {
-    let told = match i64::try_from(number) {
-        Ok(small) => format!(in alloc; "{small} ")?,
-        Err(_) => match u64::try_from(number) {
-            Ok(large) => format!(in alloc; "{large} ")?,
-            Err(_) => format!(in alloc; "beyond ")?,
-        },
-    };
-    text.push_str(&told)?;
-    Ok(())
-}
 
 fn push_value(alloc: Global, text: &mut String, value: Value) -> Result<(), Fail> {
     match value {
-        Value::Number(number) => push_number(alloc, text, number)?,
-        Value::Pointer(Pointer::Null) => text.push_str("0 ")?,
-        Value::Pointer(Pointer::Invalid) => text.push_str("invalid ")?,
-        Value::Pointer(Pointer::To { object, offset }) => {
-            let told = format!(in alloc; "&{object}+{offset} ")?;
-            text.push_str(&told)?;
-        }
+        Value::Number(number) => push_form(alloc, text, "# ", &[number], &[]),
+        Value::Pointer(Pointer::Null) => push_form(alloc, text, "0 ", &[], &[]),
+        Value::Pointer(Pointer::Invalid) => push_form(alloc, text, "invalid ", &[], &[]),
+        Value::Pointer(Pointer::To { object, offset }) => push_form(
+            alloc,
+            text,
+            "&#+# ",
+            &[object as i128, offset as i128],
+            &[],
+        ),
     }
-    Ok(())
+}
+
+fn push_content(alloc: Global, text: &mut String, content: Option<Content>) -> Result<(), Fail> {
+    match content {
+        None => push_form(alloc, text, "none ", &[], &[]),
+        Some(Content::Open) => push_form(alloc, text, "open ", &[], &[]),
+        Some(Content::Is(value)) => push_value(alloc, text, value),
+    }
 }
 
 /// What the first cells hold.
-pub fn cells_told(alloc: Global, world: &World, cells: u32) -> Result<String, Fail> {
-    let mut text = String::new(alloc);
+pub fn push_cells(alloc: Global, text: &mut String, world: &World, cells: u32) -> Result<(), Fail> {
     for cell in 0..cells {
-        match world.content(cell) {
-            None => text.push_str("none ")?,
-            Some(Content::Open) => text.push_str("open ")?,
-            Some(Content::Is(value)) => push_value(alloc, &mut text, value)?,
-        }
-    }
-    Ok(text)
-}
-
-// How a task stands.
-fn push_status(alloc: Global, text: &mut String, status: Status) -> Result<(), Fail> {
-    match status {
-        Status::Waiting => text.push_str("waiting ")?,
-        Status::Ready => text.push_str("ready ")?,
-        Status::Done => text.push_str("done ")?,
-        Status::Blocked(mutex) => {
-            let told = format!(in alloc; "blocked {mutex} ")?;
-            text.push_str(&told)?;
-        }
+        push_content(alloc, text, world.content(cell))?;
     }
     Ok(())
+}
+
+// How a task stands, and with which mutex it waits.
+fn status_form(status: Status) -> (&'static str, u32) {
+    match status {
+        Status::Waiting => ("waiting ", 0),
+        Status::Ready => ("ready ", 0),
+        Status::Done => ("done ", 0),
+        Status::Blocked(mutex) => ("blocked # ", mutex),
+    }
 }
 
 // Which of the first mutexes it holds.
 fn push_held(alloc: Global, text: &mut String, held: Held) -> Result<(), Fail> {
-    for mutex in 0..16 {
+    for mutex in 0..16u32 {
         if held.has(mutex) {
-            let told = format!(in alloc; "with {mutex} ")?;
-            text.push_str(&told)?;
+            push_form(alloc, text, "with # ", &[mutex as i128], &[])?;
         }
     }
     Ok(())
@@ -72,21 +60,27 @@ fn push_held(alloc: Global, text: &mut String, held: Held) -> Result<(), Fail> {
 
 fn push_standing(alloc: Global, text: &mut String, world: &World, task: u32) -> Result<(), Fail> {
     match world.standing(task) {
-        None => text.push_str("none ")?,
+        None => push_form(alloc, text, "none ", &[], &[]),
         Some(standing) => {
-            push_status(alloc, text, standing.status)?;
-            push_held(alloc, text, standing.held)?;
+            let (form, mutex) = status_form(standing.status);
+            push_form(alloc, text, form, &[mutex as i128], &[])?;
+            push_held(alloc, text, standing.held)
         }
     }
-    Ok(())
 }
 
 /// What the first cells hold, and how the first tasks stand.
-pub fn world_told(alloc: Global, world: &World, cells: u32, tasks: u32) -> Result<String, Fail> {
-    let mut text = cells_told(alloc, world, cells)?;
+pub fn push_world(
+    alloc: Global,
+    text: &mut String,
+    world: &World,
+    cells: u32,
+    tasks: u32,
+) -> Result<(), Fail> {
+    push_cells(alloc, text, world, cells)?;
     text.push_str("| ")?;
     for task in 0..tasks {
-        push_standing(alloc, &mut text, world, task)?;
+        push_standing(alloc, text, world, task)?;
     }
-    Ok(text)
+    Ok(())
 }

@@ -1,18 +1,13 @@
 //! Programs without tasks: what their cells of static storage hold in the end is what a C compiler for 32-bit x86 gives
 //! (vectors/runs.c).
-ghost use Rattle.concrete_worlds.specs.Lawful.{HasGraphs, HasWorlds};
 ghost use Rattle.concrete_worlds.specs.Running.{IsWorld};
 
-use crate::run_pictures::cells_told;
-use crate::sources::{RunningProgram, running};
-use crate::texts::assert_text;
+use crate::run_pictures::push_cells;
+use crate::stations::{Run, Way, rows_are_so};
 use concrete_steps::{Choice, Stepped};
 use concrete_worlds::World;
-use flow_graph::Graph;
 use std::alloc::Global;
-use std::process::Abort;
 use std::test::Fail;
-use tm_laid::Laid;
 use tm_lattice::NoMemory;
 
 // A program, and what its cells of static storage hold when `main` has returned.
@@ -246,64 +241,21 @@ fn is_done(stepped: Stepped) -> bool {
     }
 }
 
-// What the first cells hold at the end.
-fn end_told(alloc: Global, world: &mut World, cells: u32) -> Result<String, Fail>
+/// What the first cells hold at the end.
+pub fn push_end(alloc: Global, text: &mut String, world: &mut World, cells: u32) -> Result<(), Fail>
     requires { IsWorld world.old }
 {
     let last = run_main(world)?;
     if is_done(last) && !world.is_stopped() {
-        return cells_told(alloc, world, cells);
+        push_cells(alloc, text, world, cells)
+    } else {
+        text.push_str("not at its end")?;
+        Ok(())
     }
-    Ok(String::from_str(alloc, "not at its end")?)
-}
-
-// The end in the plain model.
-fn plain_told(alloc: Global, laid: &Laid, cells: u32) -> Result<String, Fail>
-    requires { HasWorlds laid.now }
-{
-    let mut world = World::start(alloc, laid)?;
-    end_told(alloc, &mut world, cells)
-}
-
-// The end in a world along graphs.
-fn along_told(alloc: Global, laid: &Laid, graphs: &[Graph], cells: u32) -> Result<String, Fail>
-    requires worlds { HasWorlds laid.now }
-    requires graphs { HasGraphs laid.now graphs.now }
-{
-    let mut world = World::start_along(alloc, laid, graphs)?;
-    end_told(alloc, &mut world, cells)
-}
-
-// Both, with a bar between them.
-fn ends_told(alloc: Global, program: &RunningProgram) -> Result<String, Fail>
-    requires worlds { HasWorlds program.now.layout.laid }
-    requires graphs { HasGraphs program.now.layout.laid program.now.graphs.graphs.items }
-{
-    let laid = &program.layout.laid;
-    let cells = laid.initial.len().min(65_536) as u32;
-    let plain = plain_told(alloc, laid, cells)?;
-    let along = along_told(alloc, laid, &program.graphs.graphs, cells)?;
-    Ok(format!(in alloc; "{plain}| {along}")?)
-}
-
-fn program_told(alloc: Global, source: &str) -> Result<String, Fail> {
-    match running(alloc, source.as_bytes()) {
-        Ok(program) => ends_told(alloc, &program),
-        Err(_) => Ok(String::from_str(alloc, "refused")?),
-    }
-}
-
-fn ends_so(rt: &impl Abort, alloc: Global, source: &str, values: &str) -> Result<(), Fail> {
-    let given = program_told(alloc, source)?;
-    let twice = format!(in alloc; "{values}| {values}")?;
-    assert_text(rt, &given, &twice);
-    Ok(())
 }
 
 #[test]
 fn programs(rt: HostRuntime) -> Result<(), Fail> {
-    for (source, values) in PROGRAMS.iter() {
-        ends_so(&rt, rt.alloc(), *source, *values)?;
-    }
-    Ok(())
+    rows_are_so(&rt, rt.alloc(), Way::Plain(Run::End), &PROGRAMS)?;
+    rows_are_so(&rt, rt.alloc(), Way::Along(Run::End), &PROGRAMS)
 }

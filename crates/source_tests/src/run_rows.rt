@@ -1,18 +1,15 @@
 //! Runs by choices, with a picture of the world after each.
-ghost use Rattle.concrete_worlds.specs.Lawful.{HasGraphs, HasWorlds};
 ghost use Rattle.concrete_worlds.specs.Running.{IsWorld};
 
-use crate::run_pictures::world_told;
-use crate::sources::{RunningProgram, running};
-use crate::texts::assert_text;
+use crate::forms::push_form;
+use crate::run_pictures::push_world;
+use crate::stations::{Run, Way, row_is_so};
 use concrete_steps::{Choice, Stepped};
 use concrete_worlds::World;
-use flow_graph::Graph;
 use std::alloc::Global;
-use std::process::Abort;
 use std::test::Fail;
 use tm_cint::Class;
-use tm_laid::Laid;
+use tm_terms::Place;
 
 // A source with two cells of static storage, and two tasks or one and the initial section; choices, as w0 for wake 0
 // and r17 for run 1 7; and the picture of the start and of the world after each choice: what was answered, the cells,
@@ -135,15 +132,17 @@ fn class_told(class: Class) -> &'static str {
     }
 }
 
-fn answer_told(alloc: Global, stepped: Stepped) -> Result<String, Fail> {
+fn push_answer(alloc: Global, text: &mut String, stepped: Stepped) -> Result<(), Fail> {
     match stepped {
-        Stepped::Done => Ok(String::from_str(alloc, "; done ")?),
-        Stepped::NotAllowed => Ok(String::from_str(alloc, "; not allowed ")?),
-        Stepped::Stopped { class, place } => {
-            let name = class_told(class);
-            let (line, col) = (place.line, place.col);
-            Ok(format!(in alloc; "; stopped {line}:{col} {name} ")?)
-        }
+        Stepped::Done => push_form(alloc, text, "; done ", &[], &[]),
+        Stepped::NotAllowed => push_form(alloc, text, "; not allowed ", &[], &[]),
+        Stepped::Stopped { class, place } => push_form(
+            alloc,
+            text,
+            "; stopped #:# $ ",
+            &[place.line as i128, place.col as i128],
+            &[class_told(class)],
+        ),
     }
 }
 
@@ -162,99 +161,64 @@ fn choice_of(word: &str) -> Choice {
     }
 }
 
-// The cells, how both stand, and where they race.
-fn picture(alloc: Global, world: &World) -> Result<String, Fail>
-    requires { IsWorld world.now }
-{
-    let mut text = world_told(alloc, world, 2, 2)?;
-    let races = world.races(alloc)?;
+fn push_races(alloc: Global, text: &mut String, races: &[Place]) -> Result<(), Fail> {
     if races.len() > 0 {
         text.push_str("races ")?;
     }
-    for place in &races {
-        let (line, col) = (place.line, place.col);
-        let told = format!(in alloc; "{line}:{col} ")?;
-        text.push_str(&told)?;
+    for place in races {
+        let place = [place.line as i128, place.col as i128];
+        push_form(alloc, text, "#:# ", &place, &[])?;
     }
-    Ok(text)
+    Ok(())
+}
+
+// The cells, how both stand, and where they race.
+fn push_picture(alloc: Global, text: &mut String, world: &World) -> Result<(), Fail>
+    requires { IsWorld world.now }
+{
+    push_world(alloc, text, world, 2, 2)?;
+    let races = world.races(alloc)?;
+    push_races(alloc, text, &races)
 }
 
 // What is answered to a choice, and the picture then.
-fn step_told(alloc: Global, world: &mut World, choice: Choice) -> Result<String, Fail>
+fn push_step(
+    alloc: Global,
+    text: &mut String,
+    world: &mut World,
+    choice: Choice,
+) -> Result<(), Fail>
     requires { IsWorld world.old }
     ensures { IsWorld world.new }
 {
     world.reserve()?;
     let stepped = world.step(choice)?;
-    let mut text = answer_told(alloc, stepped)?;
-    let after = picture(alloc, world)?;
-    text.push_str(&after)?;
-    Ok(text)
+    push_answer(alloc, text, stepped)?;
+    push_picture(alloc, text, world)
 }
 
-fn run_told(alloc: Global, world: &mut World, choices: &str) -> Result<String, Fail>
+/// The picture of a world, and of what becomes of it by each choice.
+pub fn push_choices(
+    alloc: Global,
+    text: &mut String,
+    world: &mut World,
+    choices: &str,
+) -> Result<(), Fail>
     requires { IsWorld world.old }
 {
-    let mut text = picture(alloc, world)?;
+    push_picture(alloc, text, world)?;
     for word in choices.split_whitespace() {
-        let told = step_told(alloc, world, choice_of(word))?;
-        text.push_str(&told)?;
+        push_step(alloc, text, world, choice_of(word))?;
     }
-    Ok(text)
-}
-
-// The run in the plain model.
-fn plain_told(alloc: Global, laid: &Laid, choices: &str) -> Result<String, Fail>
-    requires { HasWorlds laid.now }
-{
-    let mut world = World::start(alloc, laid)?;
-    run_told(alloc, &mut world, choices)
-}
-
-// The run in a world along graphs.
-fn along_told(alloc: Global, laid: &Laid, graphs: &[Graph], choices: &str) -> Result<String, Fail>
-    requires worlds { HasWorlds laid.now }
-    requires graphs { HasGraphs laid.now graphs.now }
-{
-    let mut world = World::start_along(alloc, laid, graphs)?;
-    run_told(alloc, &mut world, choices)
-}
-
-// Both, with a bar between them.
-fn runs_told(alloc: Global, program: &RunningProgram, choices: &str) -> Result<String, Fail>
-    requires worlds { HasWorlds program.now.layout.laid }
-    requires graphs { HasGraphs program.now.layout.laid program.now.graphs.graphs.items }
-{
-    let laid = &program.layout.laid;
-    let plain = plain_told(alloc, laid, choices)?;
-    let along = along_told(alloc, laid, &program.graphs.graphs, choices)?;
-    Ok(format!(in alloc; "{plain}| {along}")?)
-}
-
-fn source_told(alloc: Global, source: &str, choices: &str) -> Result<String, Fail> {
-    match running(alloc, source.as_bytes()) {
-        Ok(program) => runs_told(alloc, &program, choices),
-        Err(_) => Ok(String::from_str(alloc, "refused")?),
-    }
-}
-
-fn runs_so(
-    rt: &impl Abort,
-    alloc: Global,
-    source: &str,
-    choices: &str,
-    told: &str,
-) -> Result<(), Fail> {
-    let given = source_told(alloc, source, choices)?;
-    let twice = format!(in alloc; "{told}| {told}")?;
-    assert_text(rt, &given, &twice);
     Ok(())
 }
 
 #[test]
 fn rows(rt: HostRuntime) -> Result<(), Fail> {
     for (source, choices, told) in ROWS.iter() {
-        runs_so(&rt, rt.alloc(), *source, *choices, *told)?;
+        let run = Run::Choices(*choices);
+        row_is_so(&rt, rt.alloc(), Way::Plain(run), *source, *told)?;
+        row_is_so(&rt, rt.alloc(), Way::Along(run), *source, *told)?;
     }
     Ok(())
 }

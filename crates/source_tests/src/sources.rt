@@ -1,11 +1,9 @@
-//! The layout of a source and the graphs of its bodies.
+//! The layout of a file and the graphs of its bodies.
 ghost use Rattle.std.specs.Prelude.{IfOk};
 ghost use Rattle.tm_laid.specs.Layouts.{laid_tree};
 ghost use Rattle.lowering_laws.specs.LaidFiles.{IsLaidFile};
 ghost use Rattle.concrete_worlds.specs.Lawful.{HasGraphs, HasWorlds};
 
-use c_lexer::lex;
-use c_parser::parse;
 use c_typing::typed;
 use cell_layout::lay;
 use concrete_worlds::laws::laid_files_have_worlds;
@@ -34,8 +32,8 @@ fn ends_as_main(source: &[u8], start: u32) -> bool {
         && source.get(at + 3) == Some(&b'n')
 }
 
-// The name that is spelled `main`.
-fn main_in(source: &[u8], tokens: &[Token]) -> Option<Name> {
+/// The name that is spelled `main`.
+pub fn main_in(source: &[u8], tokens: &[Token]) -> Option<Name> {
     for token in tokens {
         if let Shape::Name(name) = token.shape {
             if is_main(source, name) {
@@ -46,7 +44,7 @@ fn main_in(source: &[u8], tokens: &[Token]) -> Option<Name> {
     None
 }
 
-/// The layout of a source.
+/// The layout of a file.
 pub struct SourceLayout {
     pub laid: Laid,
 }
@@ -65,8 +63,8 @@ pub struct RunningProgram {
     pub graphs: Graphs,
 }
 
-// The layout of a file: what it needs follows from its typing and from the limits.
-fn laid_in(alloc: Global, file: &File, main: Option<Name>) -> Result<Laid, Refused>
+/// The layout of a file: what its graphs and worlds need follows from its typing and from the limits.
+pub fn laid_in(alloc: Global, file: &File, main: Option<Name>) -> Result<Laid, Refused>
     ensures worlds { IfOk result (λ laid. HasWorlds laid) }
     ensures typed { IfOk result (λ laid. IsLaidFile (laid_tree laid)) }
 {
@@ -74,35 +72,6 @@ fn laid_in(alloc: Global, file: &File, main: Option<Name>) -> Result<Laid, Refus
     laid_files_have_worlds();
     match typed(alloc, file, main) {
         Ok(typed) => lay(alloc, Scale::Usual, typed),
-        Err(fail) => Err(fail),
-    }
-}
-
-// The layout of what stands behind the lexis. (Each station has a function of its own, with one way out behind what it
-// owns.)
-fn laid_from(alloc: Global, source: &[u8], tokens: &[Token]) -> Result<SourceLayout, Refused>
-    ensures worlds { IfOk result (λ layout. HasWorlds layout.laid) }
-    ensures typed { IfOk result (λ layout. IsLaidFile (laid_tree layout.laid)) }
-{
-    match parse(alloc, tokens) {
-        Ok(file) => match laid_in(alloc, &file, main_in(source, tokens)) {
-            Ok(laid) => Ok(SourceLayout { laid }),
-            Err(fail) => Err(fail),
-        },
-        Err(fail) => Err(fail),
-    }
-}
-
-/// The layout of a source, or its refusal.
-pub fn laid_out(alloc: Global, source: &[u8]) -> Result<SourceLayout, Refused>
-    ensures worlds { IfOk result (λ layout. HasWorlds layout.laid) }
-    ensures typed { IfOk result (λ layout. IsLaidFile (laid_tree layout.laid)) }
-{
-    if source.len() > 1_048_576 {
-        return Err(Refused::NoMemory);
-    }
-    match lex(alloc, source) {
-        Ok(tokens) => laid_from(alloc, source, &tokens),
         Err(fail) => Err(fail),
     }
 }
@@ -121,13 +90,13 @@ fn lowered_in(alloc: Global, layout: SourceLayout) -> Result<RunningProgram, Ref
     }
 }
 
-/// The program of a source, or its refusal.
-pub fn running(alloc: Global, source: &[u8]) -> Result<RunningProgram, Refused>
+/// The program of a file, or its refusal.
+pub fn running(alloc: Global, file: &File, main: Option<Name>) -> Result<RunningProgram, Refused>
     ensures worlds { IfOk result (λ program. HasWorlds program.layout.laid) }
     ensures graphs { IfOk result (λ program. HasGraphs program.layout.laid program.graphs.graphs.items) }
 {
-    match laid_out(alloc, source) {
-        Ok(layout) => lowered_in(alloc, layout),
+    match laid_in(alloc, file, main) {
+        Ok(laid) => lowered_in(alloc, SourceLayout { laid }),
         Err(fail) => Err(fail),
     }
 }

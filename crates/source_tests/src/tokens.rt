@@ -1,9 +1,8 @@
 //! Sources and their tokens, each with its place, and sources that the lexis refuses.
 
-use crate::grammar_answers::answers;
+use crate::stations::{Way, answers, rows_are_so};
 use c_lexer::lex;
 use std::alloc::Global;
-use std::process::Abort;
 use std::test::Fail;
 use tm_terms::{IntConstant, Longs, Name, Place, Shape, Sign, Token, Word};
 
@@ -394,81 +393,85 @@ static TAKEN: [(&[u8], &[Token]); 38] = [
 ];
 
 // Sources that are refused, and the lines that say so.
-static REFUSED: [(&[u8], &str); 46] = [
-    (b"/* x", "1:1 refused Lexical\n"),
-    (b"/*/", "1:1 refused Lexical\n"),
-    (b"#define A 1", "1:1 refused Lexical\n"),
-    (b"  #pragmatic", "1:3 refused Lexical\n"),
-    (b"# 12x", "1:1 refused Lexical\n"),
-    (b"#\n1", "1:1 refused Lexical\n"),
-    (b"a # 1", "1:3 refused Lexical\n"),
-    (b"/*\n*/ # 1", "2:4 refused Lexical\n"),
-    (b"int x;\0", "1:7 refused Lexical\n"),
+static REFUSED: [(&str, &str); 45] = [
+    ("/* x", "1:1 refused Lexical\n"),
+    ("/*/", "1:1 refused Lexical\n"),
+    ("#define A 1", "1:1 refused Lexical\n"),
+    ("  #pragmatic", "1:3 refused Lexical\n"),
+    ("# 12x", "1:1 refused Lexical\n"),
+    ("#\n1", "1:1 refused Lexical\n"),
+    ("a # 1", "1:3 refused Lexical\n"),
+    ("/*\n*/ # 1", "2:4 refused Lexical\n"),
+    ("int x;\0", "1:7 refused Lexical\n"),
     (
-        b"int x=170141183460469231731687303715884105728;",
+        "int x=170141183460469231731687303715884105728;",
         "1:7 refused Lexical\n",
     ),
     (
-        b"0x80000000000000000000000000000000",
+        "0x80000000000000000000000000000000",
         "1:1 refused Lexical\n",
     ),
     (
-        b"99999999999999999999999999999999999999999999999999999999",
+        "99999999999999999999999999999999999999999999999999999999",
         "1:1 refused Lexical\n",
     ),
-    (b"int x=0x;", "1:7 refused Lexical\n"),
-    (b"08", "1:1 refused Lexical\n"),
-    (b"0xg", "1:1 refused Lexical\n"),
-    (b"0b1", "1:1 refused Lexical\n"),
-    (b"1lL", "1:1 refused Lexical\n"),
-    (b"1lul", "1:1 refused Lexical\n"),
-    (b"1uu", "1:1 refused Lexical\n"),
-    (b"1lll", "1:1 refused Lexical\n"),
-    (b"1.5", "1:1 refused Lexical\n"),
-    (b"1e5", "1:1 refused Lexical\n"),
-    (b"1...3", "1:1 refused Lexical\n"),
-    (b"int x='\\400';", "1:7 refused Lexical\n"),
-    (b"'\\x100'", "1:1 refused Lexical\n"),
-    (b"'\\x'", "1:1 refused Lexical\n"),
-    (b"'\\18'", "1:1 refused Lexical\n"),
-    (b"'\\1234'", "1:1 refused Lexical\n"),
-    (b"''", "1:1 refused Lexical\n"),
-    (b"'ab'", "1:1 refused Lexical\n"),
-    (b"'\\q'", "1:1 refused Lexical\n"),
-    (b"'\n'", "1:1 refused Lexical\n"),
-    (b"'a", "1:1 refused Lexical\n"),
-    (b"'\\", "1:1 refused Lexical\n"),
-    (b"'\xc3\xa9'", "1:1 refused Lexical\n"),
-    (b"float x;", "1:1 refused Unsupported\n"),
-    (b"int\ngoto;", "2:1 refused Unsupported\n"),
-    (b"a....", "1:2 refused Unsupported\n"),
-    (b"union U u; double f;", "1:1 refused Unsupported\n"),
-    (b"_Complex", "1:1 refused Unsupported\n"),
-    (b"; _Imaginary", "1:3 refused Unsupported\n"),
-    (b"double x; @", "1:11 refused Lexical\n"),
-    (b"$", "1:1 refused Lexical\n"),
-    (b"\\\n", "1:1 refused Lexical\n"),
-    (b"\"a\"", "1:1 refused Lexical\n"),
-    (b" \x80", "1:2 refused Lexical\n"),
+    ("int x=0x;", "1:7 refused Lexical\n"),
+    ("08", "1:1 refused Lexical\n"),
+    ("0xg", "1:1 refused Lexical\n"),
+    ("0b1", "1:1 refused Lexical\n"),
+    ("1lL", "1:1 refused Lexical\n"),
+    ("1lul", "1:1 refused Lexical\n"),
+    ("1uu", "1:1 refused Lexical\n"),
+    ("1lll", "1:1 refused Lexical\n"),
+    ("1.5", "1:1 refused Lexical\n"),
+    ("1e5", "1:1 refused Lexical\n"),
+    ("1...3", "1:1 refused Lexical\n"),
+    ("int x='\\400';", "1:7 refused Lexical\n"),
+    ("'\\x100'", "1:1 refused Lexical\n"),
+    ("'\\x'", "1:1 refused Lexical\n"),
+    ("'\\18'", "1:1 refused Lexical\n"),
+    ("'\\1234'", "1:1 refused Lexical\n"),
+    ("''", "1:1 refused Lexical\n"),
+    ("'ab'", "1:1 refused Lexical\n"),
+    ("'\\q'", "1:1 refused Lexical\n"),
+    ("'\n'", "1:1 refused Lexical\n"),
+    ("'a", "1:1 refused Lexical\n"),
+    ("'\\", "1:1 refused Lexical\n"),
+    ("'\u{e9}'", "1:1 refused Lexical\n"),
+    ("float x;", "1:1 refused Unsupported\n"),
+    ("int\ngoto;", "2:1 refused Unsupported\n"),
+    ("a....", "1:2 refused Unsupported\n"),
+    ("union U u; double f;", "1:1 refused Unsupported\n"),
+    ("_Complex", "1:1 refused Unsupported\n"),
+    ("; _Imaginary", "1:3 refused Unsupported\n"),
+    ("double x; @", "1:11 refused Lexical\n"),
+    ("$", "1:1 refused Lexical\n"),
+    ("\\\n", "1:1 refused Lexical\n"),
+    ("\"a\"", "1:1 refused Lexical\n"),
 ];
 
-fn has_tokens(rt: &impl Abort, alloc: Global, source: &[u8], expected: &[Token]) {
-    if source.len() <= 1_048_576 {
-        match lex(alloc, source) {
-            Ok(tokens) => assert!(rt; tokens.as_slice() == expected),
-            Err(_) => assert!(rt; false),
-        }
+fn has_tokens(alloc: Global, source: &[u8], expected: &[Token]) -> bool {
+    if source.len() > 1_048_576 {
+        return false;
+    }
+    match lex(alloc, source) {
+        Ok(tokens) => tokens.as_slice() == expected,
+        Err(_) => false,
     }
 }
 
 #[test]
 fn tokens(rt: HostRuntime) -> Result<(), Fail> {
-    let alloc = rt.alloc();
-    for (source, expected) in TAKEN.iter() {
-        has_tokens(&rt, alloc, *source, *expected);
+    for (row, (source, expected)) in TAKEN.iter().enumerate() {
+        assert!(rt; has_tokens(rt.alloc(), *source, *expected), "row {row}");
     }
-    for (source, line) in REFUSED.iter() {
-        answers(&rt, alloc, *source, *line)?;
-    }
-    Ok(())
+    rows_are_so(&rt, rt.alloc(), Way::Taken, &REFUSED)?;
+    answers(
+        &rt,
+        rt.alloc(),
+        Way::Taken,
+        "a byte 128",
+        b" \x80",
+        "1:2 refused Lexical\n",
+    )
 }

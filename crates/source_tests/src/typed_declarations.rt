@@ -1,6 +1,6 @@
 //! Declarations and initialisers, and what typing answers them.
 
-use crate::typing_answers::answers;
+use crate::stations::{Way, rows_are_so};
 use std::test::Fail;
 
 // A source, and what typing answers it.
@@ -243,8 +243,5 @@ static ROWS: [(&str, &str); 132] = [
 
 #[test]
 fn rows(rt: HostRuntime) -> Result<(), Fail> {
-    for (source, line) in ROWS.iter() {
-        answers(&rt, rt.alloc(), source.as_bytes(), *line)?;
-    }
-    Ok(())
+    rows_are_so(&rt, rt.alloc(), Way::Typed, &ROWS)
 }

@@ -1,6 +1,6 @@
 //! Sources and what typing answers them: rows of each kind with their places, and sources that are typed.
 
-use crate::typing_answers::answers;
+use crate::stations::{Way, rows_are_so};
 use std::test::Fail;
 
 // A source, and what typing answers it.
@@ -114,8 +114,5 @@ static ROWS: [(&str, &str); 60] = [
 
 #[test]
 fn rows(rt: HostRuntime) -> Result<(), Fail> {
-    for (source, line) in ROWS.iter() {
-        answers(&rt, rt.alloc(), source.as_bytes(), *line)?;
-    }
-    Ok(())
+    rows_are_so(&rt, rt.alloc(), Way::Typed, &ROWS)
 }

@@ -1,5 +1,0 @@
-use Rattle.concrete_worlds.specs.Running.{IsWorld}
-use Rattle.source_tests.proofs.run_rows.run_told.Given as goal
-
-abbrev pub invariant-loop-word : goal.invariant-loop-word
-invariant-loop-word l = IsWorld l.world

@@ -1,2 +1,0 @@
-pub mod EmptyFiles
-pub mod Writers

@@ -1,2 +1,0 @@
--- When a list of edges can be configured (Checks).
-pub mod Checks
