@@ -24,9 +24,10 @@ is_same Absent Absent = true
 is_same Suppressed Suppressed = true
 is_same _ _ = false
 
--- a result that is to be mended, and no mere note
+-- a result that is to be mended, and no mere note, nor one that a human is to look at, which has no level
 abbrev pub is_problem : Data → Bool
-is_problem result = not (has_text (codes "level") (codes "note") result)
+is_problem result =
+    not (has_text (codes "level") (codes "note") result) && not (has_text (codes "level") (codes "none") result)
 
 -- a result that is to be mended stands so
 abbrev pub stands : Standing → Data → Bool

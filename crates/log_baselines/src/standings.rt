@@ -53,11 +53,11 @@ fn is_same(wanted: Standing, standing: Standing) -> bool
     }
 }
 
-/// Whether a result is to be mended, and no mere note.
+/// Whether a result is to be mended, and no mere note, nor one that a human is to look at, which has no level.
 fn is_problem(found: &Value) -> bool
     ensures { result ≡ is_problem (view found.now) }
 {
-    !has_text(found, "level", "note")
+    !has_text(found, "level", "note") && !has_text(found, "level", "none")
 }
 
 /// Whether a result that is to be mended stands so.

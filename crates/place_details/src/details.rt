@@ -61,6 +61,43 @@ fn regions_of(
     Ok(regions)
 }
 
+/// Where places begin and end, by the starts of the lines.
+fn located(
+    alloc: Global,
+    text: &[u8],
+    lines: &[u8],
+    sights: &[Sight<'_>],
+) -> Result<Vec<Region>, AllocError>
+    ensures { IfOk result (λ regions. regions.items
+        ≡ map (region_of text.now lines.now) (map sight_seen sights.now)) }
+{
+    let starts = line_starts(alloc, text)?;
+    let own_starts = line_starts(alloc, lines)?;
+    let known = Known {
+        text,
+        starts: &starts,
+        lines,
+        line_starts: &own_starts,
+    };
+    regions_of(alloc, known, sights)
+}
+
+/// Where places of a text begin and end in their lines of the files, where these are at hand.
+pub fn regions_in(
+    alloc: Global,
+    text: &[u8],
+    lines: &[u8],
+    sights: &[Sight<'_>],
+) -> Result<Vec<Region>, NoMemory>
+    ensures { IfOk result (λ regions. regions.items
+        ≡ map (region_of text.now lines.now) (map sight_seen sights.now)) }
+{
+    match located(alloc, text, lines, sights) {
+        Ok(regions) => Ok(regions),
+        Err(_) => Err(NoMemory),
+    }
+}
+
 /// The line of the file with a number, or that of the text where the file is not at hand.
 fn known_line<'a>(known: Known<'a, '_>, number: u32) -> &'a [u8]
     requires starts { known.starts.now ≡ starts_of known.text.now }

@@ -14,5 +14,5 @@ mod functions;
 mod lines;
 mod regions;
 
-pub use details::{Details, Sight, details_of};
+pub use details::{Details, Sight, details_of, regions_in};
 pub use regions::Region;

@@ -2,3 +2,4 @@ pub mod Files
 pub mod LogFound
 pub mod LogText
 pub mod Results
+pub mod WaysTold

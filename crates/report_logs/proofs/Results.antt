@@ -1,26 +1,29 @@
 -- Each finding is told of once.
 use Rattle.std.proofs.Common.{◌≡◌, ◌<◌, ◌+◌, ◌∙◌, ℕ, suc, Option, Some, None, List, [], ◌∷◌, ◌++◌, length, get_or, take, drop, map, add-one, drop-cons, append_assoc}
-use Rattle.std.proofs.Common.{arith, refl, sym, ap}
-use Rattle.std.specs.List.{drop-map}
-use Rattle.std.proofs.lemmas.List.{length-map, map_more}
+use Rattle.std.proofs.Common.{arith, refl, sym, ap, length-drop}
+use Rattle.std.specs.List.{drop-map, flat_map}
+use Rattle.std.proofs.lemmas.List.{length-map, map_more, take-append-drop}
+use Rattle.std.proofs.lemmas.List.Sums.{sum_by-cons}
 use Rattle.std.specs.Borrow.{Bor}
-use Rattle.std.specs.Prelude.{String, string_bytes}
+use Rattle.std.specs.Prelude.{String, string_bytes, sum}
 use Rattle.std.specs.declared.alloc.Global.{Global}
 use Rattle.serde_json.specs.Data.{Data}
 use Rattle.place_details.specs.reading.Seen.{bytes_seen}
 use Rattle.report_views.specs.declared.spots.Spot.{Spot as SpotCode}
 use Rattle.report_views.specs.reading.Seen.{spot_seen}
-use Rattle.report_logs.specs.reading.Seen.{AreAsMany}
+use Rattle.report_logs.specs.reading.Seen.{AreAsMany, told_at}
 use Rattle.source_marks.specs.Marks.{Origin}
-use Rattle.place_details.specs.Details.{AreDetails, Sight}
+use Rattle.place_details.specs.Details.{AreDetails, Sight, region_of}
 use Rattle.place_details.specs.Fingerprints.{fingerprints_behind}
+use Rattle.report_reading.specs.Ways.{Way}
+use Rattle.report_views.specs.Shares.{cut, leading, shares, site_of}
 use Rattle.report_views.specs.Spots.{Spot, before, spot_of, spots_of}
 use Rattle.report_views.specs.declared.spots.Finding.{Finding}
 use Rattle.place_details.specs.declared.regions.Region.{Region}
 use Rattle.source_marks.specs.Names.{decoded}
-use Rattle.report_logs.specs.Laws.{AllTold}
+use Rattle.report_logs.specs.Laws.{AllTold, AllWaysTold}
 use Rattle.report_logs.specs.Logs.{sight_of, sights_of}
-use Rattle.report_logs.specs.Sarif.{Told, result_data, told_of}
+use Rattle.report_logs.specs.Sarif.{Told, WayTold, result_data, told_of, ways_told}
 
 pub next : {A : Type 0} (xs : List A) (i : ℕ) (d : A) → i < length xs → drop i xs ≡ get_or xs i d ∷ drop (i + 1) xs
 next xs i d h = rw (add-one, drop-cons xs i d)
@@ -32,30 +35,41 @@ pub value_more : {A : Type 0} (f : A → Data) (all : List A) (i : ℕ) (d : A) 
 value_more f all i d done done' value h so_far is pushed =
     pushed ∙ ap (λ v. done ++ v ∷ []) is ∙ ap (λ vs. vs ++ f (get_or all i d) ∷ []) so_far ∙ sym (map_more f all i d h)
 
--- what is told of a finding, by its fingerprint
-pub reprinted : (told : Told) (spot : Spot) (region : Region) (function old new : List ℕ)
-    → told ≡ record { spot = spot; region = region; function = function; fingerprint = old } → old ≡ new
-    → told ≡ record { spot = spot; region = region; function = function; fingerprint = new }
-reprinted told spot region function old new is same =
-    is ∙ ap (λ f. record { spot = spot; region = region; function = function; fingerprint = f }) same
+-- what is told of a finding, by its fingerprint and its ways
+pub reprinted : (told : Told) (spot : Spot) (region : Region) (function old new : List ℕ) (ways ways' : List WayTold)
+    → told ≡ record { spot = spot; region = region; function = function; fingerprint = old; ways = ways } → old ≡ new
+    → ways ≡ ways'
+    → told ≡ record { spot = spot; region = region; function = function; fingerprint = new; ways = ways' }
+reprinted told spot region function old new ways ways' is same own =
+    is ∙ ap (λ f. record { spot = spot; region = region; function = function; fingerprint = f; ways = ways }) same
+    ∙ ap (λ w. record { spot = spot; region = region; function = function; fingerprint = new; ways = w }) own
 
-pub told_more : (spots : List Spot) (regions : List Region) (functions fingerprints : List (List ℕ)) (i : ℕ)
-    (spot : Spot) (region : Region) (function fingerprint : List ℕ) (whole done done' : List Data) (value : Data)
+pub told_more : (spots : List Spot) (regions : List Region) (functions fingerprints : List (List ℕ))
+    (shared shared' : List (List WayTold)) (i : ℕ) (spot : Spot) (region : Region) (function fingerprint : List ℕ)
+    (ways : List WayTold) (whole done done' : List Data) (value : Data)
     → drop i spots ≡ spot ∷ drop (i + 1) spots → drop i regions ≡ region ∷ drop (i + 1) regions
     → drop i functions ≡ function ∷ drop (i + 1) functions
-    → drop i fingerprints ≡ fingerprint ∷ drop (i + 1) fingerprints
-    → whole ≡ done ++ map result_data (told_of (drop i spots) (drop i regions) (drop i functions) (drop i fingerprints))
-    → value ≡ result_data (record { spot = spot; region = region; function = function; fingerprint = fingerprint })
+    → drop i fingerprints ≡ fingerprint ∷ drop (i + 1) fingerprints → shared ≡ ways ∷ shared'
+    → whole ≡ done ++ map result_data (told_of (drop i spots) (drop i regions) (drop i functions) (drop i fingerprints)
+    shared)
+    → value ≡ result_data (record {
+      spot = spot;
+      region = region;
+      function = function;
+      fingerprint = fingerprint;
+      ways = ways;
+    })
     → done' ≡ done ++ value ∷ []
     → whole ≡ done' ++ map result_data (told_of (drop (i + 1) spots) (drop (i + 1) regions) (drop (i + 1) functions)
-    (drop (i + 1) fingerprints))
-told_more spots regions functions fingerprints i spot region function fingerprint whole done done' value one_spot one_region one_function one_print so_far is pushed =
-    let rest : List Data = map result_data (told_of (drop (i + 1) spots) (drop (i + 1) regions) (drop (i + 1) functions) (drop (i + 1) fingerprints)) in
+    (drop (i + 1) fingerprints) shared')
+told_more spots regions functions fingerprints shared shared' i spot region function fingerprint ways whole done done' value one_spot one_region one_function one_print one_share so_far is pushed =
+    let rest : List Data = map result_data (told_of (drop (i + 1) spots) (drop (i + 1) regions) (drop (i + 1) functions) (drop (i + 1) fingerprints) shared') in
     so_far
-    ∙ ap (λ s. done ++ map result_data (told_of s (drop i regions) (drop i functions) (drop i fingerprints))) one_spot
-    ∙ ap (λ r. done ++ map result_data (told_of (spot ∷ drop (i + 1) spots) r (drop i functions) (drop i fingerprints))) one_region
-    ∙ ap (λ f. done ++ map result_data (told_of (spot ∷ drop (i + 1) spots) (region ∷ drop (i + 1) regions) f (drop i fingerprints))) one_function
-    ∙ ap (λ f. done ++ map result_data (told_of (spot ∷ drop (i + 1) spots) (region ∷ drop (i + 1) regions) (function ∷ drop (i + 1) functions) f)) one_print
+    ∙ ap (λ s. done ++ map result_data (told_of s (drop i regions) (drop i functions) (drop i fingerprints) shared)) one_spot
+    ∙ ap (λ r. done ++ map result_data (told_of (spot ∷ drop (i + 1) spots) r (drop i functions) (drop i fingerprints) shared)) one_region
+    ∙ ap (λ f. done ++ map result_data (told_of (spot ∷ drop (i + 1) spots) (region ∷ drop (i + 1) regions) f (drop i fingerprints) shared)) one_function
+    ∙ ap (λ f. done ++ map result_data (told_of (spot ∷ drop (i + 1) spots) (region ∷ drop (i + 1) regions) (function ∷ drop (i + 1) functions) f shared)) one_print
+    ∙ ap (λ w. done ++ map result_data (told_of (spot ∷ drop (i + 1) spots) (region ∷ drop (i + 1) regions) (function ∷ drop (i + 1) functions) (fingerprint ∷ drop (i + 1) fingerprints) w)) one_share
     ∙ ap (λ v. done ++ (v ∷ rest)) (sym is)
     ∙ sym (append_assoc done (value ∷ []) rest)
     ∙ ap (λ t. t ++ rest) (sym pushed)
@@ -90,22 +104,54 @@ as_many folder text lines sights count regions functions fingerprints details sa
 
 -- each finding is told of once, in their order
 pub all_told : (spots : List Spot) (regions : List Region) (functions fingerprints : List (List ℕ))
-    → AsMany (length spots) regions functions fingerprints
-    → map (λ (told : Told). told.spot) (told_of spots regions functions fingerprints) ≡ spots
-all_told [] regions functions fingerprints many = refl
-all_told (spot ∷ spots) [] functions fingerprints many = let none = many.of_regions in absurd (omega arith)
-all_told (spot ∷ spots) (region ∷ regions) [] fingerprints many = let none = many.of_functions in absurd (omega arith)
-all_told (spot ∷ spots) (region ∷ regions) (function ∷ functions) [] many =
+    (shared : List (List WayTold)) → AsMany (length spots) regions functions fingerprints → length shared ≡ length spots
+    → map (λ (told : Told). told.spot) (told_of spots regions functions fingerprints shared) ≡ spots
+all_told [] regions functions fingerprints shared many same = refl
+all_told (spot ∷ spots) [] functions fingerprints shared many same = let none = many.of_regions in absurd (omega arith)
+all_told (spot ∷ spots) (region ∷ regions) [] fingerprints shared many same =
+    let none = many.of_functions in absurd (omega arith)
+all_told (spot ∷ spots) (region ∷ regions) (function ∷ functions) [] shared many same =
     let none = many.of_fingerprints in absurd (omega arith)
-all_told (spot ∷ spots) (region ∷ regions) (function ∷ functions) (fingerprint ∷ fingerprints) many =
+all_told (spot ∷ spots) (region ∷ regions) (function ∷ functions) (fingerprint ∷ fingerprints) [] many same =
+    absurd (omega arith)
+all_told (spot ∷ spots) (region ∷ regions) (function ∷ functions) (fingerprint ∷ fingerprints) (ways ∷ shared) many same =
     let a = many.of_regions in
     let b = many.of_functions in
     let c = many.of_fingerprints in
-    ap (λ rest. spot ∷ rest) (all_told spots regions functions fingerprints (record {
+    ap (λ rest. spot ∷ rest) (all_told spots regions functions fingerprints shared (record {
       of_regions = omega arith;
       of_functions = omega arith;
       of_fingerprints = omega arith;
-    }))
+    }) (omega arith))
+
+-- all that is told stands at findings, in its order
+pub all_ways : (spots : List Spot) (regions : List Region) (functions fingerprints : List (List ℕ)) (counts : List ℕ)
+    (ways : List WayTold) → AsMany (length spots) regions functions fingerprints → length counts ≡ length spots
+    → sum counts ≡ length ways
+    → flat_map (λ (told : Told). told.ways) (told_of spots regions functions fingerprints (cut counts ways)) ≡ ways
+all_ways [] regions functions fingerprints [] [] many same whole = refl
+all_ways [] regions functions fingerprints [] (way ∷ ways) many same whole = absurd (omega arith)
+all_ways [] regions functions fingerprints (count ∷ counts) ways many same whole = absurd (omega arith)
+all_ways (spot ∷ spots) [] functions fingerprints counts ways many same whole =
+    let none = many.of_regions in absurd (omega arith)
+all_ways (spot ∷ spots) (region ∷ regions) [] fingerprints counts ways many same whole =
+    let none = many.of_functions in absurd (omega arith)
+all_ways (spot ∷ spots) (region ∷ regions) (function ∷ functions) [] counts ways many same whole =
+    let none = many.of_fingerprints in absurd (omega arith)
+all_ways (spot ∷ spots) (region ∷ regions) (function ∷ functions) (fingerprint ∷ fingerprints) [] ways many same whole =
+    absurd (omega arith)
+all_ways (spot ∷ spots) (region ∷ regions) (function ∷ functions) (fingerprint ∷ fingerprints) (count ∷ counts) ways many same whole =
+    let a = many.of_regions in
+    let b = many.of_functions in
+    let c = many.of_fingerprints in
+    let left = length-drop count ways in
+    let first : sum (count ∷ counts) ≡ count + sum counts = sum_by-cons (λ x. x) count counts in
+    ap (λ rest. take count ways ++ rest) (all_ways spots regions functions fingerprints counts (drop count ways) (record {
+      of_regions = omega arith;
+      of_functions = omega arith;
+      of_fingerprints = omega arith;
+    }) (omega arith) (omega arith))
+    ∙ take-append-drop count ways
 
 -- the findings that have places are as many as their places
 placed_before : (origins : List Origin) (finding : Finding) (rest : Option (List Spot)) (first : Option Spot)
@@ -123,12 +169,70 @@ as_many_spots origins (finding ∷ findings) spots is =
     placed_before origins finding (spots_of origins findings) (spot_of origins finding) (length findings)
     (as_many_spots origins findings) spots is
 
+-- how many spots, and what is told of them
+spots_many : (origins : List Origin) (findings : List Finding) (spots : List Spot)
+    → spots_of origins findings ≡ Some spots → length (sights_of findings spots) ≡ length spots
+spots_many origins findings spots placed =
+    as_many_sights findings spots (sym (as_many_spots origins findings spots placed))
+
+pub as_many_shares : (findings : List Finding) (ways : List Way) → length (shares findings ways) ≡ length findings
+as_many_shares [] ways = refl
+as_many_shares (finding ∷ findings) ways = ap suc (as_many_shares findings (drop (leading finding ways) ways))
+
+pub as_many_cut : {A : Type 0} (counts : List ℕ) (items : List A) → length (cut counts items) ≡ length counts
+as_many_cut [] items = refl
+as_many_cut (count ∷ counts) items = ap suc (as_many_cut counts (drop count items))
+
+pub as_many_ways : (ways : List Way) (sites : List Spot) (regions : List Region) → length sites ≡ length ways
+    → length regions ≡ length ways → length (ways_told ways sites regions) ≡ length ways
+as_many_ways [] sites regions same many = refl
+as_many_ways (way ∷ ways) [] regions same many = absurd (omega arith)
+as_many_ways (way ∷ ways) (site ∷ sites) [] same many = absurd (omega arith)
+as_many_ways (way ∷ ways) (site ∷ sites) (region ∷ regions) same many =
+    ap suc (as_many_ways ways sites regions (omega arith) (omega arith))
+
+-- what is told stands at as many places
+pub as_many_sites : (origins : List Origin) (ways : List Way) (sites : List Spot)
+    → spots_of origins (map site_of ways) ≡ Some sites → length sites ≡ length ways
+as_many_sites origins ways sites sited = as_many_spots origins (map site_of ways) sites sited ∙ length-map ways site_of
+
+pub as_many_told_at : (text lines : List ℕ) (ways : List Way) (sites : List Spot) → length sites ≡ length ways
+    → length (told_at text lines ways sites) ≡ length ways
+as_many_told_at text lines ways sites same =
+    let sighted = as_many_sights (map site_of ways) sites (length-map ways site_of ∙ sym same) in
+    as_many_ways ways sites (map (region_of text lines) (sights_of (map site_of ways) sites)) same
+    (length-map (sights_of (map site_of ways) sites) _ ∙ sighted ∙ same)
+
+-- the regions of places at which something is told
+pub as_many_regions : (text lines : List ℕ) (ways : List Way) (found : List Finding) (sites : List Spot)
+    (sights : List Sight) (regions : List Region) → found ≡ map site_of ways → sights ≡ sights_of found sites
+    → regions ≡ map (region_of text lines) sights → length found ≡ length sites → length regions ≡ length ways
+as_many_regions text lines ways found sites sights regions f s r same =
+    ap length r ∙ length-map sights _ ∙ ap length s ∙ as_many_sights found sites same ∙ sym same ∙ ap length f
+    ∙ length-map ways site_of
+
 pub told_whole : AllTold
-told_whole documents folder name text lines log origins findings logged =
+told_whole documents folder name text lines log origins findings ways logged =
+    let many = spots_many origins findings logged.spots logged.placed in
     all_told logged.spots logged.written.regions logged.written.functions logged.written.fingerprints
+    (cut (shares findings ways) (ways_told ways logged.sites logged.written.site_regions))
     (as_many (decoded folder) text lines (sights_of findings logged.spots) (length logged.spots) logged.written.regions
-    logged.written.functions logged.written.fingerprints logged.written.details
-    (as_many_sights findings logged.spots (sym (as_many_spots origins findings logged.spots logged.placed))))
+    logged.written.functions logged.written.fingerprints logged.written.details many)
+    (as_many_cut (shares findings ways) (ways_told ways logged.sites logged.written.site_regions)
+    ∙ as_many_shares findings ways ∙ sym (as_many_spots origins findings logged.spots logged.placed))
+
+pub ways_whole : AllWaysTold
+ways_whole documents folder name text lines log origins findings ways logged all =
+    let many = spots_many origins findings logged.spots logged.placed in
+    let told = ways_told ways logged.sites logged.written.site_regions in
+    let long : length told ≡ length ways =
+    ap (λ r. length (ways_told ways logged.sites r)) logged.written.in_lines
+    ∙ as_many_told_at text lines ways logged.sites (as_many_sites origins ways logged.sites logged.sited) in
+    all_ways logged.spots logged.written.regions logged.written.functions logged.written.fingerprints
+    (shares findings ways) told
+    (as_many (decoded folder) text lines (sights_of findings logged.spots) (length logged.spots) logged.written.regions
+    logged.written.functions logged.written.fingerprints logged.written.details many)
+    (as_many_shares findings ways ∙ sym (as_many_spots origins findings logged.spots logged.placed)) (all ∙ sym long)
 
 -- one place more is asked about
 pub sights_more : (findings : List Finding) (spots : List Spot) (i : ℕ) (finding : Finding) (spot : Spot)

@@ -5,8 +5,10 @@ use Rattle.std.specs.List.{flat_map, list_any}
 use Rattle.std.specs.Char.{is_ascii_alphanumeric}
 use Rattle.tm_cint.specs.declared.Class.{Class}
 use Rattle.tm_cint.specs.declared.Class.TheVariants.{Overflow, Div, Shift, Index, Pointer, Deref, Lock, Race}
+use Rattle.report_reading.specs.declared.assumptions.AssumptionKind.{AssumptionKind}
+use Rattle.report_reading.specs.declared.assumptions.AssumptionKind.TheVariants as Kinds
 use Rattle.report_views.specs.declared.sentences.Rule.{Rule}
-use Rattle.report_views.specs.declared.sentences.Rule.TheVariants.{Alarm, Wait, Dead}
+use Rattle.report_views.specs.declared.sentences.Rule.TheVariants.{Alarm, Wait, Dead, Assumption}
 
 -- a digit in base 16
 abbrev pub hex_digit : ℕ → ℕ
@@ -38,16 +40,30 @@ class_section Deref =
 class_section Lock = codes "lock-the-task-may-lock-a-mutex-that-it-holds-or-unlock-one-that-it-does-not-hold"
 class_section Race = codes "race-another-task-may-access-this-object-at-the-same-time-and-one-of-the-two-stores"
 
--- that which explains a rule
-abbrev pub rule_section : Rule → List ℕ
-rule_section (Alarm class) = class_section class
-rule_section Wait = codes "wait-and-dead-in-a-log"
-rule_section Dead = codes "wait-and-dead-in-a-log"
+-- the section of docs/ASSUMPTIONS.md that explains a kind
+abbrev pub kind_section : AssumptionKind → List ℕ
+kind_section Kinds.Const = codes "const"
+kind_section Kinds.Enum = codes "enum"
+kind_section Kinds.Implementation = codes "implementation"
+kind_section Kinds.Layout = codes "layout"
+kind_section Kinds.Lifetime = codes "lifetime"
+kind_section Kinds.Member = codes "member"
+kind_section Kinds.Order = codes "order"
+kind_section Kinds.Pragma = codes "pragma-and-restrict"
+kind_section Kinds.Reserved = codes "reserved"
+kind_section Kinds.Restrict = codes "pragma-and-restrict"
+kind_section Kinds.Unset = codes "unset"
+
+-- that which explains a rule, behind the folder of the documents
+abbrev pub rule_page : Rule → List ℕ
+rule_page (Alarm class) = codes "/ALARMS.md#" ++ class_section class
+rule_page Wait = codes "/ALARMS.md#wait-and-dead-in-a-log"
+rule_page Dead = codes "/ALARMS.md#wait-and-dead-in-a-log"
+rule_page (Assumption kind) = codes "/ASSUMPTIONS.md#" ++ kind_section kind
 
 -- where a rule is explained, in a folder of documents
 abbrev pub help_uri : List ℕ → Rule → List ℕ
-help_uri documents rule =
-    codes "file://" ++ (uri_text documents ++ (codes "/ALARMS.md#" ++ rule_section rule))
+help_uri documents rule = codes "file://" ++ (uri_text documents ++ rule_page rule)
 
 -- ## Files
 

@@ -10,7 +10,8 @@ ghost use Rattle.report_logs.specs.Uris.{uri_text};
 ghost use Rattle.report_logs.specs.reading.Seen.{refusal_seen};
 
 use crate::logs::{Frame, details_in, name_in};
-use crate::sarif::{invocation_value, location_value, log_value, run_value, value_line};
+use crate::places::location_value;
+use crate::sarif::{invocation_value, log_value, run_value, value_line};
 use crate::uris::uri;
 use place_details::Sight;
 use serde_json::{Value, json};

@@ -1,23 +1,29 @@
 //! Findings as a log in the format SARIF 2.1.0.
 
-ghost use Rattle.std.specs.Prelude.{◌≡◌, ◌∷◌, ◌++◌, ◌<◌, [], false, ℕ, List, length, map, IfOk, OnOk, string_bytes};
+ghost use Rattle.std.specs.Prelude.{◌≡◌, ◌∷◌, ◌++◌, ◌+◌, ◌^◌, ◌<◌, ◌≤◌, false, ℕ, List, drop, length};
+ghost use Rattle.std.specs.Prelude.{map, take, IfOk, OnOk, string_bytes};
+ghost use Rattle.serde_json.specs.Data.{object};
 ghost use Rattle.serde_json.specs.View.{view};
 ghost use Rattle.serde_json.specs.Written.{compact_text, has_float};
 ghost use Rattle.tm_terms.specs.Alarms.{class_number};
 ghost use Rattle.tm_terms.specs.Texts.{line_of};
-ghost use Rattle.source_marks.specs.Names.{decoded};
 ghost use Rattle.place_details.specs.reading.Seen.{bytes_seen};
 ghost use Rattle.report_views.specs.Sentences.{rules};
+ghost use Rattle.report_views.specs.Shares.{cut};
 ghost use Rattle.report_views.specs.reading.Seen.{spot_seen};
-ghost use Rattle.report_logs.specs.Sarif.{artifact_data, driver_data, exit_code, file_of, found_data, functions_data};
-ghost use Rattle.report_logs.specs.Sarif.{invocation_data, is_problem, location_data, log_data, problems, region_data};
-ghost use Rattle.report_logs.specs.Sarif.{result_data, rule_data, rule_number, run_data, sarif_text, told_of};
+ghost use Rattle.report_logs.specs.Sarif.{artifact_data, driver_data, exit_code, file_of, found_data};
+ghost use Rattle.report_logs.specs.Sarif.{invocation_data, is_problem, is_review, kind_number, log_data, marks_data};
+ghost use Rattle.report_logs.specs.Sarif.{problems, result_data, result_of, review_members, rule_data, rule_number};
+ghost use Rattle.report_logs.specs.Sarif.{run_data, sarif_text, told_of};
 ghost use Rattle.report_logs.specs.Uris.{distinct, uri_text, with_file};
-ghost use Rattle.report_logs.specs.reading.Seen.{AreAsMany, HasFiles, told_seen};
+ghost use Rattle.report_logs.specs.reading.Seen.{AreAsMany, AreSharedOut, HasFiles, parts_of, told_seen, way_told_seen};
 
+use crate::places::{file_of, location_value};
+use crate::stacks::{WayTold, Ways, related_values, stack_values};
 use crate::uris::{help_uri, uri};
 use place_details::{Details, Region};
-use report_views::{RULES, Rule, Spot, level, name_of, rule_help, rule_sentence, rule_word};
+use report_reading::AssumptionKind;
+use report_views::{RULES, Rule, Spot, level, rule_help, rule_sentence, rule_word};
 use serde_json::{Value, json};
 use std::alloc::{AllocError, Global};
 use std::collections::HashMap;
@@ -25,11 +31,12 @@ use tm_cint::Class;
 
 /// A finding in its file, with what is told of it.
 #[derive(Clone, Copy)]
-struct Told<'s, 'f, 'p> {
+struct Told<'s, 'f, 'p, 'w, 't> {
     spot: Spot<'s>,
     region: Region,
     function: &'f [u8],
     fingerprint: &'p str,
+    ways: &'w [WayTold<'s, 't>],
 }
 
 /// A rule.
@@ -91,6 +98,26 @@ fn class_number(class: Class) -> usize
     }
 }
 
+/// The position of a kind among all.
+fn kind_number(kind: AssumptionKind) -> usize
+    ensures number { result ≡ kind_number kind }
+    ensures few { result < 11 }
+{
+    match kind {
+        AssumptionKind::Const => 0,
+        AssumptionKind::Enum => 1,
+        AssumptionKind::Implementation => 2,
+        AssumptionKind::Layout => 3,
+        AssumptionKind::Lifetime => 4,
+        AssumptionKind::Member => 5,
+        AssumptionKind::Order => 6,
+        AssumptionKind::Pragma => 7,
+        AssumptionKind::Reserved => 8,
+        AssumptionKind::Restrict => 9,
+        AssumptionKind::Unset => 10,
+    }
+}
+
 /// The position of a rule among all.
 fn rule_number(rule: Rule) -> usize
     ensures { result ≡ rule_number rule }
@@ -99,65 +126,111 @@ fn rule_number(rule: Rule) -> usize
         Rule::Alarm(class) => class_number(class),
         Rule::Wait => 8,
         Rule::Dead => 9,
+        Rule::Assumption(kind) => 10 + kind_number(kind),
     }
 }
 
-/// Where in its file a place stands.
-fn region_value(alloc: Global, line: u64, region: Region) -> Result<Value, AllocError>
-    ensures { IfOk result (λ value. view value ≡ region_data line region) }
+/// Whether a rule finds what a human is to look at.
+fn is_review(rule: Rule) -> bool
+    ensures { result ≡ is_review rule }
 {
-    match region {
-        Region::Whole => json!(in alloc; {"startLine": line}),
-        Region::From(start) => json!(in alloc; {"startColumn": start, "startLine": line}),
-        Region::Within(start, end) =>
-            json!(in alloc; {"endColumn": end, "startColumn": start, "startLine": line}),
+    match rule {
+        Rule::Alarm(_) => false,
+        Rule::Wait => false,
+        Rule::Dead => false,
+        Rule::Assumption(_) => true,
     }
 }
 
-/// The function in which a place stands, if it stands in one.
-fn function_values(alloc: Global, function: &[u8]) -> Result<Vec<Value>, AllocError>
-    ensures { IfOk result (λ values. map view values.items ≡ functions_data function.now) }
+/// What marks a finding in later logs.
+fn marks_value(alloc: Global, fingerprint: &str) -> Result<Value, AllocError>
+    ensures { IfOk result (λ value. view value ≡ marks_data fingerprint.now) }
 {
-    let mut values = Vec::new(alloc);
-    if !function.is_empty() {
-        let name = uri(alloc, function)?;
-        let value = json!(in alloc; {"kind": "function", "name": name})?;
-        values.push(value)?;
-    }
-    Ok(values)
+    json!(in alloc; {"cedratcleat/v1": fingerprint})
 }
 
-/// The file of a finding.
-pub fn file_of(alloc: Global, spot: Spot<'_>) -> Result<String, AllocError>
-    ensures { IfOk result (λ file. string_bytes file ≡ file_of (spot_seen spot.entry)) }
-{
-    let name = name_of(alloc, spot)?;
-    uri(alloc, &name)
-}
-
-/// Where a finding stands.
-pub fn location_value(
+/// A result that is to be mended, or to be known: its kind is that of a failure, which it need not name.
+fn failure_value(
     alloc: Global,
-    file: String,
-    line: u64,
-    region: Region,
-    function: &[u8],
+    rule: Rule,
+    location: Value,
+    marks: Value,
+    related: Vec<Value>,
+    stacks: Vec<Value>,
 ) -> Result<Value, AllocError>
-    ensures { IfOk result (λ value. view value ≡ location_data (string_bytes file) line region function.now) }
+    ensures { IfOk result (λ value. view value ≡ object (parts_of rule (view location) (view marks)
+        (map view related.items) (map view stacks.items))) }
 {
-    let region = region_value(alloc, line, region)?;
-    let functions = function_values(alloc, function)?;
+    let level = level(rule);
+    let said = rule_sentence(rule);
+    let word = rule_word(rule);
+    let number = rule_number(rule);
     json!(in alloc; {
-        "logicalLocations": Value::Array(functions),
-        "physicalLocation": {"artifactLocation": {"uri": file}, "region": region}
+        "level": level,
+        "locations": [location],
+        "message": {"text": said},
+        "partialFingerprints": marks,
+        "relatedLocations": Value::Array(related),
+        "ruleId": word,
+        "ruleIndex": number,
+        "stacks": Value::Array(stacks)
     })
 }
 
+/// A result that a human is to look at.
+fn review_value(
+    alloc: Global,
+    rule: Rule,
+    location: Value,
+    marks: Value,
+    related: Vec<Value>,
+    stacks: Vec<Value>,
+) -> Result<Value, AllocError>
+    ensures { IfOk result (λ value. view value ≡ object (review_members (parts_of rule (view location) (view marks)
+        (map view related.items) (map view stacks.items)))) }
+{
+    let level = level(rule);
+    let said = rule_sentence(rule);
+    let word = rule_word(rule);
+    let number = rule_number(rule);
+    json!(in alloc; {
+        "kind": "review",
+        "level": level,
+        "locations": [location],
+        "message": {"text": said},
+        "partialFingerprints": marks,
+        "relatedLocations": Value::Array(related),
+        "ruleId": word,
+        "ruleIndex": number,
+        "stacks": Value::Array(stacks)
+    })
+}
+
+/// A result.
+fn result_of(
+    alloc: Global,
+    rule: Rule,
+    location: Value,
+    fingerprint: &str,
+    ways: &[WayTold<'_, '_>],
+) -> Result<Value, AllocError>
+    ensures { IfOk result (λ value. view value
+        ≡ result_of rule (view location) fingerprint.now (map way_told_seen ways.now)) }
+{
+    let marks = marks_value(alloc, fingerprint)?;
+    let related = related_values(alloc, ways)?;
+    let stacks = stack_values(alloc, ways)?;
+    if is_review(rule) {
+        review_value(alloc, rule, location, marks, related, stacks)
+    } else {
+        failure_value(alloc, rule, location, marks, related, stacks)
+    }
+}
+
 /// A finding.
-fn result_value(alloc: Global, told: Told<'_, '_, '_>) -> Result<Value, AllocError>
+fn result_value(alloc: Global, told: Told<'_, '_, '_, '_, '_>) -> Result<Value, AllocError>
     ensures { IfOk result (λ value. view value ≡ result_data (told_seen told.entry)) }
 {
-    let rule = told.spot.rule;
     let file = file_of(alloc, told.spot)?;
     let location = location_value(
         alloc,
@@ -166,33 +239,23 @@ fn result_value(alloc: Global, told: Told<'_, '_, '_>) -> Result<Value, AllocErr
         told.region,
         told.function,
     )?;
-    let level = level(rule);
-    let said = rule_sentence(rule);
-    let word = rule_word(rule);
-    let number = rule_number(rule);
-    let fingerprint = told.fingerprint;
-    json!(in alloc; {
-        "level": level,
-        "locations": [location],
-        "message": {"text": said},
-        "partialFingerprints": {"cedratcleat/v1": fingerprint},
-        "ruleId": word,
-        "ruleIndex": number
-    })
+    result_of(alloc, told.spot.rule, location, told.fingerprint, told.ways)
 }
 
 /// A finding with what is told of it.
-fn told_of<'s, 'f, 'p>(
+fn told_of<'s, 'f, 'p, 'w, 't>(
     spot: Spot<'s>,
     region: Region,
     function: &'f [u8],
     fingerprint: &'p String,
-) -> Told<'s, 'f, 'p>
+    ways: &'w [WayTold<'s, 't>],
+) -> Told<'s, 'f, 'p, 'w, 't>
     ensures { told_seen result ≡ record {
       spot = spot_seen spot.entry;
       region = region;
       function = function.now;
       fingerprint = string_bytes fingerprint.now;
+      ways = map way_told_seen ways.now;
     } }
 {
     Told {
@@ -200,40 +263,76 @@ fn told_of<'s, 'f, 'p>(
         region,
         function,
         fingerprint: fingerprint.as_str(),
+        ways,
     }
 }
 
-/// The findings.
-fn result_values(
+/// So many things that are told, behind so many others.
+fn own_of<'w, 's, 't>(
+    told: &'w [WayTold<'s, 't>],
+    start: usize,
+    count: usize,
+) -> &'w [WayTold<'s, 't>]
+    requires { start + count ≤ length told.now }
+    ensures value { result.now ≡ take count (drop start told.now) }
+    ensures fits { start + count < 2 ^ 64 }
+{
+    let behind = &told[start..];
+    &behind[..count]
+}
+
+/// The findings, of which each takes its own of what is told.
+fn result_values<'s>(
     alloc: Global,
-    spots: &[Spot<'_>],
+    spots: &[Spot<'s>],
     regions: &[Region],
     functions: &[&[u8]],
     fingerprints: &[String],
+    ways: Ways<'_, 's, '_>,
 ) -> Result<Vec<Value>, AllocError>
-    requires { AreAsMany (length spots.now) regions.now functions.now fingerprints.now }
+    requires details { AreAsMany (length spots.now) regions.now functions.now fingerprints.now }
+    requires ways { AreSharedOut (length spots.now) ways.counts.now (length ways.told.now) }
     ensures { IfOk result (λ values. map view values.items ≡ map result_data (told_of (map spot_seen spots.now)
-        regions.now (map bytes_seen functions.now) (map string_bytes fingerprints.now))) }
+        regions.now (map bytes_seen functions.now) (map string_bytes fingerprints.now)
+        (cut ways.entry.counts.now (map way_told_seen ways.entry.told.now)))) }
 {
     let mut values = Vec::with_capacity(alloc, spots.len())?;
+    let mut start: usize = 0;
     for i in 0..spots.len() {
-        let told = told_of(spots[i], regions[i], functions[i], &fingerprints[i]);
+        let own = own_of(ways.told, start, ways.counts[i]);
+        let told = told_of(spots[i], regions[i], functions[i], &fingerprints[i], own);
         let value = result_value(alloc, told)?;
         values.push(value)?;
+        start += ways.counts[i];
     }
     Ok(values)
 }
 
-/// The files of findings, behind the file that is analysed.
-fn files_of(alloc: Global, name: &[u8], spots: &[Spot<'_>]) -> Result<Vec<String>, AllocError>
-    ensures { IfOk result (λ files. map string_bytes files.items
-        ≡ uri_text name.now ∷ map file_of (map spot_seen spots.now)) }
+/// Adds the files of places.
+fn push_files(alloc: Global, files: &mut Vec<String>, spots: &[Spot<'_>]) -> Result<(), AllocError>
+    ensures { OnOk result (map string_bytes files.new.items
+        ≡ map string_bytes files.old.items ++ map file_of (map spot_seen spots.now)) }
 {
-    let mut files = Vec::new(alloc);
-    files.push(uri(alloc, name)?)?;
     for spot in spots {
         files.push(file_of(alloc, *spot)?)?;
     }
+    Ok(())
+}
+
+/// The files of findings and of what is told of them, behind the file that is analysed.
+fn files_of(
+    alloc: Global,
+    name: &[u8],
+    spots: &[Spot<'_>],
+    sites: &[Spot<'_>],
+) -> Result<Vec<String>, AllocError>
+    ensures { IfOk result (λ files. map string_bytes files.items
+        ≡ uri_text name.now ∷ map file_of (map spot_seen spots.now ++ map spot_seen sites.now)) }
+{
+    let mut files = Vec::new(alloc);
+    files.push(uri(alloc, name)?)?;
+    push_files(alloc, &mut files, spots)?;
+    push_files(alloc, &mut files, sites)?;
     Ok(files)
 }
 
@@ -284,6 +383,7 @@ fn is_problem(rule: Rule) -> bool
         Rule::Alarm(_) => true,
         Rule::Wait => true,
         Rule::Dead => false,
+        Rule::Assumption(_) => false,
     }
 }
 
@@ -368,18 +468,22 @@ pub fn value_line(alloc: Global, value: &Value) -> Result<Vec<u8>, AllocError>
 }
 
 /// The run in which findings were told.
-fn found_value(
+fn found_value<'s>(
     alloc: Global,
     documents: &[u8],
     name: &[u8],
-    spots: &[Spot<'_>],
+    spots: &[Spot<'s>],
     details: &Details<'_>,
+    sites: &[Spot<'s>],
+    ways: Ways<'_, 's, '_>,
 ) -> Result<Value, AllocError>
-    requires { AreAsMany (length spots.now) details.now.regions.items details.now.functions.items
+    requires details { AreAsMany (length spots.now) details.now.regions.items details.now.functions.items
         details.now.fingerprints.items }
+    requires ways { AreSharedOut (length spots.now) ways.counts.now (length ways.told.now) }
     ensures { IfOk result (λ value. view value ≡ found_data documents.now name.now (map spot_seen spots.now)
-        (told_of (map spot_seen spots.now) details.now.regions.items (map bytes_seen details.now.functions.items)
-        (map string_bytes details.now.fingerprints.items))) }
+        (map spot_seen sites.now) (told_of (map spot_seen spots.now) details.now.regions.items
+        (map bytes_seen details.now.functions.items) (map string_bytes details.now.fingerprints.items)
+        (cut ways.entry.counts.now (map way_told_seen ways.entry.told.now)))) }
 {
     let results = result_values(
         alloc,
@@ -387,28 +491,33 @@ fn found_value(
         &details.regions,
         &details.functions,
         &details.fingerprints,
+        ways,
     )?;
-    let files = files_of(alloc, name, spots)?;
+    let files = files_of(alloc, name, spots, sites)?;
     let code = exit_code(spots);
     let invocation = invocation_value(alloc, true, code, Vec::new(alloc))?;
     run_value(alloc, documents, invocation, &files, results)
 }
 
-/// The log of findings in one line.
-pub fn sarif_log(
+/// The log of findings, and of what is told of them, in one line.
+pub fn sarif_log<'s>(
     alloc: Global,
     documents: &[u8],
     name: &[u8],
-    spots: &[Spot<'_>],
+    spots: &[Spot<'s>],
     details: &Details<'_>,
+    sites: &[Spot<'s>],
+    ways: Ways<'_, 's, '_>,
 ) -> Result<Vec<u8>, AllocError>
-    requires { AreAsMany (length spots.now) details.now.regions.items details.now.functions.items
+    requires details { AreAsMany (length spots.now) details.now.regions.items details.now.functions.items
         details.now.fingerprints.items }
+    requires ways { AreSharedOut (length spots.now) ways.counts.now (length ways.told.now) }
     ensures { IfOk result (λ text. text.items ≡ sarif_text documents.now name.now (map spot_seen spots.now)
-        (told_of (map spot_seen spots.now) details.now.regions.items (map bytes_seen details.now.functions.items)
-        (map string_bytes details.now.fingerprints.items))) }
+        (map spot_seen sites.now) (told_of (map spot_seen spots.now) details.now.regions.items
+        (map bytes_seen details.now.functions.items) (map string_bytes details.now.fingerprints.items)
+        (cut ways.entry.counts.now (map way_told_seen ways.entry.told.now)))) }
 {
-    let run = found_value(alloc, documents, name, spots, details)?;
+    let run = found_value(alloc, documents, name, spots, details, sites, ways)?;
     let value = log_value(alloc, run)?;
     value_line(alloc, &value)
 }

@@ -1,9 +1,10 @@
 //! Names of files as URI references, and where what helps against a rule is explained.
 
 ghost use Rattle.std.specs.Prelude.{◌≡◌, ◌∷◌, ◌++◌, ◌<◌, [], codes, IfOk, OnOk, string_bytes};
-ghost use Rattle.report_logs.specs.Uris.{class_section, help_uri, hex_digit, is_plain, rule_section, uri_byte};
-ghost use Rattle.report_logs.specs.Uris.{uri_text};
+ghost use Rattle.report_logs.specs.Uris.{class_section, help_uri, hex_digit, is_plain, kind_section, rule_page};
+ghost use Rattle.report_logs.specs.Uris.{uri_byte, uri_text};
 
+use report_reading::AssumptionKind;
 use report_views::Rule;
 use std::alloc::{AllocError, Global};
 use tm_cint::Class;
@@ -86,14 +87,22 @@ fn class_section(class: Class) -> &'static str
     }
 }
 
-/// The section that explains a rule.
-fn rule_section(rule: Rule) -> &'static str
-    ensures { result.now ≡ rule_section rule }
+/// The section of the document on assumptions that explains a kind.
+fn kind_section(kind: AssumptionKind) -> &'static str
+    ensures { result.now ≡ kind_section kind }
 {
-    match rule {
-        Rule::Alarm(class) => class_section(class),
-        Rule::Wait => "wait-and-dead-in-a-log",
-        Rule::Dead => "wait-and-dead-in-a-log",
+    match kind {
+        AssumptionKind::Const => "const",
+        AssumptionKind::Enum => "enum",
+        AssumptionKind::Implementation => "implementation",
+        AssumptionKind::Layout => "layout",
+        AssumptionKind::Lifetime => "lifetime",
+        AssumptionKind::Member => "member",
+        AssumptionKind::Order => "order",
+        AssumptionKind::Pragma => "pragma-and-restrict",
+        AssumptionKind::Reserved => "reserved",
+        AssumptionKind::Restrict => "pragma-and-restrict",
+        AssumptionKind::Unset => "unset",
     }
 }
 
@@ -108,9 +117,14 @@ fn joined(alloc: Global, text: &str, behind: &str) -> Result<String, AllocError>
 
 /// Where a rule is explained, behind the folder of the documents.
 fn page_of(alloc: Global, rule: Rule) -> Result<String, AllocError>
-    ensures { IfOk result (λ text. string_bytes text ≡ codes "/ALARMS.md#" ++ rule_section rule) }
+    ensures { IfOk result (λ text. string_bytes text ≡ rule_page rule) }
 {
-    joined(alloc, "/ALARMS.md#", rule_section(rule))
+    match rule {
+        Rule::Alarm(class) => joined(alloc, "/ALARMS.md#", class_section(class)),
+        Rule::Wait => String::from_str(alloc, "/ALARMS.md#wait-and-dead-in-a-log"),
+        Rule::Dead => String::from_str(alloc, "/ALARMS.md#wait-and-dead-in-a-log"),
+        Rule::Assumption(kind) => joined(alloc, "/ASSUMPTIONS.md#", kind_section(kind)),
+    }
 }
 
 /// Where a rule is explained, in a folder of documents.

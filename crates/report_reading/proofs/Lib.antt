@@ -1,2 +1,4 @@
 pub mod Rebuilt
 pub mod Listed
+pub mod Assumed
+pub mod Told

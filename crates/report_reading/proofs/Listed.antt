@@ -1,8 +1,7 @@
 -- Places in decimal are read back, line by line.
-use Rattle.std.proofs.Common.{◌≡◌, ◌≢◌, ◌∙◌, ℕ, zero, suc, ◌+◌, ◌<◌, ◌≤◌, ◌^◌, List, [], ◌∷◌, ◌++◌, length, get_or, refl, sym, ap, subst, arith, append-nil, decimal, Option, Some, None, Result, Ok, Err}
-use Rattle.std.specs.Prelude.{codes, IsUtf8, MatchOption}
+use Rattle.std.proofs.Common.{◌≡◌, ◌≢◌, ◌∙◌, ℕ, zero, suc, ◌<◌, ◌^◌, List, [], ◌∷◌, ◌++◌, length, get_or, refl, sym, ap, subst, arith, append-nil, decimal, Result, Ok, Err}
+use Rattle.std.specs.Prelude.{codes, IsUtf8}
 use Rattle.std.specs.List.{flat_map}
-use Rattle.std.specs.Borrow.{Bor}
 use Rattle.std.specs.Int.{IsInRange}
 use Rattle.std.specs.Str.{IsAscii}
 use Rattle.std.specs.Str.Parse.{ParsesUnsigned}
@@ -39,17 +38,17 @@ number_never {E} n text r error small e parsed is =
 
 -- ## Bytes that a text does not have
 
-abbrev Avoids : ℕ → List ℕ → Type 0
+abbrev pub Avoids : ℕ → List ℕ → Type 0
 Avoids b text = (i : ℕ) → i < length text → get_or text i 0 ≢ b
 
-avoids_nil : (b : ℕ) → Avoids b []
+pub avoids_nil : (b : ℕ) → Avoids b []
 avoids_nil b i lt = absurd (omega (arith, lt))
 
-avoids_cons : (b x : ℕ) (text : List ℕ) → x ≢ b → Avoids b text → Avoids b (x ∷ text)
+pub avoids_cons : (b x : ℕ) (text : List ℕ) → x ≢ b → Avoids b text → Avoids b (x ∷ text)
 avoids_cons b x text n f zero lt = n
 avoids_cons b x text n f (suc i) lt = f i (omega (arith, lt))
 
-avoids_append : (b : ℕ) (one other : List ℕ) → Avoids b one → Avoids b other → Avoids b (one ++ other)
+pub avoids_append : (b : ℕ) (one other : List ℕ) → Avoids b one → Avoids b other → Avoids b (one ++ other)
 avoids_append b [] other f g = g
 avoids_append b (x ∷ one) other f g =
     avoids_cons b x (one ++ other) (f zero (omega arith))
@@ -70,6 +69,13 @@ place_avoids place small =
     (digits_avoid 32 place.line (wide place.line small.0) (λ d r e. omega (arith, r, e)))
     (avoids_cons 32 58 (decimal place.col) (λ e. omega (arith, e))
     (digits_avoid 32 place.col (wide place.col small.1) (λ d r e. omega (arith, r, e))))
+
+pub place_avoids_end : (place : Place) → HasSmallNumbers place → Avoids 10 (place_text place)
+place_avoids_end place small =
+    avoids_append 10 (decimal place.line) (58 ∷ decimal place.col)
+    (digits_avoid 10 place.line (wide place.line small.0) (λ d r e. omega (arith, r, e)))
+    (avoids_cons 10 58 (decimal place.col) (λ e. omega (arith, e))
+    (digits_avoid 10 place.col (wide place.col small.1) (λ d r e. omega (arith, r, e))))
 
 pub number_avoids : (n : ℕ) → n < 2 ^ 64 → Avoids 10 (decimal n)
 number_avoids n small = digits_avoid 10 n small (λ d r e. omega (arith, r, e))
@@ -92,23 +98,27 @@ count_avoids Waits =
 count_avoids Dead =
     four_avoid 32 100 101 97 100 (λ e. omega (arith, e)) (λ e. omega (arith, e)) (λ e. omega (arith, e)) (λ e. omega (arith, e))
 
+-- a number is no word that begins with a letter
+pub number_no_letters : (n : ℕ) (word text : List ℕ) → n < 2 ^ 64 → word ≡ decimal n → 57 < get_or text 0 0
+    → word ≡ text → ⊥
+number_no_letters n word text small e letter f =
+    let numeral = decimal_is_IsNumeral n small in
+    let digits = numeral.0 in
+    let most = digit_at (decimal n) 0 digits.1 digits.0 in
+    let same : get_or (decimal n) 0 0 ≡ get_or text 0 0 = ap (λ t. get_or t 0 0) (sym e ∙ f) in
+    omega (arith, most, letter, same)
+
 -- a number is not the word of a listing
 first_byte : (listing : Listing) → 57 < get_or (word_text listing) 0 0
 first_byte Waits = omega arith
 first_byte Dead = omega arith
 
 pub number_no_word : (listing : Listing) (n : ℕ) (word : List ℕ) → n < 2 ^ 64 → word ≡ decimal n → word ≡ word_text listing → ⊥
-number_no_word listing n word small e f =
-    let numeral = decimal_is_IsNumeral n small in
-    let digits = numeral.0 in
-    let most = digit_at (decimal n) 0 digits.1 digits.0 in
-    let letter = first_byte listing in
-    let same : get_or (decimal n) 0 0 ≡ get_or (word_text listing) 0 0 = ap (λ t. get_or t 0 0) (sym e ∙ f) in
-    omega (arith, most, letter, same)
+number_no_word listing n word small e f = number_no_letters n word (word_text listing) small e (first_byte listing) f
 
 -- ## Lines
 
-line_is : (place word others last : List ℕ)
+pub line_is : (place word others last : List ℕ)
     → (((place ++ word) ++ (10 ∷ [])) ++ others) ++ last ≡ place ++ (word ++ (10 ∷ (others ++ last)))
 line_is place word others last =
     append_assoc ((place ++ word) ++ (10 ∷ [])) others last
@@ -177,11 +187,11 @@ module _ (listing : Listing) (places found : List Place) (left : List ℕ) where
 
 -- ## The text is in ASCII
 
-ascii_cons : (b : ℕ) (text : List ℕ) → b < 128 → IsAscii text → IsAscii (b ∷ text)
+pub ascii_cons : (b : ℕ) (text : List ℕ) → b < 128 → IsAscii text → IsAscii (b ∷ text)
 ascii_cons b text small f zero = small
 ascii_cons b text small f (suc i) = f i
 
-ascii_nil : IsAscii []
+pub ascii_nil : IsAscii []
 ascii_nil i = omega arith
 
 four_ascii : (x y z w : ℕ) (rest : List ℕ) → x < 128 → y < 128 → z < 128 → w < 128 → IsAscii rest
@@ -199,7 +209,7 @@ ascii_count Waits rest f =
     (four_ascii 97 105 116 115 rest (omega arith) (omega arith) (omega arith) (omega arith) f)
 ascii_count Dead rest f = four_ascii 100 101 97 100 rest (omega arith) (omega arith) (omega arith) (omega arith) f
 
-ascii_place : (place : Place) → HasSmallNumbers place → IsAscii (place_text place)
+pub ascii_place : (place : Place) → HasSmallNumbers place → IsAscii (place_text place)
 ascii_place place small =
     IsAscii-append (decimal place.line) (58 ∷ decimal place.col) (IsAscii-decimal place.line (wide place.line small.0))
     (ascii_cons 58 (decimal place.col) (omega arith) (IsAscii-decimal place.col (wide place.col small.1)))

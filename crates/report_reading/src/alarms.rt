@@ -12,7 +12,7 @@ use tm_cint::Class;
 use tm_terms::{Alarm, Place};
 
 /// The class of this word.
-fn class_of(word: &str) -> Option<Class>
+pub fn class_of(word: &str) -> Option<Class>
     ensures { result ≡ class_of word.now }
 {
     if word == "OVERFLOW" {

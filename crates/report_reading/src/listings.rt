@@ -61,7 +61,7 @@ fn joined(line: Option<u32>, col: Option<u32>) -> Option<Place>
 }
 
 /// The place that a text writes as LINE:COL.
-fn place_of(text: &str) -> Option<Place>
+pub fn place_of(text: &str) -> Option<Place>
     ensures { (place : APlace) → HasSmallNumbers place → text.now ≡ place_text place → result ≡ Some place }
 {
     match text.split_once(':') {

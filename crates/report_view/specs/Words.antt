@@ -1,5 +1,5 @@
 -- Which words are a command, each a list of bytes behind the program's name.
-use Rattle.std.specs.Prelude.{ℕ, List, [], ◌∷◌, codes, Option, Some, None, option_map, bytes_eq}
+use Rattle.std.specs.Prelude.{ℕ, Bool, false, List, [], ◌∷◌, codes, Option, Some, None, option_map, bytes_eq}
 use Rattle.std.specs.Prelude.{option_and_then, if◌then◌else◌}
 use Rattle.cmd_words.specs.Numbers.{number_of}
 use Rattle.report_logs.specs.Refusals.{Refusal}
@@ -26,27 +26,36 @@ asked_of (word ∷ file ∷ first ∷ []) =
     option_map (λ form. record { form = form; text = file; name = first }) (form_of word)
 asked_of _ = None
 
+-- `--rules` alone asks for what the rules say
+abbrev pub ask_for_rules : List (List ℕ) → Bool
+ask_for_rules (word ∷ []) = bytes_eq word (codes "--rules")
+ask_for_rules _ = false
+
 -- what a command that asks for a log asks for
 pub record AskedLog : Type 0 where
   pub text : List ℕ
   pub name : List ℕ
   pub waits : List ℕ
   pub dead : List ℕ
+  pub assumptions : List ℕ
+  pub ways : List ℕ
   pub lines : List ℕ
   pub folder : List ℕ
   pub documents : List ℕ
 
 -- `--sarif`, the file that holds the text, the name of the file from which its first line comes, the files that hold the
--- texts of the waits and of the dead places and the lines of the files from which those of the text come, the folder
--- from which names of files are seen, and that of the documents; no other words ask for a log
+-- texts of the waits, of the dead places, of the assumptions and of the ways and the lines of the files from which those
+-- of the text come, the folder from which names of files are seen, and that of the documents; no other words ask for a log
 abbrev pub asked_log_of : List (List ℕ) → Option AskedLog
-asked_log_of (word ∷ file ∷ first ∷ waits ∷ dead ∷ lines ∷ folder ∷ documents ∷ []) =
+asked_log_of (word ∷ file ∷ first ∷ waits ∷ dead ∷ assumptions ∷ ways ∷ lines ∷ folder ∷ documents ∷ []) =
     if bytes_eq word (codes "--sarif")
     then Some (record {
       text = file;
       name = first;
       waits = waits;
       dead = dead;
+      assumptions = assumptions;
+      ways = ways;
       lines = lines;
       folder = folder;
       documents = documents;

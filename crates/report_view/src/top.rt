@@ -1,18 +1,15 @@
-//! The view of a report, and the log of a report, its waits and its dead places, from streams to a stream.
+//! The view of a report, from streams to a stream.
 
-ghost use Rattle.std.specs.Prelude.{◌≡◌, ◌≢◌, ◌⊎◌, Bool, IfOk, IsErrOf};
+ghost use Rattle.std.specs.Prelude.{◌≡◌, ◌≢◌, ◌⊎◌, Bool};
 ghost use Rattle.std.specs.Io.KnownBytes.{append_known};
 ghost use Rattle.tm_io.specs.Faults.{Rose};
-ghost use Rattle.report_views.specs.Causes.{cause_text, IsLogCause};
-ghost use Rattle.report_views.specs.declared.causes.Cause.{Cause as CauseOf};
-ghost use Rattle.report_logs.specs.Logs.{IsLog};
-ghost use Rattle.report_view.specs.Answers.{Logs, LogsNoMore, Shows, ShowsNoMore, Tells, TellsNoLog};
+ghost use Rattle.report_views.specs.Causes.{cause_text};
+ghost use Rattle.report_view.specs.Answers.{Shows, ShowsNoMore, Tells};
 ghost use Rattle.program_streams.specs.Statuses.{shown_status};
 ghost use Rattle.program_streams.specs.Streams.{TakesFrontOf};
 
-use crate::words::{Asked, AskedLog};
-use program_streams::{Status, read_whole, send, show as show_text, tell as tell_line, unread};
-use report_logs::{Frame, log};
+use crate::words::Asked;
+use program_streams::{Status, read_whole, show as show_text, tell as tell_line, unread};
 use report_views::{Cause, LONGEST_REPORT, LONGEST_TEXT, Reply, ViewFail, cause_line, view};
 use std::alloc::Global;
 use tm_io::{Sink, Source};
@@ -30,7 +27,7 @@ fn show<K: Sink>(out: &mut K, reply: &Reply) -> Status
 }
 
 /// Writes why there is no view, or no log.
-fn tell<E: Sink>(alloc: Global, told: &mut E, cause: Cause) -> Status
+pub fn tell<E: Sink>(alloc: Global, told: &mut E, cause: Cause) -> Status
     ensures whole { result ≡ Status.Refused → E.taken told.new ≡ append_known (E.taken told.old) (cause_text cause) }
     ensures write { result ≡ Status.WriteFault → Rose (E.faults told.old) (E.faults told.new) }
     ensures others { (alarm : Bool) → result ≢ shown_status alarm }
@@ -91,119 +88,6 @@ pub fn answer<R: Source, T: Source, K: Sink, E: Sink>(
         &text_bytes,
     ) {
         Ok(reply) => show(out, &reply),
-        Err(ViewFail::Refused(cause)) => tell(alloc, told, cause),
-        Err(ViewFail::NoMemory) => Status::NoMemory,
-    }
-}
-
-/// Writes a log, and says whether it was taken whole.
-pub fn show_log<K: Sink>(out: &mut K, text: &[u8]) -> Status
-    ensures whole { result ≡ Status.NoAlarm → K.taken out.new ≡ append_known (K.taken out.old) text.now }
-    ensures front { TakesFrontOf text.now (K.taken out.old) (K.taken out.new) }
-    ensures write { result ≡ Status.WriteFault → Rose (K.faults out.old) (K.faults out.new) }
-    ensures others { (result ≢ Status.Refused) × (result ≢ Status.Usage) × (result ≢ Status.ReadFault)
-        × (result ≢ Status.Alarms) }
-{
-    send(out, text, Status::NoAlarm)
-}
-
-/// The log that is asked for, of what was read.
-fn log_of(
-    alloc: Global,
-    asked: AskedLog<'_>,
-    report: &[u8],
-    text: &[u8],
-    waits: &[u8],
-    dead: &[u8],
-    lines: &[u8],
-) -> Result<Vec<u8>, ViewFail>
-    ensures ok { IfOk result (λ log. IsLog asked.entry.documents.now asked.entry.folder.now asked.entry.name.now
-        report.now waits.now dead.now text.now lines.now log.items) }
-    ensures refused { (cause : CauseOf) → IsErrOf result (ViewFail.Refused cause) →
-        IsLogCause asked.entry.name.now report.now waits.now dead.now text.now cause }
-{
-    let frame = Frame {
-        documents: asked.documents.as_bytes(),
-        folder: asked.folder.as_bytes(),
-        name: asked.name.as_bytes(),
-        text,
-        lines,
-    };
-    log(alloc, frame, report, waits, dead)
-}
-
-/// Writes the log of a report, of its waits and of its dead places over a text to `out`, or to `told` why there is
-/// none. The log is made whole before its first byte is written.
-pub fn answer_log<R: Source, T: Source, W: Source, D: Source, L: Source, K: Sink, E: Sink>(
-    alloc: Global,
-    asked: AskedLog<'_>,
-    report: &mut R,
-    text: &mut T,
-    waits: &mut W,
-    dead: &mut D,
-    lines: &mut L,
-    out: &mut K,
-    told: &mut E,
-) -> Status
-    // Status 0: `out` has taken the log, in which each alarm of the report, each lock that the waits list and each dead
-    // place has one result, at the place that the line marks of the text give.
-    ensures logged { result ≡ Status.NoAlarm → Logs asked.entry.documents.now asked.entry.folder.now
-        asked.entry.name.now (R.left report.old) (R.left report.new) (T.left text.old) (T.left text.new)
-        (W.left waits.old) (W.left waits.new) (D.left dead.old) (D.left dead.new) (L.left lines.old)
-        (L.left lines.new) (K.taken out.old) (K.taken out.new) }
-
-    // Status 2: there is no log, `told` has taken why, and `out` nothing.
-    ensures refused { result ≡ Status.Refused → TellsNoLog asked.entry.documents.now asked.entry.folder.now
-        asked.entry.name.now (R.left report.old) (R.left report.new) (T.left text.old) (T.left text.new)
-        (W.left waits.old) (W.left waits.new) (D.left dead.old) (D.left dead.new) (L.left lines.old)
-        (L.left lines.new) (E.taken told.old) (E.taken told.new)
-        × (K.taken out.new ≡ K.taken out.old) }
-
-    // Whatever comes, `out` has taken nothing, or a front of the log.
-    ensures front { LogsNoMore asked.entry.documents.now asked.entry.folder.now asked.entry.name.now
-        (R.left report.old) (R.left report.new) (T.left text.old) (T.left text.new)
-        (W.left waits.old) (W.left waits.new) (D.left dead.old) (D.left dead.new) (L.left lines.old)
-        (L.left lines.new) (K.taken out.old) (K.taken out.new) }
-
-    // A fault comes only where a count of faults rose. After a read fault nothing is taken.
-    ensures read { result ≡ Status.ReadFault → (Rose (R.faults report.old) (R.faults report.new)
-        ⊎ (Rose (T.faults text.old) (T.faults text.new) ⊎ (Rose (W.faults waits.old) (W.faults waits.new)
-        ⊎ (Rose (D.faults dead.old) (D.faults dead.new) ⊎ Rose (L.faults lines.old) (L.faults lines.new)))))
-        × (K.taken out.new ≡ K.taken out.old) }
-    ensures write { result ≡ Status.WriteFault → Rose (K.faults out.old) (K.faults out.new)
-        ⊎ Rose (E.faults told.old) (E.faults told.new) }
-    ensures others { (result ≢ Status.Usage) × (result ≢ Status.Alarms) }
-{
-    let mut report_bytes = Vec::new(alloc);
-    if let Err(error) = read_whole(report, &mut report_bytes, LONGEST_REPORT + 1) {
-        return unread(error);
-    }
-    let mut text_bytes = Vec::new(alloc);
-    if let Err(error) = read_whole(text, &mut text_bytes, LONGEST_TEXT + 1) {
-        return unread(error);
-    }
-    let mut waits_bytes = Vec::new(alloc);
-    if let Err(error) = read_whole(waits, &mut waits_bytes, LONGEST_REPORT + 1) {
-        return unread(error);
-    }
-    let mut dead_bytes = Vec::new(alloc);
-    if let Err(error) = read_whole(dead, &mut dead_bytes, LONGEST_REPORT + 1) {
-        return unread(error);
-    }
-    let mut line_bytes = Vec::new(alloc);
-    if let Err(error) = read_whole(lines, &mut line_bytes, LONGEST_REPORT + 1) {
-        return unread(error);
-    }
-    match log_of(
-        alloc,
-        asked,
-        &report_bytes,
-        &text_bytes,
-        &waits_bytes,
-        &dead_bytes,
-        &line_bytes,
-    ) {
-        Ok(text) => show_log(out, &text),
         Err(ViewFail::Refused(cause)) => tell(alloc, told, cause),
         Err(ViewFail::NoMemory) => Status::NoMemory,
     }

@@ -1,7 +1,7 @@
 //! The words of the command.
 
 ghost use Rattle.std.specs.Prelude.{◌≡◌, ◌∷◌, [], codes, map, option_map, string_bytes, None};
-ghost use Rattle.report_view.specs.Words.{asked_log_of, asked_of, asked_refusal_of, form_of, refusal_of};
+ghost use Rattle.report_view.specs.Words.{ask_for_rules, asked_log_of, asked_of, asked_refusal_of, form_of, refusal_of};
 ghost use Rattle.report_logs.specs.reading.Seen.{refusal_seen};
 ghost use Rattle.report_view.specs.reading.Seen.{asked_log_seen, asked_refusal_seen, asked_seen};
 
@@ -49,26 +49,50 @@ pub fn read_words(words: &[String]) -> Option<Asked<'_>>
     }
 }
 
+/// Whether words ask for what the rules say: `--rules` alone.
+pub fn ask_for_rules(words: &[String]) -> bool
+    ensures { result ≡ ask_for_rules (map (λ w. string_bytes w) words.now) }
+{
+    match words {
+        [form] => form.as_str() == "--rules",
+        _ => false,
+    }
+}
+
 /// What words that ask for a log ask for: the file that holds the text, the name of the file from which its first line
-/// comes, the files that hold the texts of the waits and of the dead places, the one that holds the lines of the files
-/// from which those of the text come, the folder from which names of files are seen, and that of the documents.
+/// comes, the files that hold the texts of the waits, of the dead places, of the assumptions and of the ways, the one that
+/// holds the lines of the files from which those of the text come, the folder from which names of files are seen, and
+/// that of the documents.
 #[derive(Clone, Copy)]
 pub struct AskedLog<'a> {
     pub text: &'a str,
     pub name: &'a str,
     pub waits: &'a str,
     pub dead: &'a str,
+    pub assumptions: &'a str,
+    pub ways: &'a str,
     pub lines: &'a str,
     pub folder: &'a str,
     pub documents: &'a str,
 }
 
-/// The log that words ask for, if they are `--sarif` and seven words more.
+/// The log that words ask for, if they are `--sarif` and nine words more.
 pub fn read_log_words(words: &[String]) -> Option<AskedLog<'_>>
     ensures { option_map asked_log_seen result ≡ asked_log_of (map (λ w. string_bytes w) words.now) }
 {
     match words {
-        [form, text, name, waits, dead, lines, folder, documents] => {
+        [
+            form,
+            text,
+            name,
+            waits,
+            dead,
+            assumptions,
+            ways,
+            lines,
+            folder,
+            documents,
+        ] => {
             if form.as_str() != "--sarif" {
                 return None;
             }
@@ -77,6 +101,8 @@ pub fn read_log_words(words: &[String]) -> Option<AskedLog<'_>>
                 name: name.as_str(),
                 waits: waits.as_str(),
                 dead: dead.as_str(),
+                assumptions: assumptions.as_str(),
+                ways: ways.as_str(),
                 lines: lines.as_str(),
                 folder: folder.as_str(),
                 documents: documents.as_str(),

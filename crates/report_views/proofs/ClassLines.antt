@@ -1,13 +1,12 @@
--- The line of one class more.
+-- The line of one class more, or of one rule.
 use Rattle.std.proofs.Common.{◌≡◌, ◌<◌, ◌+◌, ◌∙◌, ℕ, List, [], ◌∷◌, ◌++◌, length, get_or, take, sym, ap, append-nil}
 use Rattle.std.specs.List.{flat_map}
 use Rattle.std.proofs.lemmas.List.{take_more}
 use Rattle.std.proofs.lemmas.Grind.{flat_map-append}
-use Rattle.tm_cint.specs.declared.Class.{Class}
 
-pub line_more : (f : Class → List ℕ) (all : List Class) (i : ℕ) (class : Class) (old new : List ℕ) → i < length all
+pub line_more : {A : Type 0} (f : A → List ℕ) (all : List A) (i : ℕ) (class : A) (old new : List ℕ) → i < length all
     → old ≡ flat_map f (take i all) → new ≡ old ++ f (get_or all i class) → new ≡ flat_map f (take (i + 1) all)
-line_more f all i class old new below so_far pushed =
+line_more {A} f all i class old new below so_far pushed =
     pushed ∙ ap (λ t. t ++ f (get_or all i class)) so_far
     ∙ ap (λ t. flat_map f (take i all) ++ t) (sym (append-nil (f (get_or all i class))))
     ∙ sym (flat_map-append f (take i all) (get_or all i class ∷ []))

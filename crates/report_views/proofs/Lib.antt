@@ -1,2 +1,3 @@
 pub mod ViewFound
 pub mod ClassLines
+pub mod Sharing

@@ -10,7 +10,8 @@ use Rattle.report_views.specs.declared.spots.Finding.{Finding}
 use Rattle.report_views.specs.declared.views.Form.{Form}
 use Rattle.report_views.specs.declared.causes.Cause.{Cause}
 use Rattle.report_views.specs.declared.causes.Cause.TheVariants.{LongReport, NotJson, NotReport, LongText, BrokenMark}
-use Rattle.report_views.specs.declared.causes.Cause.TheVariants.{Outside, LongListing, NotListing}
+use Rattle.report_views.specs.declared.causes.Cause.TheVariants.{Outside, LongListing, NotListing, LongAssumptions, NotAssumptions}
+use Rattle.report_views.specs.declared.causes.Cause.TheVariants.{LongWays, NotWays, StrangeWay}
 
 by_alarms : (name report text : List ℕ) (alarms : List Alarm) (origins : List Origin) → IsReportOf report alarms
     → AreOrigins name text origins → (cause : Cause) → IsMisplaced origins (map finding_of alarms) cause
@@ -23,6 +24,11 @@ by_alarms name report text alarms origins reads marks (BrokenMark number) m = ab
 by_alarms name report text alarms origins reads marks (Outside place) m = (alarms, origins, reads, marks, m)
 by_alarms name report text alarms origins reads marks (LongListing listing) m = absurd m
 by_alarms name report text alarms origins reads marks (NotListing listing) m = absurd m
+by_alarms name report text alarms origins reads marks LongAssumptions m = absurd m
+by_alarms name report text alarms origins reads marks NotAssumptions m = absurd m
+by_alarms name report text alarms origins reads marks LongWays m = absurd m
+by_alarms name report text alarms origins reads marks NotWays m = absurd m
+by_alarms name report text alarms origins reads marks (StrangeWay place) m = absurd m
 
 pub misplaced_cause : (name report text : List ℕ) (alarms : List Alarm) (findings : List Finding) (origins origins' : List Origin)
     → IsReportOf report alarms → AreOrigins name text origins → findings ≡ map finding_of alarms → origins' ≡ origins

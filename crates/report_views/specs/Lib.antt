@@ -1,6 +1,9 @@
 pub mod Causes
+pub mod Kinds
 pub mod Lines
+pub mod Rules
 pub mod Sentences
+pub mod Shares
 pub mod Spots
 pub mod Summaries
 pub mod Views

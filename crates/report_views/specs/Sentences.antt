@@ -1,11 +1,15 @@
 -- What the rules say, and what helps against what they find: a rule for each class of alarms, one for the locks at
--- which tasks may wait for each other in a ring, and one for the places that no run reaches.
+-- which tasks may wait for each other in a ring, one for the places that no run reaches, and one for each kind of
+-- assumptions.
 use Rattle.std.specs.Prelude.{ℕ, List, [], ◌∷◌, codes}
 use Rattle.tm_cint.specs.declared.Class.{Class}
 use Rattle.tm_cint.specs.declared.Class.TheVariants.{Overflow, Div, Shift, Index, Pointer, Deref, Lock, Race}
 use Rattle.tm_terms.specs.Texts.{class_text}
+use Rattle.report_reading.specs.declared.assumptions.AssumptionKind.TheVariants as Kinds
+use Rattle.report_reading.specs.Assumptions.{kind_text}
+use Rattle.report_views.specs.Kinds.{kind_help, kind_sentence}
 use Rattle.report_views.specs.declared.sentences.Rule.{Rule}
-use Rattle.report_views.specs.declared.sentences.Rule.TheVariants.{Alarm, Wait, Dead}
+use Rattle.report_views.specs.declared.sentences.Rule.TheVariants.{Alarm, Wait, Dead, Assumption}
 
 -- what an alarm of this class says
 abbrev pub sentence_text : Class → List ℕ
@@ -34,12 +38,14 @@ abbrev pub rule_text : Rule → List ℕ
 rule_text (Alarm class) = class_text class
 rule_text Wait = codes "WAIT"
 rule_text Dead = codes "DEAD"
+rule_text (Assumption kind) = kind_text kind
 
 -- what a rule says
 abbrev pub rule_sentence : Rule → List ℕ
 rule_sentence (Alarm class) = sentence_text class
 rule_sentence Wait = codes "tasks may come to wait for each other for ever, one of them at this lock"
 rule_sentence Dead = codes "no run reaches this"
+rule_sentence (Assumption kind) = kind_sentence kind
 
 -- what helps against what a rule finds
 abbrev pub rule_help : Rule → List ℕ
@@ -47,12 +53,15 @@ rule_help (Alarm class) = help_text class
 rule_help Wait = codes "Let all tasks lock the mutexes in one order, or one mutex around them."
 rule_help Dead =
     codes "Remove what cannot run, or mend the condition or the error before it that keeps each run out."
+rule_help (Assumption kind) = kind_help kind
 
--- the level of what a rule finds, as SARIF 2.1.0 has it in 3.27.10: a problem, or what is to be known
+-- the level of what a rule finds, as SARIF 2.1.0 has it in 3.27.10: a problem, or what is to be known; none of what a
+-- human is to look at
 abbrev pub level_text : Rule → List ℕ
 level_text (Alarm class) = codes "warning"
 level_text Wait = codes "warning"
 level_text Dead = codes "note"
+level_text (Assumption kind) = codes "none"
 
 -- all classes, in their order
 abbrev pub classes : List Class
@@ -62,4 +71,6 @@ classes = Overflow ∷ Div ∷ Shift ∷ Index ∷ Pointer ∷ Deref ∷ Lock �
 abbrev pub rules : List Rule
 rules =
     Alarm Overflow ∷ Alarm Div ∷ Alarm Shift ∷ Alarm Index ∷ Alarm Pointer ∷ Alarm Deref ∷ Alarm Lock ∷ Alarm Race
-    ∷ Wait ∷ Dead ∷ []
+    ∷ Wait ∷ Dead ∷ Assumption Kinds.Const ∷ Assumption Kinds.Enum ∷ Assumption Kinds.Implementation
+    ∷ Assumption Kinds.Layout ∷ Assumption Kinds.Lifetime ∷ Assumption Kinds.Member ∷ Assumption Kinds.Order
+    ∷ Assumption Kinds.Pragma ∷ Assumption Kinds.Reserved ∷ Assumption Kinds.Restrict ∷ Assumption Kinds.Unset ∷ []

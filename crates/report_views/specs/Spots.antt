@@ -1,12 +1,13 @@
 -- Findings at their places in the files that they stand in.
-use Rattle.std.specs.Prelude.{◌≡◌, ℕ, ◌-◌, ◌==◌, ◌||◌, List, [], ◌∷◌, map, slice_get, Option, Some, None, option_map}
+use Rattle.std.specs.Prelude.{◌≡◌, ℕ, ◌-◌, ◌==◌, ◌||◌, List, [], ◌∷◌, slice_get, Option, Some, None, option_map}
 use Rattle.std.specs.Prelude.{option_and_then}
 use Rattle.std.specs.Prelude.{if◌then◌else◌, Contains}
 use Rattle.tm_terms.specs.declared.alarms.Alarm.{Alarm}
 use Rattle.tm_terms.specs.declared.places.Place.{Place}
+use Rattle.report_reading.specs.declared.assumptions.Assumption.{Assumption}
 use Rattle.source_marks.specs.Marks.{Origin}
 use Rattle.report_views.specs.declared.sentences.Rule.{Rule}
-use Rattle.report_views.specs.declared.sentences.Rule.TheVariants.{Alarm as OfAlarm}
+use Rattle.report_views.specs.declared.sentences.Rule.TheVariants.{Alarm as OfAlarm, Assumption as OfAssumption}
 use Rattle.report_views.specs.declared.spots.Finding.{Finding}
 
 -- what is found at a place by a rule
@@ -16,6 +17,10 @@ found_by rule place = record { place = place; rule = rule }
 -- an alarm is found by the rule of its class
 abbrev pub finding_of : Alarm → Finding
 finding_of alarm = found_by (OfAlarm alarm.class) alarm.place
+
+-- an assumption is found by the rule of its kind
+abbrev pub assumed_by : Assumption → Finding
+assumed_by a = found_by (OfAssumption a.kind) a.place
 
 -- a finding in its file: the file's name as a mark spells it, the line and the column, and the rule
 pub record Spot : Type 0 where

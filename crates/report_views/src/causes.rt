@@ -3,6 +3,7 @@
 ghost use Rattle.std.specs.Prelude.{◌≡◌, ◌++◌, decimal, IfOk, string_bytes};
 ghost use Rattle.tm_terms.specs.Texts.{line_of, place_text};
 ghost use Rattle.report_views.specs.Causes.{broken_text, cause_text, long_text, outside_text, strange_text};
+ghost use Rattle.report_views.specs.Causes.{strange_way_text};
 
 use report_reading::Listing;
 use std::alloc::{AllocError, Global};
@@ -28,6 +29,16 @@ pub enum Cause {
     LongListing(Listing),
     /// The text that is to list places does not.
     NotListing(Listing),
+    /// The text that lists assumptions has more than 67,108,864 bytes.
+    LongAssumptions,
+    /// The text that is to list assumptions does not.
+    NotAssumptions,
+    /// The text that tells ways has more than 67,108,864 bytes.
+    LongWays,
+    /// The text that is to tell ways does not.
+    NotWays,
+    /// What is told of an alarm at this place of the text is of no finding, or of one that has had its turn.
+    StrangeWay(Place),
 }
 
 /// A text, and what stands behind it.
@@ -74,6 +85,16 @@ fn outside_line(alloc: Global, place: Place) -> Result<String, AllocError>
     joined(alloc, told.as_str(), "\n")
 }
 
+/// The line that tells of what is told of no alarm.
+fn strange_way_line(alloc: Global, place: Place) -> Result<String, AllocError>
+    ensures { IfOk result (λ text. string_bytes text ≡ strange_way_text place) }
+{
+    let words = place_words(alloc, place)?;
+    let text = "refused: of no alarm in its turn is what is told at the place ";
+    let told = joined(alloc, text, words.as_str())?;
+    joined(alloc, told.as_str(), "\n")
+}
+
 /// The line that tells of a text that is too long to list places.
 fn long_line(listing: Listing) -> &'static str
     ensures { result.now ≡ long_text listing }
@@ -110,6 +131,17 @@ fn said(alloc: Global, cause: Cause) -> Result<String, AllocError>
         Cause::Outside(place) => outside_line(alloc, place),
         Cause::LongListing(listing) => String::from_str(alloc, long_line(listing)),
         Cause::NotListing(listing) => String::from_str(alloc, strange_line(listing)),
+        Cause::LongAssumptions => String::from_str(
+            alloc,
+            "refused: the text of the assumptions is too long\n",
+        ),
+        Cause::NotAssumptions => String::from_str(
+            alloc,
+            "refused: the text of the assumptions lists no assumptions\n",
+        ),
+        Cause::LongWays => String::from_str(alloc, "refused: the text of the ways is too long\n"),
+        Cause::NotWays => String::from_str(alloc, "refused: the text of the ways tells no ways\n"),
+        Cause::StrangeWay(place) => strange_way_line(alloc, place),
     }
 }
 

@@ -4,20 +4,23 @@ ghost use Rattle.std.specs.Prelude.{◌≡◌};
 ghost use Rattle.report_views.specs.Sentences.{help_text, level_text, rule_help, rule_sentence, rule_text};
 ghost use Rattle.report_views.specs.Sentences.{sentence_text};
 
+use crate::kinds::{kind_help, kind_sentence};
+use report_reading::{AssumptionKind, kind_word};
 use tm_cint::Class;
 use tm_terms::class_word;
 
-/// What a result tells of: an alarm of a class, a lock at which tasks may wait for each other in a ring, or a place
-/// that no run reaches.
+/// What a result tells of: an alarm of a class, a lock at which tasks may wait for each other in a ring, a place that no
+/// run reaches, or an assumption of a kind.
 #[derive(Clone, Copy)]
 pub enum Rule {
     Alarm(Class),
     Wait,
     Dead,
+    Assumption(AssumptionKind),
 }
 
 /// All rules, in their order.
-pub static RULES: [Rule; 10] = [
+pub static RULES: [Rule; 21] = [
     Rule::Alarm(Class::Overflow),
     Rule::Alarm(Class::Div),
     Rule::Alarm(Class::Shift),
@@ -28,6 +31,17 @@ pub static RULES: [Rule; 10] = [
     Rule::Alarm(Class::Race),
     Rule::Wait,
     Rule::Dead,
+    Rule::Assumption(AssumptionKind::Const),
+    Rule::Assumption(AssumptionKind::Enum),
+    Rule::Assumption(AssumptionKind::Implementation),
+    Rule::Assumption(AssumptionKind::Layout),
+    Rule::Assumption(AssumptionKind::Lifetime),
+    Rule::Assumption(AssumptionKind::Member),
+    Rule::Assumption(AssumptionKind::Order),
+    Rule::Assumption(AssumptionKind::Pragma),
+    Rule::Assumption(AssumptionKind::Reserved),
+    Rule::Assumption(AssumptionKind::Restrict),
+    Rule::Assumption(AssumptionKind::Unset),
 ];
 
 /// All classes, in their order.
@@ -89,6 +103,7 @@ pub fn rule_word(rule: Rule) -> &'static str
         Rule::Alarm(class) => class_word(class),
         Rule::Wait => "WAIT",
         Rule::Dead => "DEAD",
+        Rule::Assumption(kind) => kind_word(kind),
     }
 }
 
@@ -100,6 +115,7 @@ pub fn rule_sentence(rule: Rule) -> &'static str
         Rule::Alarm(class) => sentence(class),
         Rule::Wait => "tasks may come to wait for each other for ever, one of them at this lock",
         Rule::Dead => "no run reaches this",
+        Rule::Assumption(kind) => kind_sentence(kind),
     }
 }
 
@@ -112,10 +128,12 @@ pub fn rule_help(rule: Rule) -> &'static str
         Rule::Wait => "Let all tasks lock the mutexes in one order, or one mutex around them.",
         Rule::Dead =>
             "Remove what cannot run, or mend the condition or the error before it that keeps each run out.",
+        Rule::Assumption(kind) => kind_help(kind),
     }
 }
 
-/// The level of what a rule finds: whether it is to be mended, or only to be known.
+/// The level of what a rule finds: whether it is to be mended, or only to be known. What a human is to look at, as an
+/// assumption, has none.
 pub fn level(rule: Rule) -> &'static str
     ensures { result.now ≡ level_text rule }
 {
@@ -123,5 +141,6 @@ pub fn level(rule: Rule) -> &'static str
         Rule::Alarm(_) => "warning",
         Rule::Wait => "warning",
         Rule::Dead => "note",
+        Rule::Assumption(_) => "none",
     }
 }

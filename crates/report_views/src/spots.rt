@@ -3,10 +3,11 @@
 ghost use Rattle.std.specs.Prelude.{◌≡◌, ◌++◌, None, Some, map, option_map, Contains, IfOk, IsErrOf, OnOk};
 ghost use Rattle.tm_terms.specs.declared.places.Place.{Place as PlaceOf};
 ghost use Rattle.source_marks.specs.reading.Seen.{origin_seen};
-ghost use Rattle.report_views.specs.Spots.{IsOutside, finding_of, found_by, spot_of, spots_of};
+ghost use Rattle.report_views.specs.Spots.{IsOutside, assumed_by, finding_of, found_by, spot_of, spots_of};
 ghost use Rattle.report_views.specs.reading.Seen.{spot_seen};
 
 use crate::sentences::Rule;
+use report_reading::Assumption;
 use source_marks::Origin;
 use std::alloc::{AllocError, Global};
 use tm_terms::{Alarm, Place};
@@ -61,6 +62,22 @@ pub fn push_places(
         findings.push(Finding {
             place: *place,
             rule,
+        })?;
+    }
+    Ok(())
+}
+
+/// Adds assumptions: each is found by the rule of its kind.
+pub fn push_assumptions(
+    findings: &mut Vec<Finding>,
+    assumptions: &[Assumption],
+) -> Result<(), AllocError>
+    ensures { OnOk result (findings.new.items ≡ findings.old.items ++ map assumed_by assumptions.now) }
+{
+    for assumption in assumptions {
+        findings.push(Finding {
+            place: assumption.place,
+            rule: Rule::Assumption(assumption.kind),
         })?;
     }
     Ok(())

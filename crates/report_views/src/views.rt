@@ -3,7 +3,7 @@
 ghost use Rattle.std.specs.Prelude.{◌≡◌, ℕ, List, Some, map, IfOk, IsErrOf};
 ghost use Rattle.source_marks.specs.reading.Seen.{origin_seen};
 ghost use Rattle.report_views.specs.declared.causes.Cause.{Cause as CauseOf};
-ghost use Rattle.report_views.specs.Causes.{AreOrigins, IsCause, IsLogCause, IsMisplaced};
+ghost use Rattle.report_views.specs.Causes.{Answers, AreOrigins, IsCause, IsLogCause, IsMisplaced};
 ghost use Rattle.report_views.specs.Causes.{IsReportOf};
 ghost use Rattle.report_views.specs.Spots.{finding_of, spots_of};
 ghost use Rattle.report_views.specs.Views.{form_text, has_alarm, IsShown, IsView};
@@ -65,7 +65,7 @@ pub fn read(alloc: Global, report: &[u8]) -> Result<Report, ViewFail>
     ensures refused { (cause : CauseOf) → IsErrOf result (ViewFail.Refused cause) →
         (name text : List ℕ) → IsCause name report.now text cause }
     ensures no_log { (cause : CauseOf) → IsErrOf result (ViewFail.Refused cause) →
-        (name waits dead text : List ℕ) → IsLogCause name report.now waits dead text cause }
+        (name text : List ℕ) (answers : Answers) → answers.report ≡ report.now → IsLogCause name answers text cause }
 {
     if report.len() > LONGEST_REPORT {
         return Err(ViewFail::Refused(Cause::LongReport));
@@ -88,7 +88,7 @@ pub fn traced<'a>(
     ensures refused { (cause : CauseOf) → IsErrOf result (ViewFail.Refused cause) →
         (report : List ℕ) → IsCause name.now report text.now cause }
     ensures no_log { (cause : CauseOf) → IsErrOf result (ViewFail.Refused cause) →
-        (report waits dead : List ℕ) → IsLogCause name.now report waits dead text.now cause }
+        (answers : Answers) → IsLogCause name.now answers text.now cause }
 {
     if text.len() > LONGEST_TEXT {
         return Err(ViewFail::Refused(Cause::LongText));

@@ -1,6 +1,6 @@
 //! Views of small reports.
 
-use report_logs::{Frame, log};
+use report_logs::{Answers, Frame, log};
 use report_views::{Form, ViewFail, cause_line, view};
 use std::alloc::Global;
 use std::process::Abort;
@@ -188,6 +188,74 @@ const NO_WAITS: &str = "waits 0\n";
 
 const NO_DEAD: &str = "dead 0\n";
 
+const NO_ASSUMPTIONS: &str = "assumptions 0\n";
+
+// What is told of the four alarms below: of the first and the third.
+const WAYS: &str =
+    "2:1 RACE with 4:18 store of y in f\n4:24 DIV path 4:24 in f\n4:24 DIV call 5:1 called \"here\"\n";
+
+// Texts of ways over a text of two lines, and why an alarm RACE at 1:1 has no log with them.
+static UNTOLD: [(&str, &str); 9] = [
+    ("waits 0\n", "the text of the ways tells no ways"),
+    ("1:1 RACE with 1:1 x", "the text of the ways tells no ways"),
+    (
+        "1:1 RACE when 1:1 x\n",
+        "the text of the ways tells no ways",
+    ),
+    (
+        "1:1 RACES with 1:1 x\n",
+        "the text of the ways tells no ways",
+    ),
+    (
+        "1:1 RACE with 01:1 x\n",
+        "the text of the ways tells no ways",
+    ),
+    (
+        "1:1 RACE with 1:1 x\n\n",
+        "the text of the ways tells no ways",
+    ),
+    (
+        "1:1 RACE with 1:1 x\n1:1 DIV path 1:1 y\n",
+        "of no alarm in its turn is what is told at the place 1:1",
+    ),
+    (
+        "2:1 RACE with 1:1 x\n1:1 RACE with 1:1 x\n",
+        "of no alarm in its turn is what is told at the place 2:1",
+    ),
+    (
+        "1:1 RACE with 1:1 x\n1:1 RACE path 3:1 y\n",
+        "in no line of a file stands the place 3:1",
+    ),
+];
+
+const RACE: &str = "{\"alarms\":[{\"class\":\"RACE\",\"col\":1,\"line\":1}],\"count\":1}";
+
+// Texts of assumptions over a text of two lines, and why an empty report has no log with them.
+static UNASSUMED: [(&str, &str); 7] = [
+    ("", "the text of the assumptions lists no assumptions"),
+    (NO_DEAD, "the text of the assumptions lists no assumptions"),
+    (
+        "2:1 ORDERS\nassumptions 1\n",
+        "the text of the assumptions lists no assumptions",
+    ),
+    (
+        "2:1 DEAD\nassumptions 1\n",
+        "the text of the assumptions lists no assumptions",
+    ),
+    (
+        "2:1 ORDER\nassumptions 2\n",
+        "the text of the assumptions lists no assumptions",
+    ),
+    (
+        "02:1 ORDER\nassumptions 1\n",
+        "the text of the assumptions lists no assumptions",
+    ),
+    (
+        "2:1 ENUM\n2:1 LAYOUT\n3:1 UNSET\nassumptions 3\n",
+        "in no line of a file stands the place 3:1",
+    ),
+];
+
 // Texts of waits and of dead places over a text of two lines, and why an empty report has no log with them.
 static UNLISTED: [(&str, &str, &str); 20] = [
     ("", NO_DEAD, "the text of the waits lists no places"),
@@ -294,12 +362,15 @@ fn shown(alloc: Global, form: Form, name: &str, report: &str, text: &str) -> Res
     }
 }
 
-// The log of a report, of waits and of dead places, or why there is none, where these lines of the files are at hand.
+// The log of a report, of waits, of dead places, of assumptions and of ways, or why there is none, where these lines of
+// the files are at hand.
 fn logged(
     alloc: Global,
     report: &str,
     waits: &str,
     dead: &str,
+    assumptions: &str,
+    ways: &str,
     text: &str,
     lines: &str,
 ) -> Result<Vec<u8>, Fail> {
@@ -310,13 +381,14 @@ fn logged(
         text: text.as_bytes(),
         lines: lines.as_bytes(),
     };
-    match log(
-        alloc,
-        frame,
-        report.as_bytes(),
-        waits.as_bytes(),
-        dead.as_bytes(),
-    ) {
+    let answers = Answers {
+        report: report.as_bytes(),
+        waits: waits.as_bytes(),
+        dead: dead.as_bytes(),
+        assumptions: assumptions.as_bytes(),
+        ways: ways.as_bytes(),
+    };
+    match log(alloc, frame, answers) {
         Ok(log) => Ok(log),
         Err(ViewFail::Refused(cause)) => {
             let line = cause_line(alloc, cause)?;
@@ -341,7 +413,16 @@ fn lines(rt: HostRuntime) -> Result<(), Fail> {
         let given = shown(alloc, Form::Summary, "a.c", report, text)?;
         let line = format!(in alloc; "refused: {wanted}\n")?;
         assert!(rt; given.as_slice() == line.as_bytes());
-        let given = logged(alloc, report, NO_WAITS, NO_DEAD, text, "")?;
+        let given = logged(
+            alloc,
+            report,
+            NO_WAITS,
+            NO_DEAD,
+            NO_ASSUMPTIONS,
+            "",
+            text,
+            "",
+        )?;
         assert!(rt; given.as_slice() == line.as_bytes());
     }
     Ok(())
@@ -357,40 +438,71 @@ const TEXT: &str =
 
 const FILE_LINES: &str = "\ny = 2; // note\n\nvoid\tf(void) { x <<= 1 / y; } // note\nPERCENT(x)\n";
 
-// The log of that report, of a wait and of two dead places, from its results on.
+// The log of that report, of what is told of it, of a wait, of two dead places and of an assumption, from its results on.
 const RESULTS: &str =
-    "\"results\":[{\"level\":\"warning\",\"locations\":[{\"logicalLocations\":[],\"physicalLocation\":{\"artifactLoca\
-    tion\":{\"uri\":\"b%20%22c.h\"},\"region\":{\"endColumn\":2,\"startColumn\":1,\"startLine\":3}}}],\"message\":{\
-    \"text\":\"another task may access this object at the same time, and one of the two stores\"},\"partialFingerpri\
-    nts\":{\"cedratcleat/v1\":\"3ef5c450844cbb134b68b360c8575e21\"},\"ruleId\":\"RACE\",\"ruleIndex\":7},{\"level\":\
-    \"warning\",\"locations\":[{\"logicalLocations\":[{\"kind\":\"function\",\"name\":\"f\"}],\"physicalLocation\":{\
-    \"artifactLocation\":{\"uri\":\"/code/src/a.c\"},\"region\":{\"endColumn\":21,\"startColumn\":18,\"startLine\":2\
-    }}}],\"message\":{\"text\":\"the shift may have a count or a left operand for which it is not defined\"},\"parti\
-    alFingerprints\":{\"cedratcleat/v1\":\"8f04045e264ccc6052f6836bca0619dd\"},\"ruleId\":\"SHIFT\",\"ruleIndex\":2}\
-    ,{\"level\":\"warning\",\"locations\":[{\"logicalLocations\":[{\"kind\":\"function\",\"name\":\"f\"}],\"physical\
-    Location\":{\"artifactLocation\":{\"uri\":\"/code/src/a.c\"},\"region\":{\"endColumn\":25,\"startColumn\":24,\"s\
-    tartLine\":2}}}],\"message\":{\"text\":\"the divisor may be zero\"},\"partialFingerprints\":{\"cedratcleat/v1\":\
-    \"af2658217f2bb362eb5dacb7f275d37c\"},\"ruleId\":\"DIV\",\"ruleIndex\":1},{\"level\":\"warning\",\"locations\":[\
+    "\"results\":[{\"level\":\"warning\",\"locations\":[{\"logicalLocations\":[],\"physicalLocation\":{\"artifactLocat\
+    ion\":{\"uri\":\"b%20%22c.h\"},\"region\":{\"endColumn\":2,\"startColumn\":1,\"startLine\":3}}}],\"message\":{\"t\
+    ext\":\"another task may access this object at the same time, and one of the two stores\"},\"partialFingerprints\
+    \":{\"cedratcleat/v1\":\"3ef5c450844cbb134b68b360c8575e21\"},\"relatedLocations\":[{\"message\":{\"text\":\"store \
+    of y in f\"},\"physicalLocation\":{\"artifactLocation\":{\"uri\":\"/code/src/a.c\"},\"region\":{\"endColumn\":21\
+    ,\"startColumn\":18,\"startLine\":2}}}],\"ruleId\":\"RACE\",\"ruleIndex\":7,\"stacks\":[]},{\"level\":\"warning\"\
+    ,\"locations\":[{\"logicalLocations\":[{\"kind\":\"function\",\"name\":\"f\"}],\"physicalLocation\":{\"artifactLo\
+    cation\":{\"uri\":\"/code/src/a.c\"},\"region\":{\"endColumn\":21,\"startColumn\":18,\"startLine\":2}}}],\"messag\
+    e\":{\"text\":\"the shift may have a count or a left operand for which it is not defined\"},\"partialFingerprints\
+    \":{\"cedratcleat/v1\":\"8f04045e264ccc6052f6836bca0619dd\"},\"relatedLocations\":[],\"ruleId\":\"SHIFT\",\"ruleI\
+    ndex\":2,\"stacks\":[]},{\"level\":\"warning\",\"locations\":[{\"logicalLocations\":[{\"kind\":\"function\",\"nam\
+    e\":\"f\"}],\"physicalLocation\":{\"artifactLocation\":{\"uri\":\"/code/src/a.c\"},\"region\":{\"endColumn\":25,\
+    \"startColumn\":24,\"startLine\":2}}}],\"message\":{\"text\":\"the divisor may be zero\"},\"partialFingerprints\"\
+    :{\"cedratcleat/v1\":\"af2658217f2bb362eb5dacb7f275d37c\"},\"relatedLocations\":[],\"ruleId\":\"DIV\",\"ruleIndex\
+    \":1,\"stacks\":[{\"frames\":[{\"location\":{\"message\":{\"text\":\"in f\"},\"physicalLocation\":{\"artifactLoca\
+    tion\":{\"uri\":\"/code/src/a.c\"},\"region\":{\"endColumn\":25,\"startColumn\":24,\"startLine\":2}}}},{\"locatio\
+    n\":{\"message\":{\"text\":\"called \\\"here\\\"\"},\"physicalLocation\":{\"artifactLocation\":{\"uri\":\"/code/s\
+    rc/a.c\"},\"region\":{\"startLine\":3}}}}],\"message\":{\"text\":\"in f\"}}]},{\"level\":\"warning\",\"locations\
+    \":[{\"logicalLocations\":[{\"kind\":\"function\",\"name\":\"f\"}],\"physicalLocation\":{\"artifactLocation\":{\"\
+    uri\":\"/code/src/a.c\"},\"region\":{\"endColumn\":27,\"startColumn\":26,\"startLine\":2}}}],\"message\":{\"text\
+    \":\"the divisor may be zero\"},\"partialFingerprints\":{\"cedratcleat/v1\":\"90637b77078ed5e89744a37b5744bc9e\"}\
+    ,\"relatedLocations\":[],\"ruleId\":\"DIV\",\"ruleIndex\":1,\"stacks\":[]},{\"level\":\"warning\",\"locations\":[\
     {\"logicalLocations\":[{\"kind\":\"function\",\"name\":\"f\"}],\"physicalLocation\":{\"artifactLocation\":{\"uri\
-    \":\"/code/src/a.c\"},\"region\":{\"endColumn\":27,\"startColumn\":26,\"startLine\":2}}}],\"message\":{\"text\":\
-    \"the divisor may be zero\"},\"partialFingerprints\":{\"cedratcleat/v1\":\"90637b77078ed5e89744a37b5744bc9e\"},\
-    \"ruleId\":\"DIV\",\"ruleIndex\":1},{\"level\":\"warning\",\"locations\":[{\"logicalLocations\":[{\"kind\":\"fun\
-    ction\",\"name\":\"f\"}],\"physicalLocation\":{\"artifactLocation\":{\"uri\":\"/code/src/a.c\"},\"region\":{\"en\
-    dColumn\":17,\"startColumn\":16,\"startLine\":2}}}],\"message\":{\"text\":\"tasks may come to wait for each othe\
-    r for ever, one of them at this lock\"},\"partialFingerprints\":{\"cedratcleat/v1\":\"1b8d5d9ebf6e036df7e0f31934\
-    638461\"},\"ruleId\":\"WAIT\",\"ruleIndex\":8},{\"level\":\"note\",\"locations\":[{\"logicalLocations\":[],\"phy\
-    sicalLocation\":{\"artifactLocation\":{\"uri\":\"/code/src/a.c\"},\"region\":{\"startLine\":3}}}],\"message\":{\
-    \"text\":\"no run reaches this\"},\"partialFingerprints\":{\"cedratcleat/v1\":\"b58256d7d392845a628aad7e75c26966\
-    \"},\"ruleId\":\"DEAD\",\"ruleIndex\":9},{\"level\":\"note\",\"locations\":[{\"logicalLocations\":[],\"physicalL\
-    ocation\":{\"artifactLocation\":{\"uri\":\"/code/src/a.c\"},\"region\":{\"startColumn\":2,\"startLine\":4}}}],\"\
-    message\":{\"text\":\"no run reaches this\"},\"partialFingerprints\":{\"cedratcleat/v1\":\"7bcd52318438a5d2059c1\
-    508afb45538\"},\"ruleId\":\"DEAD\",\"ruleIndex\":9}]";
+    \":\"/code/src/a.c\"},\"region\":{\"endColumn\":17,\"startColumn\":16,\"startLine\":2}}}],\"message\":{\"text\":\
+    \"tasks may come to wait for each other for ever, one of them at this lock\"},\"partialFingerprints\":{\"cedratcl\
+    eat/v1\":\"1b8d5d9ebf6e036df7e0f31934638461\"},\"relatedLocations\":[],\"ruleId\":\"WAIT\",\"ruleIndex\":8,\"stac\
+    ks\":[]},{\"level\":\"note\",\"locations\":[{\"logicalLocations\":[],\"physicalLocation\":{\"artifactLocation\":{\
+    \"uri\":\"/code/src/a.c\"},\"region\":{\"startLine\":3}}}],\"message\":{\"text\":\"no run reaches this\"},\"parti\
+    alFingerprints\":{\"cedratcleat/v1\":\"b58256d7d392845a628aad7e75c26966\"},\"relatedLocations\":[],\"ruleId\":\"D\
+    EAD\",\"ruleIndex\":9,\"stacks\":[]},{\"level\":\"note\",\"locations\":[{\"logicalLocations\":[],\"physicalLocati\
+    on\":{\"artifactLocation\":{\"uri\":\"/code/src/a.c\"},\"region\":{\"startColumn\":2,\"startLine\":4}}}],\"messag\
+    e\":{\"text\":\"no run reaches this\"},\"partialFingerprints\":{\"cedratcleat/v1\":\"7bcd52318438a5d2059c1508afb4\
+    5538\"},\"relatedLocations\":[],\"ruleId\":\"DEAD\",\"ruleIndex\":9,\"stacks\":[]},{\"kind\":\"review\",\"level\"\
+    :\"none\",\"locations\":[{\"logicalLocations\":[{\"kind\":\"function\",\"name\":\"f\"}],\"physicalLocation\":{\"a\
+    rtifactLocation\":{\"uri\":\"/code/src/a.c\"},\"region\":{\"endColumn\":17,\"startColumn\":16,\"startLine\":2}}}]\
+    ,\"message\":{\"text\":\"C leaves open in which order these operands are evaluated, and it matters\"},\"partialFi\
+    ngerprints\":{\"cedratcleat/v1\":\"9a14c20187d253f6c375bc00e40ecfa0\"},\"relatedLocations\":[],\"ruleId\":\"ORDER\
+    \",\"ruleIndex\":16,\"stacks\":[]}]";
 
 #[test]
 fn listings(rt: HostRuntime) -> Result<(), Fail> {
     let alloc = rt.alloc();
     for (waits, dead, wanted) in UNLISTED.iter() {
-        let given = logged(alloc, EMPTY, waits, dead, "x\nx", "")?;
+        let given = logged(alloc, EMPTY, waits, dead, NO_ASSUMPTIONS, "", "x\nx", "")?;
+        let line = format!(in alloc; "refused: {wanted}\n")?;
+        assert!(rt; given.as_slice() == line.as_bytes());
+    }
+    for (assumptions, wanted) in UNASSUMED.iter() {
+        let given = logged(alloc, EMPTY, NO_WAITS, NO_DEAD, assumptions, "", "x\nx", "")?;
+        let line = format!(in alloc; "refused: {wanted}\n")?;
+        assert!(rt; given.as_slice() == line.as_bytes());
+    }
+    for (ways, wanted) in UNTOLD.iter() {
+        let given = logged(
+            alloc,
+            RACE,
+            NO_WAITS,
+            NO_DEAD,
+            NO_ASSUMPTIONS,
+            ways,
+            "x\nx",
+            "",
+        )?;
         let line = format!(in alloc; "refused: {wanted}\n")?;
         assert!(rt; given.as_slice() == line.as_bytes());
     }
@@ -405,6 +517,8 @@ fn forms(rt: HostRuntime) -> Result<(), Fail> {
         MARKED,
         "4:16 WAIT\nwaits 1\n",
         "5:1 DEAD\n6:3 DEAD\ndead 2\n",
+        "4:16 ORDER\nassumptions 1\n",
+        WAYS,
         TEXT,
         FILE_LINES,
     )?;
@@ -416,7 +530,7 @@ fn forms(rt: HostRuntime) -> Result<(), Fail> {
     assert!(rt; log.as_slice().starts_with(start.as_bytes()));
     let behind = &log.as_slice()[start.len().min(log.len())..];
     assert!(rt; behind.starts_with(RESULTS.as_bytes()));
-    let none = logged(alloc, EMPTY, NO_WAITS, NO_DEAD, "", "")?;
+    let none = logged(alloc, EMPTY, NO_WAITS, NO_DEAD, NO_ASSUMPTIONS, "", "", "")?;
     let quiet =
         "{\"$schema\":\"https://json.schemastore.org/sarif-2.1.0.json\",\"runs\":[{\"artifacts\":[{\"location\":\
         {\"uri\":\"a.c\"}}],\"columnKind\":\"utf16CodeUnits\",\"invocations\":[{\"executionSuccessful\":true,\

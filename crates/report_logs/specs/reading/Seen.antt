@@ -1,18 +1,33 @@
 -- What the code holds, as the definitions see it.
-use Rattle.std.specs.Prelude.{◌≡◌, ℕ, Bool, List, length, map, bytes_eq, is_some, String}
+use Rattle.std.specs.Prelude.{◌≡◌, ℕ, Bool, true, false, List, [], ◌∷◌, length, map, sum, bytes_eq, is_some, String}
 use Rattle.std.specs.Borrow.{Bor}
 use Rattle.std.specs.HashMap.{HashMap, get_by}
 use Rattle.std.specs.List.{list_any}
 use Rattle.std.specs.declared.alloc.Global.{Global}
+use Rattle.serde_json.specs.Data.{Data, Members}
 use Rattle.serde_json.specs.View.{view}
 use Rattle.serde_json.specs.declared.value.Value.{Value}
 use Rattle.place_details.specs.declared.regions.Region.{Region}
-use Rattle.report_logs.specs.Sarif.{artifact_data}
+use Rattle.place_details.specs.Details.{region_of}
+use Rattle.report_reading.specs.Ways.{Way}
+use Rattle.report_views.specs.Causes.{Answers}
+use Rattle.report_views.specs.Sentences.{level_text, rule_sentence, rule_text}
+use Rattle.report_views.specs.Shares.{site_of}
+use Rattle.report_views.specs.Spots.{Spot}
+use Rattle.report_views.specs.declared.sentences.Rule.{Rule}
 use Rattle.report_views.specs.reading.Seen.{spot_seen}
-use Rattle.report_logs.specs.Sarif.{Told}
+use Rattle.report_logs.specs.Logs.{sights_of}
+use Rattle.report_logs.specs.Sarif.{Told, WayTold, artifact_data, result_parts, rule_number, site_data, text_data}
+use Rattle.report_logs.specs.Sarif.{ways_told}
 use Rattle.report_logs.specs.declared.sarif.Told.{Told as ToldCode}
+use Rattle.report_logs.specs.declared.stacks.WayTold.{WayTold as WayToldCode}
 use Rattle.report_logs.specs.Refusals.{Refusal}
 use Rattle.report_logs.specs.declared.refusals.Refusal.{Refusal as RefusalCode}
+use Rattle.report_logs.specs.declared.logs.Answers.{Answers as AnswersCode}
+
+abbrev pub way_told_seen : WayToldCode → WayTold
+way_told_seen way =
+    record { kind = way.kind; said = way.said.now; spot = spot_seen way.spot; region = way.region }
 
 abbrev pub told_seen : ToldCode → Told
 told_seen told =
@@ -21,6 +36,17 @@ told_seen told =
       region = told.region;
       function = told.function.now;
       fingerprint = told.fingerprint.now;
+      ways = map way_told_seen told.ways.now;
+    }
+
+abbrev pub answers_seen : AnswersCode → Answers
+answers_seen answers =
+    record {
+      report = answers.report.now;
+      waits = answers.waits.now;
+      dead = answers.dead.now;
+      assumptions = answers.assumptions.now;
+      ways = answers.ways.now;
     }
 
 abbrev pub refusal_seen : RefusalCode → Refusal
@@ -32,6 +58,26 @@ pub record AreAsMany (count : ℕ) (regions : List Region) (functions : List (Bo
   pub of_regions : length regions ≡ count
   pub of_functions : length functions ≡ count
   pub of_fingerprints : length fingerprints ≡ count
+
+-- what is told is shared out among findings
+pub record AreSharedOut (count : ℕ) (counts : List ℕ) (told : ℕ) : Type 0 where
+  pub of_counts : length counts ≡ count
+  pub of_told : sum counts ≡ told
+
+-- what is told of alarms, at these places of a text, where these lines of the files are at hand
+abbrev pub told_at : List ℕ → List ℕ → List Way → List Spot → List WayTold
+told_at text lines ways sites = ways_told ways sites (map (region_of text lines) (sights_of (map site_of ways) sites))
+
+-- the members of a result, by what belongs to it
+abbrev pub parts_of : Rule → Data → Data → List Data → List Data → Members
+parts_of rule location marks related stacks =
+    result_parts (level_text rule) location (text_data (rule_sentence rule)) marks related (rule_text rule)
+    (rule_number rule) stacks
+
+-- the place that belongs to an alarm, if this is one
+abbrev pub related_here : Bool → WayTold → List Data
+related_here true way = site_data way ∷ []
+related_here false way = []
 
 -- the values are those of files, and these are the ones that were seen
 pub record HasFiles {S : Type 0} (files : List (List ℕ)) (values : List Value) (seen : HashMap (Bor (List ℕ)) Bool S)

@@ -1,13 +1,12 @@
 -- What the code finds of the places that a text lists before it compares.
-use Rattle.std.specs.Prelude.{◌≡◌, ◌<◌, ◌^◌, ℕ, List, [], ◌∷◌, ◌++◌, length, codes, decimal, Option, Some, None}
+use Rattle.std.specs.Prelude.{◌≡◌, ℕ, List, [], ◌∷◌, ◌++◌, length, codes, decimal, Option}
 use Rattle.std.specs.Prelude.{MatchOption}
-use Rattle.std.specs.List.{flat_map}
 use Rattle.std.specs.Borrow.{Bor}
 use Rattle.tm_terms.specs.declared.places.Place.{Place}
-use Rattle.tm_terms.specs.Texts.{line_of, place_text}
+use Rattle.tm_terms.specs.Texts.{place_text}
 use Rattle.report_reading.specs.declared.listings.Listing.{Listing}
 use Rattle.report_reading.specs.declared.listings.Listing.TheVariants.{Waits, Dead}
-use Rattle.report_reading.specs.Listings.{HaveSmallNumbers, listing_text}
+use Rattle.report_reading.specs.Listings.{HaveSmallNumbers}
 
 -- the word behind each place
 abbrev pub word_text : Listing → List ℕ

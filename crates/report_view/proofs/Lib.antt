@@ -1,0 +1,2 @@
+-- What holds where a stream has taken nothing, or a front (Fronts).
+pub mod Fronts
