@@ -1,7 +1,8 @@
--- Several texts as one (PartTexts), what is answered to a source (Notes), and what the code tells of a solution before it
--- is known of which source it is (reading).
+-- Several texts as one (PartTexts), what is answered to a source (Notes), which words ask for that (Words), and what the
+-- code tells of a solution before it is known of which source it is (reading).
 -- The crate below, passed on to those above.
 pub use Rattle.source_findings.specs as source_findings
 pub mod PartTexts
 pub mod Notes
+pub mod Words
 pub mod reading

@@ -19,6 +19,8 @@
 mod answers;
 mod parts;
 mod streams;
+mod words;
 
 pub use answers::{Note, NoteReply, notes_of};
 pub use streams::tell_notes;
+pub use words::{AskedNotes, asked_notes, asks_notes};
