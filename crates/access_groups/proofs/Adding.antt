@@ -5,15 +5,15 @@ use Rattle.std.proofs.lemmas.Bool.{cases_eq}
 use Rattle.flow_graph.specs.declared.graphs.Graph.{Graph}
 use Rattle.mutex_configs.specs.declared.nodes.ConfiguredGraph.{ConfiguredGraph}
 use Rattle.mutex_configs.specs.declared.programs.Program.{Program}
-use Rattle.post_recheck.specs.transfer_rows.StateForms.{State}
-use Rattle.post_recheck.specs.table_covers.Solutions.{NodeTable, at}
-use Rattle.post_recheck.specs.task_equations.Bodies.{Body, copy_at}
-use Rattle.post_recheck.specs.program_equations.Programs.{ProgramBodies, body_at, IsProgram}
-use Rattle.post_recheck.specs.program_equations.Solutions.{table_at, tables_of}
-use Rattle.post_recheck.specs.program_systems.Analysable.{IsAnalysable}
-use Rattle.post_recheck.specs.program_systems.ProgramFacts.{AllFacts, AreProgramFacts, program_with}
-use Rattle.post_recheck.proofs.low.program_systems.Bodies.{is_program, is_program_of, body_count}
-use Rattle.post_recheck.specs.Pairs.{Pair, FitsPair}
+use Rattle.program_reports.specs.post_recheck.transfer_rows.StateForms.{State}
+use Rattle.program_reports.specs.post_recheck.table_covers.Solutions.{NodeTable, at}
+use Rattle.program_reports.specs.post_recheck.task_equations.Bodies.{Body, copy_at}
+use Rattle.program_reports.specs.post_recheck.program_equations.Programs.{ProgramBodies, body_at, IsProgram}
+use Rattle.program_reports.specs.post_recheck.program_equations.Solutions.{table_at, tables_of}
+use Rattle.program_reports.specs.post_recheck.program_systems.Analysable.{IsAnalysable}
+use Rattle.program_reports.specs.post_recheck.program_systems.ProgramFacts.{AllFacts, AreProgramFacts, program_with}
+use Rattle.program_reports.proofs.low.program_systems.Bodies.{is_program, is_program_of, body_count}
+use Rattle.program_reports.specs.post_recheck.Pairs.{Pair, FitsPair}
 use Rattle.access_races.specs.declared.accesses.Access.{Access}
 use Rattle.access_races.proofs.Joins.{either}
 use Rattle.program_reports.specs.reading.Found.{GivesAccess, IsAccessBelow}

@@ -1,8 +1,8 @@
 -- Accesses of one object that are alike.
 use Rattle.std.proofs.Common.{◌≡◌, ◌↔◌, ℕ, ap, sym, subst, ◌∙◌, true, Some}
-use Rattle.post_recheck.specs.transfer_rows.StateForms.{State}
-use Rattle.post_recheck.specs.table_covers.Solutions.{NodeTable}
-use Rattle.post_recheck.specs.program_equations.Programs.{ProgramBodies}
+use Rattle.program_reports.specs.post_recheck.transfer_rows.StateForms.{State}
+use Rattle.program_reports.specs.post_recheck.table_covers.Solutions.{NodeTable}
+use Rattle.program_reports.specs.post_recheck.program_equations.Programs.{ProgramBodies}
 use Rattle.program_reports.specs.Reports.{IsAccess, AreRacing, IsWriting, operation_in, left_in, place_of}
 use Rattle.access_groups.specs.declared.object_access.ObjectAccess.{ObjectAccess}
 use Rattle.access_groups.specs.Groups.{object_in, IsAccessAt, IsRacingThere}

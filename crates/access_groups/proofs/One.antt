@@ -11,14 +11,16 @@ use Rattle.tm_terms.specs.declared.alarms.Alarm.{Alarm}
 use Rattle.tm_terms.specs.declared.places.Place.{Place}
 use Rattle.mutex_configs.specs.Sets.{has}
 use Rattle.interfere_set.specs.strided_dom.Progression.{single}
-use Rattle.post_recheck.specs.transfer_rows.StateForms.{State, value_of}
-use Rattle.post_recheck.specs.transfer_rows.Actions.{Around, Action, Calculation, negated, operated, element, moved}
-use Rattle.post_recheck.specs.transfer_rows.Actions.{dereferenced, usable, gives, refines, locks, unlocks}
-use Rattle.post_recheck.specs.transfer_rows.Reports.{IsListed, CalculationMayFail}
-use Rattle.post_recheck.specs.transfer_rows.operator_values.Classes.{may_fail_is}
-use Rattle.post_recheck.specs.task_equations.Equations.{action_along, around_along}
-use Rattle.post_recheck.specs.table_covers.Solutions.{NodeTable}
-use Rattle.post_recheck.specs.program_equations.Programs.{ProgramBodies, body_at}
+use Rattle.program_reports.specs.post_recheck.transfer_rows.StateForms.{State, value_of}
+use Rattle.program_reports.specs.post_recheck.transfer_rows.Actions.{Around, Action, Calculation, negated, operated}
+use Rattle.program_reports.specs.post_recheck.transfer_rows.Actions.{element, moved}
+use Rattle.program_reports.specs.post_recheck.transfer_rows.Actions.{dereferenced, usable, gives, refines, locks}
+use Rattle.program_reports.specs.post_recheck.transfer_rows.Actions.{unlocks}
+use Rattle.program_reports.specs.post_recheck.transfer_rows.Reports.{IsListed, CalculationMayFail}
+use Rattle.program_reports.specs.post_recheck.transfer_rows.operator_values.Classes.{may_fail_is}
+use Rattle.program_reports.specs.post_recheck.task_equations.Equations.{action_along, around_along}
+use Rattle.program_reports.specs.post_recheck.table_covers.Solutions.{NodeTable}
+use Rattle.program_reports.specs.post_recheck.program_equations.Programs.{ProgramBodies, body_at}
 use Rattle.access_races.proofs.Joins.{either}
 use Rattle.program_reports.specs.Reports.{IsRacing, IsAlarm, IsReport, copy_in, operation_in, left_in}
 use Rattle.program_reports.specs.Reports.IsAlarm.{faulty, racing}
@@ -26,7 +28,8 @@ use Rattle.program_reports.specs.reading.Found.{is_writing}
 use Rattle.access_groups.specs.declared.object_access.ObjectAccess.{ObjectAccess}
 use Rattle.access_groups.specs.declared.object_access.AccessGroup.{AccessGroup}
 use Rattle.access_groups.specs.Order.{IsBefore, AreRising}
-use Rattle.access_groups.specs.Groups.{object_in, IsAccessAt, IsRacingThere, IsFoundFree, IsObjectAccess, AreObjectAccesses}
+use Rattle.access_groups.specs.Groups.{object_in, IsAccessAt, IsRacingThere, IsFoundFree, IsObjectAccess}
+use Rattle.access_groups.specs.Groups.{AreObjectAccesses}
 use Rattle.access_groups.specs.Groups.{AreGroups, contents, HasRacingAt}
 use Rattle.access_groups.proofs.Rising.{none, first, later, cases, equal_lists}
 use Rattle.access_groups.proofs.Sorting.{AreAlike, alike, is_before_trans, never_before}

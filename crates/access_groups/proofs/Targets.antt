@@ -1,5 +1,6 @@
 -- What a copy gives, and with one more cell.
-use Rattle.std.proofs.Common.{◌≡◌, ◌↔◌, ◌⊎◌, ℕ, ◌+◌, ◌<◌, refl, ap, sym, subst, ◌∙◌, inl, inr, Bool, true, List, length, take}
+use Rattle.std.proofs.Common.{◌≡◌, ◌↔◌, ◌⊎◌, ℕ, ◌+◌, ◌<◌, refl, ap, sym, subst, ◌∙◌, inl, inr, Bool, true, List, length}
+use Rattle.std.proofs.Common.{take}
 use Rattle.std.proofs.Common.{get_or, Option, Some, None, IfSome, arith}
 use Rattle.std.specs.Prelude.{Contains}
 use Rattle.std.proofs.lemmas.List.{get_or_default}
@@ -9,15 +10,15 @@ use Rattle.flow_graph.specs.declared.operations.Operation.{Operation}
 use Rattle.flow_graph.specs.declared.operations.Operation.TheVariants as Op
 use Rattle.mutex_configs.specs.declared.nodes.EdgeCopy.{EdgeCopy}
 use Rattle.interfere_set.specs.Stores.{Interferences}
-use Rattle.post_recheck.specs.transfer_rows.StateForms.{State}
-use Rattle.post_recheck.specs.transfer_rows.Reports.{targets_of}
-use Rattle.post_recheck.specs.edge_actions.Edges.{action_of}
-use Rattle.post_recheck.specs.edge_effects.declared.views.After.{After}
-use Rattle.post_recheck.specs.edge_effects.Effects.{IsAfter}
-use Rattle.post_recheck.specs.table_covers.Solutions.{at}
-use Rattle.post_recheck.specs.task_equations.Bodies.{Body, no_copy, copy_at}
-use Rattle.post_recheck.specs.task_equations.Equations.{action_along, around_along, tests_pointer}
-use Rattle.post_recheck.specs.program_equations.Systems.{FitsBody}
+use Rattle.program_reports.specs.post_recheck.transfer_rows.StateForms.{State}
+use Rattle.program_reports.specs.post_recheck.transfer_rows.Reports.{targets_of}
+use Rattle.program_reports.specs.post_recheck.edge_actions.Edges.{action_of}
+use Rattle.program_reports.specs.post_recheck.edge_effects.declared.views.After.{After}
+use Rattle.program_reports.specs.post_recheck.edge_effects.Effects.{IsAfter}
+use Rattle.program_reports.specs.post_recheck.table_covers.Solutions.{at}
+use Rattle.program_reports.specs.post_recheck.task_equations.Bodies.{Body, no_copy, copy_at}
+use Rattle.program_reports.specs.post_recheck.task_equations.Equations.{action_along, around_along, tests_pointer}
+use Rattle.program_reports.specs.post_recheck.program_equations.Systems.{FitsBody}
 use Rattle.access_races.specs.declared.accesses.Way.{Way}
 use Rattle.access_races.specs.declared.accesses.Access.{Access}
 use Rattle.access_races.proofs.Joins.{either, front_more}

@@ -10,9 +10,9 @@ use Rattle.std.specs.Prelude.{◌≡◌, ◌↔◌, ℕ, ◌<◌, true, List, ma
 use Rattle.tm_terms.specs.declared.places.Place.{Place}
 use Rattle.tm_laid.specs.Layouts.{abstract_at}
 use Rattle.mutex_configs.specs.Sets.{has}
-use Rattle.post_recheck.specs.transfer_rows.StateForms.{State}
-use Rattle.post_recheck.specs.table_covers.Solutions.{NodeTable}
-use Rattle.post_recheck.specs.program_equations.Programs.{ProgramBodies}
+use Rattle.program_reports.specs.post_recheck.transfer_rows.StateForms.{State}
+use Rattle.program_reports.specs.post_recheck.table_covers.Solutions.{NodeTable}
+use Rattle.program_reports.specs.post_recheck.program_equations.Programs.{ProgramBodies}
 use Rattle.program_reports.specs.Reports.{place_of, IsWriting, operation_in, left_in, IsAccess, AreRacing}
 use Rattle.access_groups.specs.declared.object_access.ObjectAccess.{ObjectAccess}
 use Rattle.access_groups.specs.declared.object_access.AccessGroup.{AccessGroup}

@@ -1,9 +1,9 @@
 //! The accesses of a copy of an edge.
 ghost use Rattle.std.specs.Prelude.{◌≡◌, ◌<◌, ◌⊎◌, ◌↔◌, length, Contains, OnOk};
 ghost use Rattle.access_races.specs.declared.accesses.Access.{Access as AnAccess};
-ghost use Rattle.post_recheck.specs.task_equations.Bodies.{copy_at};
-ghost use Rattle.post_recheck.specs.program_equations.Systems.{FitsBody};
-ghost use Rattle.post_recheck.specs.body_systems.Systems.{body_of};
+ghost use Rattle.program_reports.specs.post_recheck.task_equations.Bodies.{copy_at};
+ghost use Rattle.program_reports.specs.post_recheck.program_equations.Systems.{FitsBody};
+ghost use Rattle.program_reports.specs.post_recheck.body_systems.Systems.{body_of};
 ghost use Rattle.program_reports.specs.reading.Found.{operation_at, way_of_copy, is_writing, IsTargetIn, GivesAccess};
 ghost use Rattle.access_groups.specs.reading.Copies.{access_place, ArePartsOf};
 
@@ -12,7 +12,7 @@ use cell_env::State;
 use flow_graph::{Edge, Operation};
 use mutex_configs::{ConfiguredNode, EdgeCopy};
 use pointer_dom::AbsValue;
-use post_recheck::BodyOverStore;
+use program_reports::BodyOverStore;
 use std::alloc::Global;
 use tm_lattice::NoMemory;
 use tm_terms::Place;

@@ -1,9 +1,9 @@
 //! The groups of a program's tables.
 ghost use Rattle.std.specs.Prelude.{◌≤◌, ◌^◌, length, IfOk, OnOk};
-ghost use Rattle.post_recheck.specs.program_equations.Solutions.{tables_of};
-ghost use Rattle.post_recheck.specs.program_systems.Analysable.{IsAnalysable};
-ghost use Rattle.post_recheck.specs.program_systems.ProgramFacts.{AreProgramFacts, program_with};
-ghost use Rattle.post_recheck.specs.Pairs.{FitsPair, lists_of, pair_of};
+ghost use Rattle.program_reports.specs.post_recheck.program_equations.Solutions.{tables_of};
+ghost use Rattle.program_reports.specs.post_recheck.program_systems.Analysable.{IsAnalysable};
+ghost use Rattle.program_reports.specs.post_recheck.program_systems.ProgramFacts.{AreProgramFacts, program_with};
+ghost use Rattle.program_reports.specs.post_recheck.Pairs.{FitsPair, lists_of, pair_of};
 ghost use Rattle.access_groups.specs.Groups.{AreGroups};
 ghost use Rattle.access_groups.specs.reading.Grouping.{IsGrouped, AreGroupsOf};
 
@@ -14,7 +14,7 @@ use crate::tasks::accesses_in;
 use crate::ways::ways_by_cell;
 use interfere_set::Store;
 use mutex_configs::Program;
-use post_recheck::{ProgramFacts, Table};
+use program_reports::{ProgramFacts, Table};
 use std::alloc::Global;
 use tm_lattice::NoMemory;
 

@@ -1,12 +1,12 @@
 //! The accesses of tasks.
 ghost use Rattle.std.specs.Prelude.{◌<◌, ◌⊎◌, ◌↔◌, length, Contains, IfOk, OnOk};
 ghost use Rattle.access_races.specs.declared.accesses.Access.{Access as AnAccess};
-ghost use Rattle.post_recheck.specs.table_covers.Solutions.{at};
-ghost use Rattle.post_recheck.specs.program_equations.Solutions.{tables_of};
-ghost use Rattle.post_recheck.specs.body_systems.Systems.{body_of};
-ghost use Rattle.post_recheck.specs.program_systems.Analysable.{IsAnalysable};
-ghost use Rattle.post_recheck.specs.program_systems.ProgramFacts.{AreProgramFacts, program_with};
-ghost use Rattle.post_recheck.specs.Pairs.{FitsPair, lists_of, pair_of};
+ghost use Rattle.program_reports.specs.post_recheck.table_covers.Solutions.{at};
+ghost use Rattle.program_reports.specs.post_recheck.program_equations.Solutions.{tables_of};
+ghost use Rattle.program_reports.specs.post_recheck.body_systems.Systems.{body_of};
+ghost use Rattle.program_reports.specs.post_recheck.program_systems.Analysable.{IsAnalysable};
+ghost use Rattle.program_reports.specs.post_recheck.program_systems.ProgramFacts.{AreProgramFacts, program_with};
+ghost use Rattle.program_reports.specs.post_recheck.Pairs.{FitsPair, lists_of, pair_of};
 ghost use Rattle.program_reports.specs.reading.Found.{IsAccessBelow};
 ghost use Rattle.program_reports.specs.reading.Parts.{FitsTable};
 ghost use Rattle.program_reports.specs.reading.Bodies.{IsAccessOf, IsAccessUpTo};
@@ -16,7 +16,7 @@ use crate::copies::{TaskParts, add_copy};
 use access_races::Access;
 use interfere_set::Store;
 use mutex_configs::Program;
-use post_recheck::{BodyState, ProgramFacts, Table, body_over_store};
+use program_reports::{BodyState, ProgramFacts, Table, body_over_store};
 use std::alloc::Global;
 use tm_lattice::NoMemory;
 

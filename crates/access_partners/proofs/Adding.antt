@@ -16,7 +16,7 @@ use Rattle.post_recheck.specs.program_equations.Solutions.{table_at, tables_of}
 use Rattle.post_recheck.specs.Pairs.{Pair}
 use Rattle.access_races.specs.declared.accesses.Way.{Way}
 use Rattle.access_races.proofs.Joins.{either}
-use Rattle.program_reports.specs.reading.Found.{operation_at, way_of_copy}
+use Rattle.access_groups.specs.program_reports.reading.Found.{operation_at, way_of_copy}
 use Rattle.access_groups.specs.declared.copies.TaskParts.{TaskParts}
 use Rattle.access_groups.specs.reading.Copies.{access_place, ArePartsOf}
 use Rattle.access_groups.proofs.Targets as targets

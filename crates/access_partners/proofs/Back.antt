@@ -5,7 +5,7 @@ use Rattle.post_recheck.specs.transfer_rows.StateForms.{State}
 use Rattle.post_recheck.specs.table_covers.Solutions.{NodeTable}
 use Rattle.post_recheck.specs.program_equations.Programs.{ProgramBodies}
 use Rattle.access_races.proofs.Joins.{either}
-use Rattle.program_reports.specs.Reports.{AreRacing, left_in}
+use Rattle.access_groups.specs.program_reports.Reports.{AreRacing, left_in}
 use Rattle.access_groups.specs.declared.object_access.ObjectAccess.{ObjectAccess}
 use Rattle.access_partners.specs.Partners.{ArePartners}
 

@@ -12,8 +12,8 @@ use Rattle.access_races.specs.declared.accesses.Way.{Way}
 use Rattle.access_races.specs.Races.{do_race}
 use Rattle.access_races.proofs.Decided.{Race, race_from, race_is}
 use Rattle.access_races.proofs.Joins.{either}
-use Rattle.program_reports.specs.Reports.{IsAccess, AreRacing, operation_in, copy_in, priority_at}
-use Rattle.program_reports.specs.reading.Found.{way_of_copy, is_writing}
+use Rattle.access_groups.specs.program_reports.Reports.{IsAccess, AreRacing, operation_in, copy_in, priority_at}
+use Rattle.access_groups.specs.program_reports.reading.Found.{way_of_copy, is_writing}
 use Rattle.access_groups.specs.declared.object_access.ObjectAccess.{ObjectAccess}
 use Rattle.access_groups.specs.declared.object_access.AccessGroup.{AccessGroup}
 use Rattle.access_groups.specs.Order.{sort_key}

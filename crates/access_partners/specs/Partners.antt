@@ -12,7 +12,7 @@ use Rattle.std.specs.declared.alloc.Global.{Global}
 use Rattle.post_recheck.specs.transfer_rows.StateForms.{State}
 use Rattle.post_recheck.specs.table_covers.Solutions.{NodeTable}
 use Rattle.post_recheck.specs.program_equations.Programs.{ProgramBodies}
-use Rattle.program_reports.specs.Reports.{copy_in, AreRacing}
+use Rattle.access_groups.specs.program_reports.Reports.{copy_in, AreRacing}
 use Rattle.access_groups.specs.declared.object_access.ObjectAccess.{ObjectAccess}
 use Rattle.access_groups.specs.declared.object_access.AccessGroup.{AccessGroup}
 use Rattle.access_groups.specs.Groups.{IsAccessAt}

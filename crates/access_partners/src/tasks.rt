@@ -6,7 +6,7 @@ ghost use Rattle.post_recheck.specs.body_systems.Systems.{body_of};
 ghost use Rattle.post_recheck.specs.program_systems.Analysable.{IsAnalysable};
 ghost use Rattle.post_recheck.specs.program_systems.ProgramFacts.{AreProgramFacts, program_with};
 ghost use Rattle.post_recheck.specs.Pairs.{FitsPair, lists_of, pair_of};
-ghost use Rattle.program_reports.specs.reading.Parts.{FitsTable};
+ghost use Rattle.access_groups.specs.program_reports.reading.Parts.{FitsTable};
 ghost use Rattle.access_groups.specs.reading.Copies.{ArePartsOf};
 ghost use Rattle.access_partners.specs.declared.site.Site.{Site as ASite};
 ghost use Rattle.access_partners.specs.reading.Sites.{IsSiteBelow, IsSiteOf, IsSiteUpTo};

@@ -6,13 +6,13 @@ use Rattle.std.proofs.lemmas.Bool.{cases_eq}
 use Rattle.tm_terms.specs.declared.places.Place.{Place}
 use Rattle.transfer_int.specs.Outcomes.{notes}
 use Rattle.interfere_set.specs.Stores.{Interferences}
-use Rattle.post_recheck.specs.transfer_rows.StateForms.{State}
-use Rattle.post_recheck.specs.edge_effects.declared.views.After.{After}
-use Rattle.post_recheck.specs.edge_effects.Effects.{IsAfter}
-use Rattle.post_recheck.specs.table_covers.Solutions.{NodeTable}
-use Rattle.post_recheck.specs.task_equations.Bodies.{Body, copy_at}
-use Rattle.post_recheck.specs.task_equations.Equations.{action_along, around_along}
-use Rattle.post_recheck.specs.program_equations.Programs.{ProgramBodies}
+use Rattle.program_reports.specs.post_recheck.transfer_rows.StateForms.{State}
+use Rattle.program_reports.specs.post_recheck.edge_effects.declared.views.After.{After}
+use Rattle.program_reports.specs.post_recheck.edge_effects.Effects.{IsAfter}
+use Rattle.program_reports.specs.post_recheck.table_covers.Solutions.{NodeTable}
+use Rattle.program_reports.specs.post_recheck.task_equations.Bodies.{Body, copy_at}
+use Rattle.program_reports.specs.post_recheck.task_equations.Equations.{action_along, around_along}
+use Rattle.program_reports.specs.post_recheck.program_equations.Programs.{ProgramBodies}
 use Rattle.access_races.proofs.Joins.{either}
 use Rattle.program_reports.specs.Reports.{place_of}
 use Rattle.program_reports.specs.reading.Found.{operation_at}

@@ -1,16 +1,17 @@
 -- The contexts that are merged are those of the tables.
-use Rattle.std.proofs.Common.{◌≡◌, ◌↔◌, ℕ, ◌<◌, refl, ap, sym, subst, ◌∙◌, true, not, List, [], ◌∷◌, length, map, get_or}
+use Rattle.std.proofs.Common.{◌≡◌, ◌↔◌, ℕ, ◌<◌, refl, ap, sym, subst, ◌∙◌, true, not, List, [], ◌∷◌, length, map}
+use Rattle.std.proofs.Common.{get_or}
 use Rattle.std.proofs.Common.{Option}
 use Rattle.std.specs.Prelude.{is_some, Contains}
 use Rattle.tm_terms.specs.declared.alarms.Alarm.{Alarm}
 use Rattle.tm_terms.specs.Alarms.{AlarmBefore, IsStrictlySorted}
 use Rattle.interfere_set.specs.pointer_dom.Values.{Values, no_value}
 use Rattle.interfere_set.specs.Stores.{Interferences}
-use Rattle.post_recheck.specs.transfer_rows.StateForms.{State}
-use Rattle.post_recheck.specs.transfer_rows.Rows.{after}
-use Rattle.post_recheck.specs.table_covers.Solutions.{NodeTable}
-use Rattle.post_recheck.specs.task_equations.Equations.{action_along, around_along}
-use Rattle.post_recheck.specs.program_equations.Programs.{ProgramBodies, body_at, IsProgram}
+use Rattle.program_reports.specs.post_recheck.transfer_rows.StateForms.{State}
+use Rattle.program_reports.specs.post_recheck.transfer_rows.Rows.{after}
+use Rattle.program_reports.specs.post_recheck.table_covers.Solutions.{NodeTable}
+use Rattle.program_reports.specs.post_recheck.task_equations.Equations.{action_along, around_along}
+use Rattle.program_reports.specs.post_recheck.program_equations.Programs.{ProgramBodies, body_at, IsProgram}
 use Rattle.program_reports.specs.Reports.{copy_in}
 use Rattle.alarm_contexts.specs.declared.alarm_context.ContextEdge.{ContextEdge}
 use Rattle.alarm_contexts.specs.declared.alarm_context.AlarmContexts.{AlarmContexts}

@@ -6,12 +6,12 @@ use Rattle.std.proofs.lemmas.List.{get_or_default}
 use Rattle.access_races.proofs.Joins.{either}
 use Rattle.interfere_set.specs.pointer_dom.Values.{IsValues, no_value}
 use Rattle.interfere_set.specs.Stores.{Interferences}
-use Rattle.post_recheck.specs.transfer_rows.StateForms.{State}
-use Rattle.post_recheck.specs.table_covers.Solutions.{NodeTable}
-use Rattle.post_recheck.specs.program_equations.Programs.{ProgramBodies, body_at, IsProgram}
-use Rattle.post_recheck.specs.program_equations.Solutions.{table_at, tables_of}
-use Rattle.post_recheck.specs.program_equations.Systems.{FitsBody}
-use Rattle.post_recheck.specs.Pairs.{FitsPair}
+use Rattle.program_reports.specs.post_recheck.transfer_rows.StateForms.{State}
+use Rattle.program_reports.specs.post_recheck.table_covers.Solutions.{NodeTable}
+use Rattle.program_reports.specs.post_recheck.program_equations.Programs.{ProgramBodies, body_at, IsProgram}
+use Rattle.program_reports.specs.post_recheck.program_equations.Solutions.{table_at, tables_of}
+use Rattle.program_reports.specs.post_recheck.program_equations.Systems.{FitsBody}
+use Rattle.program_reports.specs.post_recheck.Pairs.{FitsPair}
 use Rattle.program_reports.specs.Reports.{copy_in}
 use Rattle.alarm_contexts.specs.declared.exits.Context.{Context}
 use Rattle.alarm_contexts.specs.reading.Found.{IsContextUpTo}

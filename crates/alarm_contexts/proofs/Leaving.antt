@@ -14,14 +14,15 @@ use Rattle.interfere_set.specs.pointer_dom.Values.{Values, IsValues, no_value}
 use Rattle.interfere_set.specs.Stores.{Interferences}
 use Rattle.interfere_set.specs.laws.Joins.{none_is}
 use Rattle.cell_env.specs.tm_lattice.Tables.{IsEntry}
-use Rattle.post_recheck.specs.transfer_rows.StateForms.{Temp, State, IsTempForm, IsStateForm, temp_value, value_of}
-use Rattle.post_recheck.specs.transfer_rows.Actions.{Around, Action, gives, refines, locks, unlocks}
-use Rattle.post_recheck.specs.transfer_rows.Rows.{holds, after, after_lock, arrived, effect}
-use Rattle.post_recheck.specs.transfer_rows.Reports.{IsListed}
-use Rattle.post_recheck.specs.table_covers.Solutions.{NodeTable}
-use Rattle.post_recheck.specs.task_equations.Bodies.{Body, copy_at}
-use Rattle.post_recheck.specs.task_equations.Equations.{action_along, around_along}
-use Rattle.post_recheck.specs.program_equations.Programs.{ProgramBodies, body_at, IsProgram}
+use Rattle.program_reports.specs.post_recheck.transfer_rows.StateForms.{Temp, State, IsTempForm, IsStateForm}
+use Rattle.program_reports.specs.post_recheck.transfer_rows.StateForms.{temp_value, value_of}
+use Rattle.program_reports.specs.post_recheck.transfer_rows.Actions.{Around, Action, gives, refines, locks, unlocks}
+use Rattle.program_reports.specs.post_recheck.transfer_rows.Rows.{holds, after, after_lock, arrived, effect}
+use Rattle.program_reports.specs.post_recheck.transfer_rows.Reports.{IsListed}
+use Rattle.program_reports.specs.post_recheck.table_covers.Solutions.{NodeTable}
+use Rattle.program_reports.specs.post_recheck.task_equations.Bodies.{Body, copy_at}
+use Rattle.program_reports.specs.post_recheck.task_equations.Equations.{action_along, around_along}
+use Rattle.program_reports.specs.post_recheck.program_equations.Programs.{ProgramBodies, body_at, IsProgram}
 use Rattle.program_reports.specs.Reports.{copy_in, operation_in}
 use Rattle.program_reports.specs.reading.Found.{operation_at}
 use Rattle.alarm_contexts.specs.declared.exits.Exit.{Exit}

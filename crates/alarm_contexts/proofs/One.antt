@@ -12,14 +12,16 @@ use Rattle.tm_terms.specs.declared.places.Place.{Place}
 use Rattle.tm_terms.specs.Alarms.{AlarmBefore, IsStrictlySorted}
 use Rattle.interfere_set.specs.strided_dom.Progression.{single}
 use Rattle.interfere_set.specs.pointer_dom.Values.{no_value}
-use Rattle.post_recheck.specs.transfer_rows.StateForms.{State, value_of}
-use Rattle.post_recheck.specs.transfer_rows.Actions.{Around, Action, Calculation, negated, operated, element, moved}
-use Rattle.post_recheck.specs.transfer_rows.Actions.{dereferenced, usable, gives, refines, locks, unlocks}
-use Rattle.post_recheck.specs.transfer_rows.Reports.{IsListed, CalculationMayFail}
-use Rattle.post_recheck.specs.transfer_rows.operator_values.Classes.{may_fail_is}
-use Rattle.post_recheck.specs.task_equations.Equations.{action_along, around_along}
-use Rattle.post_recheck.specs.table_covers.Solutions.{NodeTable}
-use Rattle.post_recheck.specs.program_equations.Programs.{ProgramBodies, body_at}
+use Rattle.program_reports.specs.post_recheck.transfer_rows.StateForms.{State, value_of}
+use Rattle.program_reports.specs.post_recheck.transfer_rows.Actions.{Around, Action, Calculation, negated, operated}
+use Rattle.program_reports.specs.post_recheck.transfer_rows.Actions.{element, moved}
+use Rattle.program_reports.specs.post_recheck.transfer_rows.Actions.{dereferenced, usable, gives, refines, locks}
+use Rattle.program_reports.specs.post_recheck.transfer_rows.Actions.{unlocks}
+use Rattle.program_reports.specs.post_recheck.transfer_rows.Reports.{IsListed, CalculationMayFail}
+use Rattle.program_reports.specs.post_recheck.transfer_rows.operator_values.Classes.{may_fail_is}
+use Rattle.program_reports.specs.post_recheck.task_equations.Equations.{action_along, around_along}
+use Rattle.program_reports.specs.post_recheck.table_covers.Solutions.{NodeTable}
+use Rattle.program_reports.specs.post_recheck.program_equations.Programs.{ProgramBodies, body_at}
 use Rattle.access_races.proofs.Joins.{either}
 use Rattle.program_reports.specs.Reports.{IsAlarm, IsReport, copy_in}
 use Rattle.program_reports.specs.Reports.IsAlarm.{faulty, racing}

@@ -6,8 +6,8 @@ use Rattle.pointer_dom.specs.Values.{Values, no_value}
 use Rattle.tm_laid.specs.Layouts.{LaidTree}
 use Rattle.flow_graph.specs.declared.operations.Operation.{Operation}
 use Rattle.flow_graph.specs.declared.operations.Operation.TheVariants as Op
-use Rattle.post_recheck.specs.program_equations.Readings.{read_layout}
-use Rattle.post_recheck.specs.program_equations.laws.ReadAlike.{alive_read, stands_read}
+use Rattle.program_reports.specs.post_recheck.program_equations.Readings.{read_layout}
+use Rattle.program_reports.specs.post_recheck.program_equations.laws.ReadAlike.{alive_read, stands_read}
 use Rattle.alarm_contexts.specs.declared.flaws.ObjectFlaw.{ObjectFlaw}
 use Rattle.alarm_contexts.specs.Flaws.{IsWrongToFollow, IsWrong, HasFlaw}
 

@@ -16,12 +16,12 @@ use Rattle.tm_terms.specs.Alarms.{IsStrictlySorted}
 use Rattle.flow_graph.specs.Operations.{used}
 use Rattle.interfere_set.specs.pointer_dom.Values.{Values, no_value}
 use Rattle.interfere_set.specs.Stores.{Interferences}
-use Rattle.post_recheck.specs.transfer_rows.StateForms.{State, value_of}
-use Rattle.post_recheck.specs.transfer_rows.Rows.{after}
-use Rattle.post_recheck.specs.transfer_rows.Reports.{IsListed}
-use Rattle.post_recheck.specs.table_covers.Solutions.{NodeTable}
-use Rattle.post_recheck.specs.task_equations.Equations.{action_along, around_along}
-use Rattle.post_recheck.specs.program_equations.Programs.{ProgramBodies, body_at}
+use Rattle.program_reports.specs.post_recheck.transfer_rows.StateForms.{State, value_of}
+use Rattle.program_reports.specs.post_recheck.transfer_rows.Rows.{after}
+use Rattle.program_reports.specs.post_recheck.transfer_rows.Reports.{IsListed}
+use Rattle.program_reports.specs.post_recheck.table_covers.Solutions.{NodeTable}
+use Rattle.program_reports.specs.post_recheck.task_equations.Equations.{action_along, around_along}
+use Rattle.program_reports.specs.post_recheck.program_equations.Programs.{ProgramBodies, body_at}
 use Rattle.program_reports.specs.Reports.{place_of, copy_in, operation_in, IsReachedIn}
 use Rattle.alarm_contexts.specs.declared.alarm_context.ContextEdge.{ContextEdge}
 use Rattle.alarm_contexts.specs.declared.alarm_context.AlarmContexts.{AlarmContexts}

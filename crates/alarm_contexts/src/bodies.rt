@@ -1,11 +1,11 @@
 //! The contexts of bodies.
 ghost use Rattle.std.specs.Prelude.{◌<◌, ◌⊎◌, ◌↔◌, length, Contains, IfOk, OnOk};
-ghost use Rattle.post_recheck.specs.table_covers.Solutions.{at};
-ghost use Rattle.post_recheck.specs.program_equations.Solutions.{tables_of};
-ghost use Rattle.post_recheck.specs.body_systems.Systems.{body_of};
-ghost use Rattle.post_recheck.specs.program_systems.Analysable.{IsAnalysable};
-ghost use Rattle.post_recheck.specs.program_systems.ProgramFacts.{AreProgramFacts, program_with};
-ghost use Rattle.post_recheck.specs.Pairs.{FitsPair, lists_of, pair_of};
+ghost use Rattle.program_reports.specs.post_recheck.table_covers.Solutions.{at};
+ghost use Rattle.program_reports.specs.post_recheck.program_equations.Solutions.{tables_of};
+ghost use Rattle.program_reports.specs.post_recheck.body_systems.Systems.{body_of};
+ghost use Rattle.program_reports.specs.post_recheck.program_systems.Analysable.{IsAnalysable};
+ghost use Rattle.program_reports.specs.post_recheck.program_systems.ProgramFacts.{AreProgramFacts, program_with};
+ghost use Rattle.program_reports.specs.post_recheck.Pairs.{FitsPair, lists_of, pair_of};
 ghost use Rattle.program_reports.specs.reading.Parts.{ArePartsOf, FitsTable};
 ghost use Rattle.alarm_contexts.specs.declared.exits.Context.{Context as AContext};
 ghost use Rattle.alarm_contexts.specs.reading.Found.{IsContextBelow, IsContextIn, IsContextUpTo};
@@ -14,8 +14,7 @@ use crate::copies::add_copy;
 use crate::exits::Context;
 use interfere_set::Store;
 use mutex_configs::Program;
-use post_recheck::{BodyState, ProgramFacts, Table, body_over_store};
-use program_reports::BodyParts;
+use program_reports::{BodyParts, BodyState, ProgramFacts, Table, body_over_store};
 use std::alloc::Global;
 use tm_lattice::NoMemory;
 

@@ -1,9 +1,9 @@
 //! The contexts of a copy of an edge.
 ghost use Rattle.std.specs.Prelude.{◌≡◌, ◌<◌, ◌⊎◌, ◌↔◌, length, Contains, OnOk, IsTrue};
 ghost use Rattle.transfer_int.specs.Outcomes.{notes};
-ghost use Rattle.post_recheck.specs.task_equations.Bodies.{copy_at};
-ghost use Rattle.post_recheck.specs.program_equations.Systems.{FitsBody};
-ghost use Rattle.post_recheck.specs.body_systems.Systems.{body_of};
+ghost use Rattle.program_reports.specs.post_recheck.task_equations.Bodies.{copy_at};
+ghost use Rattle.program_reports.specs.post_recheck.program_equations.Systems.{FitsBody};
+ghost use Rattle.program_reports.specs.post_recheck.body_systems.Systems.{body_of};
 ghost use Rattle.program_reports.specs.reading.Found.{operation_at};
 ghost use Rattle.program_reports.specs.reading.Parts.{ArePartsOf};
 ghost use Rattle.alarm_contexts.specs.declared.exits.Context.{Context as AContext};

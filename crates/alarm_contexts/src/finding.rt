@@ -1,9 +1,9 @@
 //! The alarms of a program's tables with their contexts.
 ghost use Rattle.std.specs.Prelude.{IfOk};
-ghost use Rattle.post_recheck.specs.program_equations.Solutions.{tables_of};
-ghost use Rattle.post_recheck.specs.program_systems.Analysable.{IsAnalysable};
-ghost use Rattle.post_recheck.specs.program_systems.ProgramFacts.{AreProgramFacts, program_with};
-ghost use Rattle.post_recheck.specs.Pairs.{FitsPair, lists_of, pair_of};
+ghost use Rattle.program_reports.specs.post_recheck.program_equations.Solutions.{tables_of};
+ghost use Rattle.program_reports.specs.post_recheck.program_systems.Analysable.{IsAnalysable};
+ghost use Rattle.program_reports.specs.post_recheck.program_systems.ProgramFacts.{AreProgramFacts, program_with};
+ghost use Rattle.program_reports.specs.post_recheck.Pairs.{FitsPair, lists_of, pair_of};
 ghost use Rattle.alarm_contexts.specs.Contexts.{AreContexts};
 
 use crate::alarm_context::AlarmContexts;
@@ -11,7 +11,7 @@ use crate::bodies::contexts_in;
 use crate::merging::merged;
 use interfere_set::Store;
 use mutex_configs::Program;
-use post_recheck::{ProgramFacts, Table};
+use program_reports::{ProgramFacts, Table};
 use std::alloc::Global;
 use tm_lattice::NoMemory;
 

@@ -1,9 +1,9 @@
 //! Contexts of one alarm as one.
 ghost use Rattle.std.specs.Prelude.{◌≡◌, ◌↔◌, ◌++◌, length, Contains, IfOk, OnOk, IsTrue};
-ghost use Rattle.post_recheck.specs.program_equations.Solutions.{tables_of};
-ghost use Rattle.post_recheck.specs.program_systems.Analysable.{IsAnalysable};
-ghost use Rattle.post_recheck.specs.program_systems.ProgramFacts.{AreProgramFacts, program_with};
-ghost use Rattle.post_recheck.specs.Pairs.{FitsPair, lists_of, pair_of};
+ghost use Rattle.program_reports.specs.post_recheck.program_equations.Solutions.{tables_of};
+ghost use Rattle.program_reports.specs.post_recheck.program_systems.Analysable.{IsAnalysable};
+ghost use Rattle.program_reports.specs.post_recheck.program_systems.ProgramFacts.{AreProgramFacts, program_with};
+ghost use Rattle.program_reports.specs.post_recheck.Pairs.{FitsPair, lists_of, pair_of};
 ghost use Rattle.alarm_contexts.specs.declared.exits.Context.{Context as AContext};
 ghost use Rattle.alarm_contexts.specs.Contexts.{alarm_of};
 ghost use Rattle.alarm_contexts.specs.reading.Found.{IsContextUpTo};
@@ -17,7 +17,7 @@ use crate::flaws::ObjectFlaw;
 use crate::operands::{Used, joined_operands, used_of};
 use interfere_set::Store;
 use mutex_configs::Program;
-use post_recheck::{ProgramFacts, Table};
+use program_reports::{ProgramFacts, Table};
 use std::alloc::Global;
 use tm_lattice::NoMemory;
 use tm_terms::Alarm;

@@ -8,17 +8,17 @@ use Rattle.tm_laid.specs.declared.layouts.Laid.{Laid}
 use Rattle.tm_laid.specs.Layouts.{laid_tree}
 use Rattle.flow_graph.specs.declared.operations.Operation.{Operation}
 use Rattle.interfere_set.specs.Stores.{reader_of}
-use Rattle.edge_actions.specs.transfer_rows.StateForms.{State}
-use Rattle.edge_actions.specs.transfer_rows.Actions.{Action, Around}
-use Rattle.edge_actions.specs.transfer_rows.Accesses.{is_among}
-use Rattle.edge_actions.specs.transfer_rows.Rows.{after}
-use Rattle.edge_actions.specs.transfer_rows.Contributions.{added}
+use Rattle.transfer_mem.specs.edge_actions.transfer_rows.StateForms.{State}
+use Rattle.transfer_mem.specs.edge_actions.transfer_rows.Actions.{Action, Around}
+use Rattle.transfer_mem.specs.edge_actions.transfer_rows.Accesses.{is_among}
+use Rattle.transfer_mem.specs.edge_actions.transfer_rows.Rows.{after}
+use Rattle.transfer_mem.specs.edge_actions.transfer_rows.Contributions.{added}
 use Rattle.transfer_mem.specs.Applicable.{IsOperable, IsApplicable}
-use Rattle.edge_actions.specs.Layouts.{is_shared_cell, is_smashed_cell}
-use Rattle.edge_actions.specs.Edges.{action_of, action_at, around_of}
-use Rattle.edge_actions.specs.declared.views.EdgeView.{EdgeView}
-use Rattle.edge_effects.specs.declared.views.After.{After}
-use Rattle.edge_effects.specs.Effects.{IsAfter}
+use Rattle.transfer_mem.specs.edge_actions.Layouts.{is_shared_cell, is_smashed_cell}
+use Rattle.transfer_mem.specs.edge_actions.Edges.{action_of, action_at, around_of}
+use Rattle.transfer_mem.specs.edge_actions.declared.views.EdgeView.{EdgeView}
+use Rattle.transfer_mem.specs.edge_effects.declared.views.After.{After}
+use Rattle.transfer_mem.specs.edge_effects.Effects.{IsAfter}
 use Rattle.mutex_configs.specs.declared.nodes.EdgeCopy.{EdgeCopy}
 use Rattle.table_covers.specs.declared.links.Link.{Link}
 use Rattle.table_covers.specs.Systems.{no_link, from_of}

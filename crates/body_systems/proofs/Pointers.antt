@@ -4,7 +4,7 @@ use Rattle.std.proofs.Common.{◌≤◌, length, get_or, arith}
 use Rattle.std.specs.Prelude.{◌||◌}
 use Rattle.std.proofs.lemmas.Bool.{ne_eqb, eq-eqb}
 use Rattle.std.proofs.lemmas.List.{get_or_default, get_or_past}
-use Rattle.edge_actions.specs.transfer_rows.Accesses.{is_among}
+use Rattle.transfer_mem.specs.edge_actions.transfer_rows.Accesses.{is_among}
 use Rattle.program_equations.specs.Programs.{marked_from}
 
 -- no number before the first is marked

@@ -1,2 +1,5 @@
 -- The crates below, passed on to those above.
+pub mod edge_actions
 pub mod task_equations
+pub mod transfer_int
+pub mod transfer_rows

@@ -9,6 +9,8 @@ pub use Rattle.task_equations.specs.state_fits
 pub use Rattle.task_equations.specs as task_equations
 pub use Rattle.temporary_types.specs as temporary_types
 pub use Rattle.task_equations.specs.typed_values
+pub use Rattle.transfer_mem.specs.edge_effects
+pub use Rattle.transfer_mem.specs.edge_actions
 pub mod Facts
 pub mod Systems
 pub mod Views

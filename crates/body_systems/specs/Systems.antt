@@ -8,7 +8,7 @@ use Rattle.tm_laid.specs.Layable.{IsLayable}
 use Rattle.flow_graph.specs.declared.graphs.Graph.{Graph}
 use Rattle.mutex_configs.specs.declared.nodes.ConfiguredGraph.{ConfiguredGraph}
 use Rattle.interfere_set.specs.Stores.{Interferences}
-use Rattle.edge_actions.specs.transfer_rows.StateForms.{State}
+use Rattle.transfer_mem.specs.edge_actions.transfer_rows.StateForms.{State}
 use Rattle.temporary_types.specs.Sorts.{Sort}
 use Rattle.task_equations.specs.temporary_extents.Extents.{extents_in}
 use Rattle.task_equations.specs.state_fits.Fits.{FitsStore, FitsTemp}

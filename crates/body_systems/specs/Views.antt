@@ -1,6 +1,6 @@
 -- The view of a copy of an edge.
 use Rattle.std.specs.Prelude.{◌≡◌}
-use Rattle.edge_actions.specs.declared.views.EdgeView.{EdgeView}
+use Rattle.transfer_mem.specs.edge_actions.declared.views.EdgeView.{EdgeView}
 use Rattle.mutex_configs.specs.declared.nodes.EdgeCopy.{EdgeCopy}
 use Rattle.task_equations.specs.Bodies.{edge_of, node_at, live_at}
 use Rattle.task_equations.specs.Equations.{tests_pointer}

@@ -4,7 +4,7 @@ ghost use Rattle.graph_facts.specs.declared.regions.Head.{Head as AHead};
 ghost use Rattle.tm_laid.specs.Layouts.{laid_tree};
 ghost use Rattle.graph_facts.specs.Lists.{numbers};
 ghost use Rattle.graph_facts.specs.Edges.{AreInRange};
-ghost use Rattle.edge_actions.specs.transfer_rows.Accesses.{is_among};
+ghost use Rattle.transfer_mem.specs.edge_actions.transfer_rows.Accesses.{is_among};
 ghost use Rattle.task_equations.specs.Equations.{link_of, tests_pointer, cells_rounded};
 ghost use Rattle.body_systems.specs.Facts.{pointers_of, AreFactsOf};
 ghost use Rattle.body_systems.specs.reading.Indices.{index_at, index_from};

@@ -17,7 +17,7 @@ pub struct BodyState {
 impl Model for BodyState {
     ghost use Rattle.pointer_dom.specs.laws.Codes.{values_code};
     ghost use Rattle.cell_env.specs.laws.Codes.{state_code};
-    ghost use Rattle.edge_actions.specs.transfer_rows.StateForms.{State};
+    ghost use Rattle.transfer_mem.specs.edge_actions.transfer_rows.StateForms.{State};
 
     ghost Value = { State };
 
@@ -46,7 +46,7 @@ impl Lattice for BodyState {
     ghost use Rattle.std.specs.Prelude.{ℤ, List};
     ghost use Rattle.pointer_dom.specs.Values.{joined_values, rounded_values};
     ghost use Rattle.cell_env.specs.States.{joined_state, rounded_state};
-    ghost use Rattle.edge_actions.specs.transfer_rows.StateForms.{IsStateForm, IsStateUnder};
+    ghost use Rattle.transfer_mem.specs.edge_actions.transfer_rows.StateForms.{IsStateForm, IsStateUnder};
     ghost use Rattle.task_equations.specs.state_fits.laws.PlacesFit.{states_order, states_join};
     ghost use Rattle.body_systems.specs.laws.States.{states_closure, states_nothing};
 

@@ -1,7 +1,7 @@
 //! The equations of a body over a store.
 ghost use Rattle.std.specs.Prelude.{◌≡◌, ◌<◌, length, option_map, IfOk};
-ghost use Rattle.edge_actions.specs.Edges.{action_at, around_of};
-ghost use Rattle.edge_effects.specs.Effects.{IsAfter};
+ghost use Rattle.transfer_mem.specs.edge_actions.Edges.{action_at, around_of};
+ghost use Rattle.transfer_mem.specs.edge_effects.Effects.{IsAfter};
 ghost use Rattle.task_equations.specs.Bodies.{copy_at};
 ghost use Rattle.task_equations.specs.Equations.{cells_at, around_along, action_along};
 ghost use Rattle.task_equations.specs.Premises.{IsCopyOf};
@@ -12,8 +12,6 @@ ghost use Rattle.body_systems.specs.Views.{IsViewOf};
 use crate::facts::BodyFacts;
 use crate::states::BodyState;
 use cell_env::State;
-use edge_actions::EdgeView;
-use edge_effects::After;
 use flow_graph::Graph;
 use interfere_set::Store;
 use mutex_configs::{ConfiguredGraph, EdgeCopy};
@@ -24,7 +22,7 @@ use strided_dom::Marks;
 use table_covers::{Contributions, Equations, Link};
 use tm_laid::Laid;
 use tm_lattice::{Lattice, NoMemory};
-use transfer_mem::apply;
+use transfer_mem::{After, EdgeView, apply};
 
 /// A body with all that its equations read: the layout, its number, the priorities, the thresholds, its graph, its
 /// configured graph and their facts, the state in which it begins, and the store. They keep what the equations ask.

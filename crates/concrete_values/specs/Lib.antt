@@ -5,6 +5,7 @@ pub use Rattle.tm_laid.specs as tm_laid
 pub use Rattle.tm_laid.specs.tm_terms
 pub use Rattle.tm_laid.specs.tm_trees
 pub use Rattle.tm_laid.specs.tm_typed
+pub use Rattle.tm_cint.specs as tm_cint
 pub mod Values
 pub mod Operators
 pub mod Pointers

@@ -14,6 +14,7 @@ mod values;
 pub use actions::{Next, answer_of, clear_at, is_of, load_at, store_at};
 pub use operators::{binary, converted, is_case, unary};
 pub use pointers::{base, compared, element, moved, part, size_of, usable};
+pub use tm_cint::{BinOp, IntType};
 pub use tm_laid::{Place, Scalar, Unary};
 pub use values::{
     Answer, Pointer, Value, is_true, nothing, number_in, number_of, pointer_of, truth_value,

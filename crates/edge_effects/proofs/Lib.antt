@@ -1,3 +1,4 @@
 pub mod Common
 pub mod Effects
 pub mod LiveTemps
+pub mod low

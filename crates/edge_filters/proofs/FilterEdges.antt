@@ -2,13 +2,13 @@
 use Rattle.std.specs.Prelude.{◌≡◌, ◌↔◌, IsTrue, []}
 use Rattle.std.specs.Option.{option_map}
 use Rattle.tm_cint.specs.declared.Class.{Class}
-use Rattle.calculations.specs.interfere_set.Stores.{Interferences, no_interference}
+use Rattle.edge_effects.specs.calculations.interfere_set.Stores.{Interferences, no_interference}
 use Rattle.transfer_int.specs.Outcomes.{notes}
-use Rattle.calculations.specs.transfer_rows.StateForms.{State}
-use Rattle.calculations.specs.transfer_rows.Actions.{Around, Filter, refines}
-use Rattle.calculations.specs.transfer_rows.Rows.{after_filter, arrived, effect}
-use Rattle.calculations.specs.transfer_rows.Contributions.{added}
-use Rattle.calculations.specs.transfer_rows.Reports.{targets_of, FilterMayFail, IsListed}
+use Rattle.edge_effects.specs.calculations.transfer_rows.StateForms.{State}
+use Rattle.edge_effects.specs.calculations.transfer_rows.Actions.{Around, Filter, refines}
+use Rattle.edge_effects.specs.calculations.transfer_rows.Rows.{after_filter, arrived, effect}
+use Rattle.edge_effects.specs.calculations.transfer_rows.Contributions.{added}
+use Rattle.edge_effects.specs.calculations.transfer_rows.Reports.{targets_of, FilterMayFail, IsListed}
 use Rattle.edge_effects.specs.Effects.{IsAfter}
 use Rattle.edge_effects.specs.declared.views.After.{After}
 

@@ -1,5 +1,6 @@
 -- Cells that are met with what is left of a copy.
-use Rattle.std.specs.Prelude.{◌≡◌, ◌≢◌, ℕ, ◌≤◌, min, Bool, true, false, ◌&&◌, cond, eqb, IsTrue, Option, Some, None, refl}
+use Rattle.std.specs.Prelude.{◌≡◌, ◌≢◌, ℕ, ◌≤◌, min, Bool, true, false, ◌&&◌, cond, eqb, IsTrue, Option, Some, None}
+use Rattle.std.specs.Prelude.{refl}
 use Rattle.std.proofs.Common.{sym, ap, ◌∙◌, inl, inr, arith}
 use Rattle.std.proofs.lemmas.Bool.{cases_eq, eq-eqb, ne_eqb}
 use Rattle.std.specs.FinMap.{get, insert}
@@ -12,10 +13,10 @@ use Rattle.tm_lattice.specs.laws.SelectedLaws.{changed_at, get-changed_table}
 use Rattle.pointer_dom.specs.OffsetSets.{OffsetSet, IsOffsetSet, HasNoOffset, IsOffsetsBelow}
 use Rattle.pointer_dom.specs.PointerSets.{Pointers, IsMeet, IsMeetAt}
 use Rattle.pointer_dom.specs.Values.{Values, IsValues, IsValuesBelow, IsValuesMeet}
-use Rattle.calculations.specs.operator_values.MetValues.{met_values}
-use Rattle.calculations.proofs.low.operator_values.OneAnswer.{one_meet}
-use Rattle.calculations.specs.transfer_rows.StateForms.{Cell}
-use Rattle.calculations.specs.transfer_rows.Rows.{met_where}
+use Rattle.edge_effects.specs.calculations.operator_values.MetValues.{met_values}
+use Rattle.edge_effects.proofs.low.operator_values.OneAnswer.{one_meet}
+use Rattle.edge_effects.specs.calculations.transfer_rows.StateForms.{Cell}
+use Rattle.edge_effects.specs.calculations.transfer_rows.Rows.{met_where}
 
 -- ---- a value that has only what is left is what both have
 

@@ -4,11 +4,12 @@ use Rattle.std.proofs.Common.{sym, ap, ◌∙◌}
 use Rattle.std.specs.FinMap.{get, insert}
 use Rattle.tm_lattice.specs.Tables.{Table, changed_table}
 use Rattle.pointer_dom.specs.Values.{Values, no_value}
-use Rattle.calculations.specs.transfer_rows.StateForms.{Temp, Cell, State, is_no_value}
-use Rattle.calculations.specs.transfer_rows.Actions.{Around, Side, fixed}
-use Rattle.calculations.specs.transfer_rows.Rows.{met_where, refined, is_contradicted, refined_from, after_refined}
-use Rattle.calculations.specs.transfer_rows.Rows.{side_refined, then_refined}
-use Rattle.calculations.proofs.low.transfer_rows.Steps.{none_is_none}
+use Rattle.edge_effects.specs.calculations.transfer_rows.StateForms.{Temp, Cell, State, is_no_value}
+use Rattle.edge_effects.specs.calculations.transfer_rows.Actions.{Around, Side, fixed}
+use Rattle.edge_effects.specs.calculations.transfer_rows.Rows.{met_where, refined, is_contradicted, refined_from}
+use Rattle.edge_effects.specs.calculations.transfer_rows.Rows.{after_refined}
+use Rattle.edge_effects.specs.calculations.transfer_rows.Rows.{side_refined, then_refined}
+use Rattle.edge_effects.proofs.low.transfer_rows.Steps.{none_is_none}
 
 pub refined_so : (s : State) (t : ℕ) (v : Values) (copy : Option ℕ) (temps : Table Temp) (cells : Table Cell)
     → temps ≡ insert s.temps t record { value = v; copy = copy } → cells ≡ changed_table (met_where copy v) s.cells

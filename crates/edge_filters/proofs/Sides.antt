@@ -8,21 +8,21 @@ use Rattle.tm_cint.specs.declared.operators.BinOp.{BinOp}
 use Rattle.tm_cint.specs.declared.operators.BinOp.TheVariants.{Eq, Ne}
 use Rattle.pointer_dom.specs.PointerSets.{Pointers}
 use Rattle.pointer_dom.specs.Values.{Values}
-use Rattle.calculations.specs.operator_values.Integers.{left_assumed, right_assumed}
-use Rattle.calculations.specs.operator_values.SetsOfPointers.{left_pointers, right_pointers}
+use Rattle.edge_effects.specs.calculations.operator_values.Integers.{left_assumed, right_assumed}
+use Rattle.edge_effects.specs.calculations.operator_values.SetsOfPointers.{left_pointers, right_pointers}
 use Rattle.transfer_int.specs.Outcomes.{notes}
 use Rattle.transfer_int.specs.declared.outcomes.Classes.{Classes}
-use Rattle.calculations.specs.Given.{no_class}
-use Rattle.calculations.proofs.Calculating.{nothing_noted}
+use Rattle.edge_effects.specs.calculations.Given.{no_class}
+use Rattle.edge_effects.proofs.low.calculations.Calculating.{nothing_noted}
 use Rattle.flow_graph.specs.declared.operations.Test.{Test}
 use Rattle.flow_graph.specs.declared.operations.Test.TheVariants.{Numbers, Pointers as Addresses, Truth}
 use Rattle.flow_graph.specs.declared.operations.Test.TheVariants.{Case}
-use Rattle.calculations.specs.transfer_rows.StateForms.{State, only_numbers, only_pointers}
-use Rattle.calculations.specs.transfer_rows.Actions.{Around, Side, numbers_compare, pointers_compare}
-use Rattle.calculations.specs.transfer_rows.Calculations.{side_value}
-use Rattle.calculations.specs.transfer_rows.Rows.{side_refined, then_refined, after_filter}
-use Rattle.calculations.specs.transfer_rows.Reports.{FilterMayFail}
-use Rattle.edge_actions.specs.Edges.{filter_of}
+use Rattle.edge_effects.specs.calculations.transfer_rows.StateForms.{State, only_numbers, only_pointers}
+use Rattle.edge_effects.specs.calculations.transfer_rows.Actions.{Around, Side, numbers_compare, pointers_compare}
+use Rattle.edge_effects.specs.calculations.transfer_rows.Calculations.{side_value}
+use Rattle.edge_effects.specs.calculations.transfer_rows.Rows.{side_refined, then_refined, after_filter}
+use Rattle.edge_effects.specs.calculations.transfer_rows.Reports.{FilterMayFail}
+use Rattle.edge_effects.specs.edge_actions.Edges.{filter_of}
 use Rattle.edge_filters.proofs.Refined.{two_sides}
 
 pub zero_in_reach : IsInReach (pos 0)

@@ -2,20 +2,21 @@
 ghost use Rattle.std.specs.Prelude.{◌≡◌, IfOk, cond};
 ghost use Rattle.strided_dom.specs.Progression.{single, IsInReach};
 ghost use Rattle.tm_cint.specs.Operators.{IsComparison};
-ghost use Rattle.calculations.specs.interfere_set.Stores.{Interferences};
-ghost use Rattle.calculations.specs.transfer_rows.StateForms.{only_numbers, only_pointers};
-ghost use Rattle.calculations.specs.transfer_rows.Actions.{temporary, fixed, numbers_compare, pointers_compare, usable};
-ghost use Rattle.calculations.specs.transfer_rows.Actions.{refines};
-ghost use Rattle.calculations.specs.transfer_rows.Rows.{after_filter};
-ghost use Rattle.edge_actions.specs.Edges.{around_of, filter_of, only_null};
+ghost use Rattle.edge_effects.specs.calculations.interfere_set.Stores.{Interferences};
+ghost use Rattle.edge_effects.specs.calculations.transfer_rows.StateForms.{only_numbers, only_pointers};
+ghost use Rattle.edge_effects.specs.calculations.transfer_rows.Actions.{temporary, fixed, numbers_compare};
+ghost use Rattle.edge_effects.specs.calculations.transfer_rows.Actions.{pointers_compare, usable};
+ghost use Rattle.edge_effects.specs.calculations.transfer_rows.Actions.{refines};
+ghost use Rattle.edge_effects.specs.calculations.transfer_rows.Rows.{after_filter};
+ghost use Rattle.edge_effects.specs.edge_actions.Edges.{around_of, filter_of, only_null};
 ghost use Rattle.edge_effects.specs.Effects.{IsAfter};
 ghost use Rattle.edge_filters.specs.Tests.{IsTestable};
 
 use crate::refining::{after_refined, arrived_where, both_refined, one_refined};
-use calculations::{no_classes, numbers_assumed, numbers_of, pointers_assumed, pointers_of};
 use cell_env::State;
-use edge_actions::EdgeView;
-use edge_effects::{After, plain};
+use edge_effects::{
+    After, EdgeView, no_classes, numbers_assumed, numbers_of, plain, pointers_assumed, pointers_of,
+};
 use flow_graph::Test;
 use pointer_dom::{AbsValue, PointerSet};
 use std::alloc::Global;
@@ -201,7 +202,7 @@ pub fn usable(
     ensures { IfOk result (λ after. (store : Interferences)
         → IsAfter (around_of view.now) (refines (usable pointer)) state.now store after) }
 {
-    let (left, invalid) = calculations::usable(alloc, state, pointer)?;
+    let (left, invalid) = edge_effects::usable(alloc, state, pointer)?;
     let through = after_refined(alloc, view, state, pointer, left)?;
     let arrived = arrived_where(alloc, view, through)?;
     let classes = Classes {

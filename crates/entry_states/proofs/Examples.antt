@@ -16,8 +16,8 @@ use Rattle.mutex_configs.specs.declared.nodes.ConfiguredNode.{ConfiguredNode}
 use Rattle.pointer_dom.specs.PointerSets.{pointer_to}
 use Rattle.pointer_dom.specs.Values.{Values, no_value, joined_values}
 use Rattle.cell_env.specs.States.{joined_state}
-use Rattle.edge_actions.specs.transfer_rows.StateForms.{Cell, State, only_numbers, only_pointers}
-use Rattle.edge_actions.specs.Layouts.{open_value}
+use Rattle.body_systems.specs.edge_actions.transfer_rows.StateForms.{Cell, State, only_numbers, only_pointers}
+use Rattle.body_systems.specs.edge_actions.Layouts.{open_value}
 use Rattle.body_systems.specs.table_covers.Solutions.{at}
 use Rattle.body_systems.specs.program_equations.Entries.{initial_of, first_state, later_state, ended_in}
 

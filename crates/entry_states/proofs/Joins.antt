@@ -10,9 +10,9 @@ use Rattle.tm_laid.specs.tm_typed.declared.types.Scalar.TheVariants as Scalars
 use Rattle.tm_laid.specs.declared.objects.Initial.{Initial}
 use Rattle.tm_laid.specs.declared.objects.Initial.TheVariants as Initials
 use Rattle.tm_laid.specs.Layouts.{LaidTree, abstract_at, cell_at}
-use Rattle.edge_actions.proofs.low.transfer_int.BitSets.{value_reaches}
+use Rattle.body_systems.proofs.low.transfer_int.BitSets.{value_reaches}
 use Rattle.pointer_dom.specs.Values.{Values, no_value, joined_values}
-use Rattle.edge_actions.specs.transfer_rows.StateForms.{only_numbers}
+use Rattle.body_systems.specs.edge_actions.transfer_rows.StateForms.{only_numbers}
 use Rattle.body_systems.specs.typed_values.Types.{IsOfType}
 use Rattle.body_systems.specs.program_equations.Entries.{initial_value, initial_or_none, initial_at, initial_below}
 use Rattle.entry_states.specs.Beginnings.{BeginsInTypes, AreInitialValues}

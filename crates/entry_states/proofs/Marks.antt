@@ -9,7 +9,7 @@ use Rattle.flow_graph.specs.Graphs.{Edges}
 use Rattle.tm_lattice.specs.Tables.{joined_at}
 use Rattle.pointer_dom.specs.Values.{joined_values}
 use Rattle.cell_env.specs.States.{joined_state}
-use Rattle.edge_actions.specs.transfer_rows.StateForms.{State}
+use Rattle.body_systems.specs.edge_actions.transfer_rows.StateForms.{State}
 use Rattle.body_systems.specs.table_covers.Solutions.{NodeTable}
 use Rattle.mutex_configs.specs.declared.nodes.ConfiguredNode.{ConfiguredNode}
 use Rattle.mutex_configs.specs.Nodes.{entry_node}

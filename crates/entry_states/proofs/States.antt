@@ -1,5 +1,6 @@
 -- States at entries, cell by cell.
-use Rattle.std.proofs.Common.{◌≡◌, ◌∙◌, ℕ, zero, suc, ◌+◌, ◌<◌, ◌≤◌, true, false, cond, slice_get, List, length, get_or, refl, ap, sym, subst, arith}
+use Rattle.std.proofs.Common.{◌≡◌, ◌∙◌, ℕ, zero, suc, ◌+◌, ◌<◌, ◌≤◌, true, false, cond, slice_get, List, length, get_or}
+use Rattle.std.proofs.Common.{refl, ap, sym, subst, arith}
 use Rattle.std.proofs.lemmas.List.{get_or_read}
 use Rattle.std.proofs.lemmas.Bool.{cond-true, cond-false}
 use Rattle.std.proofs.lemmas.Option.{slice_get-get_or}
@@ -8,8 +9,8 @@ use Rattle.tm_lattice.specs.Tables.{Table}
 use Rattle.tm_laid.specs.declared.cells.AbstractCell.{AbstractCell}
 use Rattle.tm_laid.specs.Layouts.{LaidTree, abstract_at, no_abstract_cell}
 use Rattle.pointer_dom.specs.Values.{Values, no_value}
-use Rattle.edge_actions.specs.transfer_rows.StateForms.{Cell, State}
-use Rattle.edge_actions.specs.Layouts.{is_reachable}
+use Rattle.body_systems.specs.edge_actions.transfer_rows.StateForms.{Cell, State}
+use Rattle.body_systems.specs.edge_actions.Layouts.{is_reachable}
 use Rattle.body_systems.specs.program_equations.Entries.{entry_cell, entry_cells, entry_state, first_state, initial_of}
 use Rattle.entry_states.specs.Beginnings.{AreInitialValues}
 use Rattle.entry_states.specs.reading.Holdings.{value_or_none}

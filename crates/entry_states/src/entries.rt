@@ -2,15 +2,14 @@
 ghost use Rattle.std.specs.Prelude.{◌≡◌, ◌≤◌, IfOk, length};
 ghost use Rattle.std.specs.Option.{option_copied};
 ghost use Rattle.tm_laid.specs.Layouts.{laid_tree, path_at};
-ghost use Rattle.edge_actions.specs.Layouts.{is_reachable};
+ghost use Rattle.body_systems.specs.edge_actions.Layouts.{is_reachable};
 ghost use Rattle.body_systems.specs.program_equations.Readings.{read_layout};
 ghost use Rattle.body_systems.specs.program_equations.Entries.{entry_cell, entry_state, first_state, later_state};
 ghost use Rattle.entry_states.specs.Beginnings.{BeginsInTypes, AreInitialValues};
 ghost use Rattle.entry_states.specs.reading.Holdings.{held_value};
 
-use body_systems::BodyState;
+use body_systems::{BodyState, is_shared_cell, object_at, open_cell};
 use cell_env::{CellState, State};
-use edge_actions::{is_shared_cell, object_at, open_cell};
 use pointer_dom::AbsValue;
 use state_tree::Tree;
 use std::alloc::Global;

@@ -9,8 +9,8 @@ ghost use Rattle.body_systems.specs.program_equations.Entries.{initial_value};
 ghost use Rattle.entry_states.specs.Beginnings.{BeginsInTypes, AreInitialValues};
 ghost use Rattle.entry_states.specs.reading.Joining.{with_joined};
 
+use body_systems::pointer_value;
 use concrete_values::Pointer;
-use edge_effects::pointer_value;
 use pointer_dom::{AbsValue, PointerSet};
 use std::alloc::Global;
 use strided_dom::Strided;

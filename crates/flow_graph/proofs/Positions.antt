@@ -2,7 +2,7 @@
 use Rattle.std.proofs.Common.{◌≡◌, inl, inr, ℕ, Bool, true, false, List, [], ◌∷◌, ◌++◌, refl, sym, ◌∙◌, ap, subst}
 use Rattle.std.specs.Prelude.{if◌then◌else◌, ◌==◌, not, Result, Ok, Err, Option, Some, None}
 use Rattle.std.proofs.lemmas.Bool.{eqb-true}
-use Rattle.tm_cint.specs.declared.Class.{Class}
+use Rattle.concrete_values.specs.tm_cint.declared.Class.{Class}
 use Rattle.concrete_values.specs.tm_terms.declared.places.Place.{Place}
 use Rattle.concrete_values.specs.tm_laid.Layouts.{LaidTree}
 use Rattle.concrete_values.specs.declared.values.Value.{Value}

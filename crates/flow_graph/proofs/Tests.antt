@@ -2,11 +2,11 @@
 use Rattle.std.proofs.Common.{◌≡◌, Bool, true, false, ℤ, refl, sym, ◌∙◌, ap, arith}
 use Rattle.std.specs.Prelude.{not, int_lt, int_le}
 use Rattle.std.proofs.lemmas.Int.{ints}
-use Rattle.tm_cint.specs.declared.int_types.IntType.{IntType}
-use Rattle.tm_cint.specs.declared.operators.BinOp.{BinOp}
-use Rattle.tm_cint.specs.declared.operators.BinOp.TheVariants as Bins
-use Rattle.tm_cint.specs.Operators.{IsComparison}
-use Rattle.tm_cint.specs.Conversions.{truth}
+use Rattle.concrete_values.specs.tm_cint.declared.int_types.IntType.{IntType}
+use Rattle.concrete_values.specs.tm_cint.declared.operators.BinOp.{BinOp}
+use Rattle.concrete_values.specs.tm_cint.declared.operators.BinOp.TheVariants as Bins
+use Rattle.concrete_values.specs.tm_cint.Operators.{IsComparison}
+use Rattle.concrete_values.specs.tm_cint.Conversions.{truth}
 use Rattle.concrete_values.specs.declared.values.Value.{Value}
 use Rattle.concrete_values.specs.declared.values.Value.TheVariants.{Number}
 use Rattle.concrete_values.specs.Values.{is_true, number_in}

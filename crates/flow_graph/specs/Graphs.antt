@@ -1,6 +1,6 @@
 -- Graphs: the edges that leave a node, heads and regions, the cells that are written there, and live temporaries.
 use Rattle.std.specs.Prelude.{◌≡◌, ◌⊎◌, ℕ, ◌+◌, ◌==◌, ◌≤◌, ◌<◌, true, if◌then◌else◌, List, [], ◌∷◌, Some}
-use Rattle.tm_cint.specs.Operators.{IsComparison}
+use Rattle.concrete_values.specs.tm_cint.Operators.{IsComparison}
 use Rattle.concrete_values.specs.tm_typed.declared.types.Scalar.{Scalar}
 use Rattle.concrete_values.specs.tm_laid.Layouts.{LaidTree, object_at, abstract_at, is_same_scalar}
 use Rattle.flow_graph.specs.declared.operations.Test.{Test}

@@ -1,9 +1,9 @@
 -- Operations: the temporaries that they use and give, and what they do with their values.
 use Rattle.std.specs.Prelude.{ℕ, ◌==◌, Bool, true, false, if◌then◌else◌, not, List, [], ◌∷◌, Option, Some, None, Result}
 use Rattle.std.specs.Prelude.{Ok, Err}
-use Rattle.tm_cint.specs.declared.Class.{Class}
-use Rattle.tm_cint.specs.declared.operators.BinOp.{BinOp}
-use Rattle.tm_cint.specs.declared.operators.BinOp.TheVariants as Bins
+use Rattle.concrete_values.specs.tm_cint.declared.Class.{Class}
+use Rattle.concrete_values.specs.tm_cint.declared.operators.BinOp.{BinOp}
+use Rattle.concrete_values.specs.tm_cint.declared.operators.BinOp.TheVariants as Bins
 use Rattle.concrete_values.specs.tm_terms.declared.places.Place.{Place}
 use Rattle.concrete_values.specs.tm_laid.Layouts.{LaidTree}
 use Rattle.concrete_values.specs.declared.values.Value.{Value}

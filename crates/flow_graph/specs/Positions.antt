@@ -1,6 +1,6 @@
 -- Where the run of a graph stands after some answers, and the steps along edges that lead there.
 use Rattle.std.specs.Prelude.{◌≡◌, ℕ, List, [], ◌∷◌, ◌++◌, Some}
-use Rattle.tm_cint.specs.declared.Class.{Class}
+use Rattle.concrete_values.specs.tm_cint.declared.Class.{Class}
 use Rattle.concrete_values.specs.tm_terms.declared.places.Place.{Place}
 use Rattle.concrete_values.specs.tm_laid.Layouts.{LaidTree}
 use Rattle.concrete_values.specs.declared.values.Value.{Value}

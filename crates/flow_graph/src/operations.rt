@@ -1,6 +1,5 @@
 //! The operations of edges.
-use concrete_values::{Place, Scalar, Unary, Value};
-use tm_cint::{BinOp, IntType};
+use concrete_values::{BinOp, IntType, Place, Scalar, Unary, Value};
 
 /// What an `Assume` lets through. Each test has its opposite.
 #[derive(Clone, Copy)]

@@ -11,8 +11,8 @@ use Rattle.mutex_configs.specs.declared.nodes.ConfiguredNode.{ConfiguredNode}
 use Rattle.mutex_configs.specs.declared.nodes.EdgeCopy.{EdgeCopy}
 use Rattle.mutex_configs.specs.Sets.{has}
 use Rattle.request_circles.specs.declared.requests.Request.{Request}
-use Rattle.post_recheck.specs.transfer_rows.StateForms.{State}
-use Rattle.post_recheck.specs.program_equations.Programs.{ProgramBodies}
+use Rattle.program_reports.specs.post_recheck.transfer_rows.StateForms.{State}
+use Rattle.program_reports.specs.post_recheck.program_equations.Programs.{ProgramBodies}
 use Rattle.lock_waits.specs.reading.Copies.{asked_by, where_reached, asked_at, IsAskedBelow}
 use Rattle.lock_waits.specs.reading.Bodies.{IsAskedOf, IsAskedUpTo}
 

@@ -3,9 +3,9 @@ use Rattle.std.proofs.Common.{◌≡◌, ◌↔◌, ℕ, refl, ap, sym, subst, �
 use Rattle.std.specs.Prelude.{Contains}
 use Rattle.flow_graph.specs.declared.operations.Operation.TheVariants as Op
 use Rattle.request_circles.specs.declared.requests.Request.{Request}
-use Rattle.post_recheck.specs.transfer_rows.StateForms.{State}
-use Rattle.post_recheck.specs.program_equations.Programs.{ProgramBodies, IsProgram}
-use Rattle.post_recheck.specs.program_equations.Solutions.{tables_of}
+use Rattle.program_reports.specs.post_recheck.transfer_rows.StateForms.{State}
+use Rattle.program_reports.specs.post_recheck.program_equations.Programs.{ProgramBodies, IsProgram}
+use Rattle.program_reports.specs.post_recheck.program_equations.Solutions.{tables_of}
 use Rattle.program_reports.specs.Reports.{copy_in, operation_in, left_in}
 use Rattle.lock_waits.specs.Waits.{IsRequest}
 use Rattle.lock_waits.specs.reading.Copies.{asked_by, where_reached}

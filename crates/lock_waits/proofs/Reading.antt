@@ -8,12 +8,12 @@ use Rattle.mutex_configs.specs.declared.nodes.ConfiguredGraph.{ConfiguredGraph}
 use Rattle.mutex_configs.specs.declared.nodes.EdgeCopy.{EdgeCopy}
 use Rattle.mutex_configs.specs.declared.programs.Program.{Program}
 use Rattle.request_circles.specs.declared.requests.Request.{Request}
-use Rattle.post_recheck.specs.transfer_rows.StateForms.{State}
-use Rattle.post_recheck.specs.program_equations.Programs.{ProgramBodies, body_at, IsProgram}
-use Rattle.post_recheck.specs.program_equations.Solutions.{table_at}
-use Rattle.post_recheck.specs.program_systems.Analysable.{IsAnalysable}
-use Rattle.post_recheck.specs.program_systems.ProgramFacts.{AllFacts, AreProgramFacts, program_with}
-use Rattle.post_recheck.proofs.low.program_systems.Bodies.{is_program, is_program_of, body_count}
+use Rattle.program_reports.specs.post_recheck.transfer_rows.StateForms.{State}
+use Rattle.program_reports.specs.post_recheck.program_equations.Programs.{ProgramBodies, body_at, IsProgram}
+use Rattle.program_reports.specs.post_recheck.program_equations.Solutions.{table_at}
+use Rattle.program_reports.specs.post_recheck.program_systems.Analysable.{IsAnalysable}
+use Rattle.program_reports.specs.post_recheck.program_systems.ProgramFacts.{AllFacts, AreProgramFacts, program_with}
+use Rattle.program_reports.proofs.low.program_systems.Bodies.{is_program, is_program_of, body_count}
 use Rattle.lock_waits.specs.declared.copies.TaskParts.{TaskParts}
 use Rattle.lock_waits.specs.Waits.{HaveTables}
 use Rattle.lock_waits.specs.reading.Copies.{copy_in, AreInRange, IsAskedBelow}

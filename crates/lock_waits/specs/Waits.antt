@@ -16,11 +16,11 @@ use Rattle.request_circles.specs.declared.requests.Request.{Request}
 use Rattle.request_circles.specs.declared.rings.Ring.{Ring}
 use Rattle.request_circles.specs.Requests as circles
 use Rattle.request_circles.specs.Rings.{AreShortestRings}
-use Rattle.post_recheck.specs.transfer_rows.StateForms.{State}
-use Rattle.post_recheck.specs.table_covers.Solutions.{NodeTable}
-use Rattle.post_recheck.specs.program_equations.Programs.{ProgramBodies, body_at}
-use Rattle.post_recheck.specs.program_equations.Solutions.{table_at}
-use Rattle.post_recheck.specs.program_systems.ProgramFacts.{AllFacts, AreProgramFacts, program_with}
+use Rattle.program_reports.specs.post_recheck.transfer_rows.StateForms.{State}
+use Rattle.program_reports.specs.post_recheck.table_covers.Solutions.{NodeTable}
+use Rattle.program_reports.specs.post_recheck.program_equations.Programs.{ProgramBodies, body_at}
+use Rattle.program_reports.specs.post_recheck.program_equations.Solutions.{table_at}
+use Rattle.program_reports.specs.post_recheck.program_systems.ProgramFacts.{AllFacts, AreProgramFacts, program_with}
 use Rattle.program_reports.specs.Reports.{operation_in, left_in, IsReachedIn}
 
 module _ (p : ProgramBodies) (tables : ℕ → NodeTable State) where

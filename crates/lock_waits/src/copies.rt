@@ -5,7 +5,7 @@ ghost use Rattle.lock_waits.specs.reading.Copies.{asked_by, asked_at, IsAskedBel
 
 use flow_graph::{Edge, Operation};
 use mutex_configs::{ConfiguredNode, EdgeCopy};
-use post_recheck::BodyState;
+use program_reports::BodyState;
 use request_circles::{Request, has_mutex, push_request};
 use tm_lattice::NoMemory;
 

@@ -1,15 +1,16 @@
 //! Circular waits.
 ghost use Rattle.std.specs.Prelude.{◌↔◌, Contains, IfOk};
 ghost use Rattle.request_circles.specs.declared.requests.Request.{Request as ARequest};
-ghost use Rattle.post_recheck.specs.program_equations.Solutions.{tables_of};
-ghost use Rattle.post_recheck.specs.program_systems.Analysable.{IsAnalysable};
-ghost use Rattle.post_recheck.specs.program_systems.ProgramFacts.{AllFacts, AreProgramFacts, program_with};
-ghost use Rattle.post_recheck.specs.Pairs.{lists_of};
+ghost use Rattle.program_reports.specs.post_recheck.program_equations.Solutions.{tables_of};
+ghost use Rattle.program_reports.specs.post_recheck.program_systems.Analysable.{IsAnalysable};
+ghost use Rattle.program_reports.specs.post_recheck.program_systems.ProgramFacts.{AllFacts, AreProgramFacts};
+ghost use Rattle.program_reports.specs.post_recheck.program_systems.ProgramFacts.{program_with};
+ghost use Rattle.program_reports.specs.post_recheck.Pairs.{lists_of};
 ghost use Rattle.lock_waits.specs.Waits.{IsRequest, AreWaits, AreRings, HaveTables};
 
 use crate::bodies::add_task;
 use mutex_configs::Program;
-use post_recheck::Table;
+use program_reports::Table;
 use request_circles::{Request, Ring, circular_places, shortest_rings};
 use std::alloc::Global;
 use tm_lattice::NoMemory;

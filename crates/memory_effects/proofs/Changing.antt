@@ -1,5 +1,6 @@
 -- Tables that change key by key.
-use Rattle.std.specs.Prelude.{◌≡◌, ◌≢◌, ℕ, ◌+◌, ◌<◌, ◌≤◌, Bool, true, false, cond, eqb, List, [], ◌∷◌, ◌++◌, Option, Some, None, refl}
+use Rattle.std.specs.Prelude.{◌≡◌, ◌≢◌, ℕ, ◌+◌, ◌<◌, ◌≤◌, Bool, true, false, cond, eqb, List, [], ◌∷◌, ◌++◌, Option}
+use Rattle.std.specs.Prelude.{Some, None, refl}
 use Rattle.std.proofs.Common.{sym, ap, subst, ◌∙◌, inl, inr, arith}
 use Rattle.std.proofs.lemmas.Bool.{cases_eq, cases_lt, false≢true, eq-eqb, ne_eqb}
 use Rattle.std.specs.FinMap.{get, insert, remove, get-remove}
@@ -8,7 +9,7 @@ use Rattle.tm_lattice.specs.Tables.{Table, IsPast, IsNext, changed_table}
 use Rattle.tm_lattice.specs.laws.Keys.{same_key, other_key}
 use Rattle.tm_lattice.specs.laws.TableLaws.{same_table, get-insert_here, get-insert_there}
 use Rattle.tm_lattice.specs.laws.SelectedLaws.{changed_at, get-changed_table}
-use Rattle.calculations.specs.transfer_rows.Accesses.{is_among}
+use Rattle.edge_effects.specs.calculations.transfer_rows.Accesses.{is_among}
 use Rattle.edge_effects.proofs.Common.{decided, among_more_here, among_more_there}
 
 -- no key is greater than k, if with k gone none is there from k on

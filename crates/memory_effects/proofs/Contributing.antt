@@ -1,5 +1,6 @@
 -- What is added to the store.
-use Rattle.std.specs.Prelude.{◌≡◌, ◌≢◌, ℕ, ◌+◌, ◌<◌, ◌≤◌, Bool, true, false, ◌&&◌, not, cond, eqb, List, [], ◌∷◌, ◌++◌, map, Option, Some, None, refl}
+use Rattle.std.specs.Prelude.{◌≡◌, ◌≢◌, ℕ, ◌+◌, ◌<◌, ◌≤◌, Bool, true, false, ◌&&◌, not, cond, eqb, List, [], ◌∷◌, ◌++◌}
+use Rattle.std.specs.Prelude.{map, Option, Some, None, refl}
 use Rattle.std.proofs.Common.{sym, ap, subst, ◌∙◌, inl, inr, arith}
 use Rattle.std.proofs.lemmas.Bool.{cases_eq, cases_lt, false≢true, true≢false, eq-eqb, eqb-true}
 use Rattle.std.specs.Ordering.{nat_cmp}
@@ -11,12 +12,12 @@ use Rattle.tm_lattice.specs.laws.Keys.{find-there}
 use Rattle.tm_lattice.specs.laws.TableLaws.{same_table, get-insert_here, get-insert_there}
 use Rattle.pointer_dom.specs.Values.{Values, no_value}
 use Rattle.interfere_set.specs.Stores.{Nested}
-use Rattle.calculations.specs.transfer_rows.StateForms.{Cell, is_no_value}
-use Rattle.calculations.specs.transfer_rows.Accesses.{is_among}
-use Rattle.calculations.specs.transfer_rows.Reports.{left_by}
-use Rattle.calculations.specs.transfer_rows.Contributions.{cells_added, nested_under}
-use Rattle.calculations.proofs.low.transfer_rows.Contributing.{get-added}
-use Rattle.calculations.proofs.low.transfer_rows.Steps.{no_value_is, none_is_none, among_here, among_there}
+use Rattle.edge_effects.specs.calculations.transfer_rows.StateForms.{Cell, is_no_value}
+use Rattle.edge_effects.specs.calculations.transfer_rows.Accesses.{is_among}
+use Rattle.edge_effects.specs.calculations.transfer_rows.Reports.{left_by}
+use Rattle.edge_effects.specs.calculations.transfer_rows.Contributions.{cells_added, nested_under}
+use Rattle.edge_effects.proofs.low.transfer_rows.Contributing.{get-added}
+use Rattle.edge_effects.proofs.low.transfer_rows.Steps.{no_value_is, none_is_none, among_here, among_there}
 use Rattle.edge_effects.proofs.Common.{decided, among_more_here, among_more_there}
 use Rattle.memory_effects.specs.reading.Changes.{shown_value, IsWrittenAt}
 

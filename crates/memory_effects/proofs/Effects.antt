@@ -1,5 +1,6 @@
 -- What the code of each edge gives is what the rows say.
-use Rattle.std.specs.Prelude.{◌≡◌, ◌↔◌, ℕ, pos, Bool, true, false, ◌&&◌, cond, eqb, IsTrue, List, [], Option, Some, None, refl}
+use Rattle.std.specs.Prelude.{◌≡◌, ◌↔◌, ℕ, pos, Bool, true, false, ◌&&◌, cond, eqb, IsTrue, List, [], Option, Some}
+use Rattle.std.specs.Prelude.{None, refl}
 use Rattle.std.proofs.Common.{sym, ap, subst, ◌∙◌}
 use Rattle.std.proofs.lemmas.Bool.{false≢true, true≢false, eq-eqb}
 use Rattle.std.specs.Option.{option_map}
@@ -14,16 +15,18 @@ use Rattle.pointer_dom.specs.Values.{Values, no_value}
 use Rattle.interfere_set.specs.Stores.{Interferences, no_interference}
 use Rattle.transfer_int.specs.Outcomes.{notes}
 use Rattle.transfer_int.specs.declared.outcomes.Classes.{Classes}
-use Rattle.calculations.specs.transfer_rows.StateForms.{State, value_of}
-use Rattle.calculations.specs.transfer_rows.Actions.{Spot, Around, stores, clears, locks, unlocks, yields, probes}
-use Rattle.calculations.specs.transfer_rows.Accesses.{is_among, targets_at}
-use Rattle.calculations.specs.transfer_rows.Rows.{holds, given, arrived, after_store, after_clear, after_lock}
-use Rattle.calculations.specs.transfer_rows.Rows.{after_unlock, after_yield, after_free, effect}
-use Rattle.calculations.specs.transfer_rows.StateForms.{only_numbers}
-use Rattle.calculations.specs.transfer_rows.Contributions.{cells_added, nested_under, added}
-use Rattle.calculations.specs.transfer_rows.Reports.{targets_of, left_by, weak_of, sync_of, IsListed}
-use Rattle.calculations.specs.Given.{no_class}
-use Rattle.calculations.proofs.Calculating.{nothing_noted}
+use Rattle.edge_effects.specs.calculations.transfer_rows.StateForms.{State, value_of}
+use Rattle.edge_effects.specs.calculations.transfer_rows.Actions.{Spot, Around, stores, clears, locks, unlocks, yields}
+use Rattle.edge_effects.specs.calculations.transfer_rows.Actions.{probes}
+use Rattle.edge_effects.specs.calculations.transfer_rows.Accesses.{is_among, targets_at}
+use Rattle.edge_effects.specs.calculations.transfer_rows.Rows.{holds, given, arrived, after_store, after_clear}
+use Rattle.edge_effects.specs.calculations.transfer_rows.Rows.{after_lock}
+use Rattle.edge_effects.specs.calculations.transfer_rows.Rows.{after_unlock, after_yield, after_free, effect}
+use Rattle.edge_effects.specs.calculations.transfer_rows.StateForms.{only_numbers}
+use Rattle.edge_effects.specs.calculations.transfer_rows.Contributions.{cells_added, nested_under, added}
+use Rattle.edge_effects.specs.calculations.transfer_rows.Reports.{targets_of, left_by, weak_of, sync_of, IsListed}
+use Rattle.edge_effects.specs.calculations.Given.{no_class}
+use Rattle.edge_effects.proofs.low.calculations.Calculating.{nothing_noted}
 use Rattle.edge_effects.specs.Effects.{IsAfter}
 use Rattle.edge_effects.specs.declared.views.After.{After}
 use Rattle.memory_effects.proofs.Contributing.{none_added, under_none}

@@ -1,5 +1,6 @@
 -- Values that are joined to others, and cells that are joined with a value.
-use Rattle.std.specs.Prelude.{◌≡◌, ◌≢◌, ℕ, Bool, true, false, cond, eqb, bit_or, List, [], ◌∷◌, ◌++◌, Option, Some, None, refl}
+use Rattle.std.specs.Prelude.{◌≡◌, ◌≢◌, ℕ, Bool, true, false, cond, eqb, bit_or, List, [], ◌∷◌, ◌++◌, Option, Some}
+use Rattle.std.specs.Prelude.{None, refl}
 use Rattle.std.proofs.Common.{sym, ap, subst, ◌∙◌, inl, inr}
 use Rattle.std.specs.Int.Bits.{or_self}
 use Rattle.std.specs.FinMap.{get}
@@ -8,9 +9,9 @@ use Rattle.tm_lattice.specs.laws.SelectedLaws.{changed_at}
 use Rattle.pointer_dom.specs.Values.{Values, IsValues, IsValuesBelow, joined_values}
 use Rattle.pointer_dom.specs.laws.ValueLaws.{values_order, values_join}
 use Rattle.cell_env.specs.laws.Bits.{or_assoc}
-use Rattle.calculations.specs.transfer_rows.StateForms.{Cell, IsCellForm}
-use Rattle.calculations.specs.transfer_rows.Accesses.{is_among}
-use Rattle.calculations.specs.transfer_rows.Rows.{joining}
+use Rattle.edge_effects.specs.calculations.transfer_rows.StateForms.{Cell, IsCellForm}
+use Rattle.edge_effects.specs.calculations.transfer_rows.Accesses.{is_among}
+use Rattle.edge_effects.specs.calculations.transfer_rows.Rows.{joining}
 use Rattle.edge_effects.proofs.Common.{decided}
 use Rattle.memory_effects.proofs.Changing.{IsChangedAmong, among_next}
 

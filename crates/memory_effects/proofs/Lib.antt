@@ -3,3 +3,4 @@ pub mod Joining
 pub mod Contributing
 pub mod Effects
 pub mod States
+pub mod low

@@ -1,5 +1,6 @@
 -- The states behind edges, from their parts.
-use Rattle.std.specs.Prelude.{◌≡◌, ℕ, ◌+◌, ◌-◌, ◌^◌, ◌&&◌, nat_le, nat_lt, Bool, true, false, cond, bit_and, List, [], ◌∷◌, Option, Some, None, refl}
+use Rattle.std.specs.Prelude.{◌≡◌, ℕ, ◌+◌, ◌-◌, ◌^◌, ◌&&◌, nat_le, nat_lt, Bool, true, false, cond, bit_and, List, []}
+use Rattle.std.specs.Prelude.{◌∷◌, Option, Some, None, refl}
 use Rattle.std.proofs.Common.{sym, ap, ◌∙◌}
 use Rattle.std.specs.Option.{option_map}
 use Rattle.std.specs.FinMap.{insert, retain_keys}
@@ -7,11 +8,12 @@ use Rattle.tm_laid.specs.Layouts.{LaidTree, object_at, abstract_at}
 use Rattle.tm_laid.specs.declared.objects.LaidObject.{LaidObject}
 use Rattle.tm_lattice.specs.Tables.{Table, changed_table}
 use Rattle.pointer_dom.specs.Values.{Values}
-use Rattle.calculations.specs.transfer_rows.StateForms.{Temp, Cell, State}
-use Rattle.calculations.specs.transfer_rows.Actions.{Around}
-use Rattle.calculations.specs.transfer_rows.Accesses.{is_among, single_of}
-use Rattle.calculations.specs.transfer_rows.Rows.{dropped, arrived, after_clear, after_store, stored_cell, cleared_to}
-use Rattle.calculations.specs.transfer_rows.Rows.{is_cleared, aged, after_yield}
+use Rattle.edge_effects.specs.calculations.transfer_rows.StateForms.{Temp, Cell, State}
+use Rattle.edge_effects.specs.calculations.transfer_rows.Actions.{Around}
+use Rattle.edge_effects.specs.calculations.transfer_rows.Accesses.{is_among, single_of}
+use Rattle.edge_effects.specs.calculations.transfer_rows.Rows.{dropped, arrived, after_clear, after_store, stored_cell}
+use Rattle.edge_effects.specs.calculations.transfer_rows.Rows.{cleared_to}
+use Rattle.edge_effects.specs.calculations.transfer_rows.Rows.{is_cleared, aged, after_yield}
 use Rattle.edge_actions.specs.Layouts.{open_value}
 use Rattle.edge_actions.specs.Edges.{cleared_value}
 use Rattle.edge_effects.proofs.LiveTemps.{none_dropped}

@@ -2,15 +2,14 @@
 ghost use Rattle.std.specs.Prelude.{◌≡◌, IfOk};
 ghost use Rattle.tm_laid.specs.Layouts.{laid_tree};
 ghost use Rattle.interfere_set.specs.Stores.{Interferences};
-ghost use Rattle.calculations.specs.transfer_rows.Actions.{clears};
+ghost use Rattle.edge_effects.specs.calculations.transfer_rows.Actions.{clears};
 ghost use Rattle.edge_actions.specs.Edges.{around_of, cleared_value};
 ghost use Rattle.edge_effects.specs.Effects.{IsAfter};
 
 use crate::changes::{Change, changed_cells};
-use calculations::no_classes;
 use cell_env::State;
 use edge_actions::{EdgeView, object_at};
-use edge_effects::{After, Ending, live_temps, plain};
+use edge_effects::{After, Ending, live_temps, no_classes, plain};
 use pointer_dom::AbsValue;
 use std::alloc::Global;
 use tm_lattice::NoMemory;

@@ -4,9 +4,9 @@ ghost use Rattle.std.specs.Int.{bit_at};
 ghost use Rattle.std.specs.FinMap.{get, keys};
 ghost use Rattle.tm_laid.specs.Layouts.{laid_tree};
 ghost use Rattle.pointer_dom.specs.Values.{no_value};
-ghost use Rattle.calculations.specs.transfer_rows.Accesses.{is_among};
-ghost use Rattle.calculations.specs.transfer_rows.Reports.{left_by};
-ghost use Rattle.calculations.specs.transfer_rows.Contributions.{cells_added, nested_under};
+ghost use Rattle.edge_effects.specs.calculations.transfer_rows.Accesses.{is_among};
+ghost use Rattle.edge_effects.specs.calculations.transfer_rows.Reports.{left_by};
+ghost use Rattle.edge_effects.specs.calculations.transfer_rows.Contributions.{cells_added, nested_under};
 ghost use Rattle.edge_actions.specs.Layouts.{is_shared_cell};
 ghost use Rattle.memory_effects.specs.reading.Changes.{shown_value, IsWrittenAt};
 

@@ -18,5 +18,10 @@ mod stores;
 mod writes;
 
 pub use clears::clear;
+pub use edge_actions::{EdgeView, numbers_between, object_at};
+pub use edge_effects::{
+    After, Calculated, Followed, compared, complemented, converted, copied, dereferenced, element,
+    give, load, load_any, moved, negated, no_classes, operated, part, pointer_value, skip,
+};
 pub use mutexes::{lock, probe, unlock, yields};
 pub use stores::store;

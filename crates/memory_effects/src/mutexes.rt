@@ -2,19 +2,19 @@
 ghost use Rattle.std.specs.Prelude.{◌≡◌, ◌<◌, ◌-◌, ◌^◌, IfOk};
 ghost use Rattle.pointer_dom.specs.Values.{Values};
 ghost use Rattle.interfere_set.specs.Stores.{Interferences};
-ghost use Rattle.calculations.specs.transfer_rows.Actions.{locks, unlocks, yields, probes};
-ghost use Rattle.calculations.specs.transfer_rows.Rows.{holds, arrived, after_lock, after_unlock, after_yield};
-ghost use Rattle.calculations.specs.transfer_rows.Rows.{after_free};
+ghost use Rattle.edge_effects.specs.calculations.transfer_rows.Actions.{locks, unlocks, yields, probes};
+ghost use Rattle.edge_effects.specs.calculations.transfer_rows.Rows.{holds, arrived, after_lock, after_unlock};
+ghost use Rattle.edge_effects.specs.calculations.transfer_rows.Rows.{after_yield};
+ghost use Rattle.edge_effects.specs.calculations.transfer_rows.Rows.{after_free};
 ghost use Rattle.edge_actions.specs.Edges.{around_of};
 ghost use Rattle.edge_effects.specs.Effects.{IsAfter};
-ghost use Rattle.calculations.specs.Given.{no_class};
+ghost use Rattle.edge_effects.specs.calculations.Given.{no_class};
 
 use crate::changes::{Change, changed_cells};
 use crate::contributions::{has_mutex, left_cells, nested_under};
-use calculations::no_classes;
 use cell_env::State;
 use edge_actions::{EdgeView, Targets};
-use edge_effects::{After, Ending, given_state, live_temps, plain, with_temp};
+use edge_effects::{After, Ending, given_state, live_temps, no_classes, plain, with_temp};
 use interfere_set::Store;
 use pointer_dom::AbsValue;
 use std::alloc::Global;

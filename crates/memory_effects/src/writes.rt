@@ -2,9 +2,10 @@
 ghost use Rattle.std.specs.Prelude.{◌≡◌, bit_or, cond, eqb, IfOk};
 ghost use Rattle.tm_laid.specs.Layouts.{laid_tree};
 ghost use Rattle.tm_lattice.specs.Tables.{changed_table};
-ghost use Rattle.calculations.specs.transfer_rows.StateForms.{Cell};
-ghost use Rattle.calculations.specs.transfer_rows.Rows.{overwriting, overwritten, joining, written, stored_cell};
-ghost use Rattle.calculations.specs.transfer_rows.Accesses.{single_of};
+ghost use Rattle.edge_effects.specs.calculations.transfer_rows.StateForms.{Cell};
+ghost use Rattle.edge_effects.specs.calculations.transfer_rows.Rows.{overwriting, overwritten, joining, written};
+ghost use Rattle.edge_effects.specs.calculations.transfer_rows.Rows.{stored_cell};
+ghost use Rattle.edge_effects.specs.calculations.transfer_rows.Accesses.{single_of};
 ghost use Rattle.edge_actions.specs.Layouts.{is_shared_cell, is_smashed_cell};
 ghost use Rattle.edge_actions.specs.Edges.{around_of};
 ghost use Rattle.memory_effects.specs.reading.Changes.{kept_or};

@@ -229,7 +229,7 @@ module _ (laid : LaidTree) (body : ℕ) (a : Answer) (path : ℕ) (locals : List
         (λ v x. used m k how how' (gives_pointer laid e) p u v x)
     expr_keeps m k (a_unary o t e p) h q how how' u =
         let u' = of_kind m k (a_number t) how how' h.0 u in
-        expr_keeps m (a_number t) e h.1 q (as_value _) (as_value _) (λ x y.
+        expr_keeps m (a_number t) e h.1 q.1 (as_value _) (as_value _) (λ x y.
         result_keeps laid body a m (unary o t x) p
         _ _ (λ v f. used m (a_number t) how how' false p u' v (unary_is laid o t x v f)))
     expr_keeps m k (a_binary op t l r p) h q how how' u =

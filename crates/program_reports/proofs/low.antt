@@ -2,5 +2,6 @@
 pub mod edge_actions
 pub mod pointer_dom
 pub mod post_recheck
+pub mod program_systems
 pub mod transfer_int
 pub mod transfer_rows

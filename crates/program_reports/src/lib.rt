@@ -15,4 +15,7 @@ pub use copies::BodyParts;
 pub use judging::judge;
 pub use laws::reports_are_one;
 pub use places::place_of;
-pub use post_recheck::{BodyState, Checked, Solution, Table, recheck, recheck_in_order};
+pub use post_recheck::{
+    BodyOverStore, BodyState, Checked, ProgramFacts, Solution, Table, body_over_store, recheck,
+    recheck_in_order,
+};

@@ -159,7 +159,7 @@ module _ (o : ℕ → Bool) (c : List ℕ) where
       expr_good (the_same e p) m how u =
           expr_good e m (as_value _) (λ v. value_good how (gives_pointer here.laid e) p v u)
       expr_good (a_unary q t e p) m how u =
-          expr_good e m (as_value _) (λ x. result_good (unary q t x) p _ (λ v. value_good how false p v u))
+          expr_good e m.1 (as_value _) (λ x. result_good (unary q t x) p _ (λ v. value_good how false p v u))
       expr_good (a_binary q t l r p) m how u =
           expr_good l m.0 (as_value _) (λ x. expr_good r m.1 (as_value _) (λ y.
           result_good (binary q t x y) p _ (λ v. value_good how false p v u)))

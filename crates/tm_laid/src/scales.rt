@@ -2,7 +2,7 @@
 ghost use Rattle.std.specs.Prelude.{◌≡◌};
 ghost use Rattle.tm_laid.specs.Scales.{number_on};
 
-use tm_terms::Limit;
+use tm_typed::Limit;
 
 /// The scale of a program: how large it may be.
 #[derive(Clone, Copy, PartialEq, Eq)]

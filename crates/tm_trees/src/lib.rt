@@ -15,4 +15,4 @@ pub use declarations::{
 };
 pub use files::{File, Function, Item, Parameter, Parameters};
 pub use statements::{Block, BlockPart, ForFirst, Statement, SwitchPart};
-pub use tm_terms::{BinOp, IntType, Name, Place, Storage};
+pub use tm_terms::{BinOp, IntType, Limit, Name, Place, Storage};

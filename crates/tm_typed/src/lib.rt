@@ -26,7 +26,7 @@ pub use scopes::{
 };
 pub use specifiers::{Said, Shape};
 pub use statements::{GivenCell, LocalInitialiser, LocalObject, TypedStatement, TypedSwitchPart};
-pub use tm_trees::{Name, Place};
+pub use tm_trees::{Limit, Name, Place};
 pub use types::{
     CType, CastType, Qualified, Scalar, TypeEntry, bytes_of, enumeration_number, is_enumerated,
     is_same_int,

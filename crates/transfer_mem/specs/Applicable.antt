@@ -2,7 +2,7 @@
 use Rattle.std.specs.Prelude.{ℕ, ℤ, ◌<◌, ◌≤◌, length}
 use Rattle.strided_dom.specs.Progression.{IsInReach, Has}
 use Rattle.pointer_dom.specs.Advances.{IsInteger}
-use Rattle.calculations.specs.transfer_int.Operands.{AreValues, AreRightOperands}
+use Rattle.memory_effects.specs.calculations.transfer_int.Operands.{AreValues, AreRightOperands}
 use Rattle.interfere_set.specs.Stores.{Interferences, HavePriorities}
 use Rattle.tm_typed.specs.TypedFiles.{typed_file_tree}
 use Rattle.tm_laid.specs.Layable.{IsLayable}
@@ -10,8 +10,8 @@ use Rattle.concrete_values.specs.declared.values.Value.{Value}
 use Rattle.concrete_values.specs.declared.values.Value.TheVariants.{Number, Pointer}
 use Rattle.flow_graph.specs.declared.operations.Operation.{Operation}
 use Rattle.flow_graph.specs.declared.operations.Operation.TheVariants as Op
-use Rattle.calculations.specs.transfer_rows.StateForms.{State, value_of}
-use Rattle.edge_actions.specs.declared.views.EdgeView.{EdgeView}
+use Rattle.memory_effects.specs.calculations.transfer_rows.StateForms.{State, value_of}
+use Rattle.memory_effects.specs.edge_actions.declared.views.EdgeView.{EdgeView}
 use Rattle.edge_filters.specs.Tests.{IsTestable}
 
 -- a number that is a constant is in the reach of strided sets

@@ -1,18 +1,19 @@
 //! What an edge does.
 ghost use Rattle.std.specs.Prelude.{IfOk, MatchOption};
-ghost use Rattle.edge_actions.specs.Edges.{around_of, action_at};
-ghost use Rattle.edge_effects.specs.Effects.{IsAfter};
+ghost use Rattle.memory_effects.specs.edge_actions.Edges.{around_of, action_at};
+ghost use Rattle.memory_effects.specs.edge_effects.Effects.{IsAfter};
 ghost use Rattle.transfer_mem.specs.Applicable.{IsApplicable};
 ghost use Rattle.transfer_mem.specs.reading.Givings.{IsAccess, IsControl};
 
 use crate::giving::calculated;
 use cell_env::State;
-use edge_actions::EdgeView;
-use edge_effects::{After, give, load, load_any, skip};
 use edge_filters::{refine, usable};
 use flow_graph::Operation;
 use interfere_set::Store;
-use memory_effects::{clear, lock, probe, store as stored, unlock, yields};
+use memory_effects::{
+    After, EdgeView, clear, give, load, load_any, lock, probe, skip, store as stored, unlock,
+    yields,
+};
 use pointer_dom::AbsValue;
 use std::alloc::Global;
 use tm_lattice::NoMemory;

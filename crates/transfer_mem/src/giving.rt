@@ -3,23 +3,21 @@ ghost use Rattle.std.specs.Prelude.{◌≤◌, ◌≡◌, length, IfOk, MatchOpt
 ghost use Rattle.tm_typed.specs.TypedFiles.{typed_file_tree};
 ghost use Rattle.tm_laid.specs.Layable.{IsLayable};
 ghost use Rattle.tm_laid.specs.Layouts.{laid_tree};
-ghost use Rattle.calculations.specs.transfer_int.Operands.{AreValues};
-ghost use Rattle.calculations.specs.transfer_rows.StateForms.{State as TaskState, value_of};
-ghost use Rattle.calculations.specs.transfer_rows.Actions.{constant};
-ghost use Rattle.calculations.specs.Given.{IsCalculated};
-ghost use Rattle.edge_actions.specs.Edges.{constant_value, base_value, unary_of};
+ghost use Rattle.memory_effects.specs.calculations.transfer_int.Operands.{AreValues};
+ghost use Rattle.memory_effects.specs.calculations.transfer_rows.StateForms.{State as TaskState, value_of};
+ghost use Rattle.memory_effects.specs.calculations.transfer_rows.Actions.{constant};
+ghost use Rattle.memory_effects.specs.calculations.Given.{IsCalculated};
+ghost use Rattle.memory_effects.specs.edge_actions.Edges.{constant_value, base_value, unary_of};
 ghost use Rattle.transfer_mem.specs.Applicable.{IsConstant, IsOperable};
 ghost use Rattle.transfer_mem.specs.reading.Givings.{IsOfNumbers, IsOfPointers, IsGiving, IsGivenBy};
 
-use calculations::{
-    Calculated, Followed, compared, complemented, converted, copied, dereferenced, element, moved,
-    negated, no_classes, operated, part,
-};
 use cell_env::State;
 use concrete_values::Value;
-use edge_actions::{EdgeView, numbers_between, object_at};
-use edge_effects::pointer_value;
 use flow_graph::Operation;
+use memory_effects::{
+    Calculated, EdgeView, Followed, compared, complemented, converted, copied, dereferenced,
+    element, moved, negated, no_classes, numbers_between, object_at, operated, part, pointer_value,
+};
 use pointer_dom::{AbsValue, PointerSet};
 use std::alloc::Global;
 use strided_dom::Strided;

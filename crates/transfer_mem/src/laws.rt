@@ -3,13 +3,13 @@ ghost use Rattle.std.specs.Prelude.{◌≡◌, Some};
 ghost use Rattle.tm_cint.specs.declared.Class.{Class};
 ghost use Rattle.tm_lattice.specs.Tables.{IsBelow};
 ghost use Rattle.interfere_set.specs.Stores.{Interferences, IsStore, IsStoreBelow};
-ghost use Rattle.calculations.specs.transfer_rows.StateForms.{State, IsStateForm, IsStateUnder};
-ghost use Rattle.calculations.specs.transfer_rows.Accesses.{AreAmong};
-ghost use Rattle.calculations.specs.transfer_rows.Rows.{after};
-ghost use Rattle.calculations.specs.transfer_rows.Reports.{targets_of, AgreeOnSizes, IsListed};
-ghost use Rattle.calculations.specs.transfer_rows.Contributions.{added};
-ghost use Rattle.edge_actions.specs.Edges.{around_of, action_at};
-ghost use Rattle.edge_actions.specs.declared.views.EdgeView.{EdgeView};
+ghost use Rattle.memory_effects.specs.calculations.transfer_rows.StateForms.{State, IsStateForm, IsStateUnder};
+ghost use Rattle.memory_effects.specs.calculations.transfer_rows.Accesses.{AreAmong};
+ghost use Rattle.memory_effects.specs.calculations.transfer_rows.Rows.{after};
+ghost use Rattle.memory_effects.specs.calculations.transfer_rows.Reports.{targets_of, AgreeOnSizes, IsListed};
+ghost use Rattle.memory_effects.specs.calculations.transfer_rows.Contributions.{added};
+ghost use Rattle.memory_effects.specs.edge_actions.Edges.{around_of, action_at};
+ghost use Rattle.memory_effects.specs.edge_actions.declared.views.EdgeView.{EdgeView};
 
 use tm_cint::Class;
 

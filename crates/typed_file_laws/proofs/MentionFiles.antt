@@ -260,12 +260,7 @@ new_stands f t h e w =
 headed_stands : (f : FileState) (t : State) (names : List Binding) (k : ℕ) (h : Head) (already : Option Named) (parts : Option PartTrees) → t.uses ≡ f.state.uses → t.site ≡ 0 → Stand f
     → OnAnswer Stand (with_body (declared_function f t h already) names k h parts)
 headed_stands f t names k h (Some (Names.Function j)) parts e z w = body_stands (with_state f t) names k h parts z (same_used f t e w)
-headed_stands f t names k h None parts e z w = body_stands _ names k h parts z (new_stands f t h e w)
-headed_stands f t names k h (Some (Names.Object x q)) parts e z w = body_stands _ names k h parts z (new_stands f t h e w)
-headed_stands f t names k h (Some (Names.Alias q)) parts e z w = body_stands _ names k h parts z (new_stands f t h e w)
-headed_stands f t names k h (Some Names.Task) parts e z w = body_stands _ names k h parts z (new_stands f t h e w)
-headed_stands f t names k h (Some (Names.Mutex i)) parts e z w = body_stands _ names k h parts z (new_stands f t h e w)
-headed_stands f t names k h (Some (Names.Enumerator i)) parts e z w = body_stands _ names k h parts z (new_stands f t h e w)
+headed_stands f t names k h _ parts e z w = body_stands _ names k h parts z (new_stands f t h e w)
 
 uses_same : (s t : State) → kept_in t ≡ kept_in s → t.uses ≡ s.uses
 uses_same s t e = ap (λ (k : List Use × ℕ). k.0) e

@@ -29,8 +29,8 @@ use Rattle.tm_laid.specs.tm_typed.declared.expressions.Unary.TheVariants as Unar
 use Rattle.tm_laid.specs.tm_typed.Types.{is_same_int, is_enumerated}
 use Rattle.tm_laid.specs.tm_typed.Scopes.{Scope, Function, entry, ctype_of, is_same_type, is_complete, member_of}
 use Rattle.tm_laid.specs.tm_typed.TypedTrees.{RvalueTree, a_null, the_same, a_unary, a_binary, a_not, an_and, an_or}
-use Rattle.tm_laid.specs.tm_typed.TypedTrees.{a_choice, an_input_value, a_conversion, LvalueTree, an_object, an_element}
-use Rattle.tm_laid.specs.tm_typed.TypedTrees.{a_pointed_element, a_pointed, an_arrow, a_part, RvalueTrees, Rated}
+use Rattle.tm_laid.specs.tm_typed.TypedTrees.{a_choice, an_input_value, a_conversion, LvalueTree, an_object}
+use Rattle.tm_laid.specs.tm_typed.TypedTrees.{RvalueTrees, Rated}
 use Rattle.tm_laid.specs.tm_typed.TypedTrees.{OperandTree, an_lvalue, a_value}
 use Rattle.tm_laid.specs.tm_typed.Refusals.{refused, row, row_unless}
 use Rattle.tm_laid.specs.tm_typed.Operands.{qualified_as, fold_converted, fold_of, is_condition, is_structure}
@@ -41,12 +41,22 @@ use Rattle.tm_laid.specs.tm_typed.Rules
 use Rattle.tm_laid.specs.tm_typed.declared.types.CastType.{CastType}
 use Rattle.tm_laid.specs.tm_typed.Rules.{Pair, paired}
 use Rattle.tm_laid.specs.tm_typed.WellTyped.{OnAnswer}
-use Rattle.typed_file_laws.specs.Mentions.{Mentions, LvalueMentions, AllMention, OperandMentions}
+use Rattle.typed_file_laws.specs.Mentions.{WorksIn, Mentions, LvalueMentions, AllMention, OperandMentions}
 use Rattle.typed_file_laws.proofs.RuleSteps.{on_row, OnSome, on_row_unless, some_any}
 
 in_order : (b : Bool) → not b ≡ false → b ≡ true
 in_order true e = refl
 in_order false e = absurd cc
+
+negate_works : (t : IntType) → WorksIn Unaries.Negate t
+negate_works t e f = absurd (cc)
+
+promoted_works : (t : IntType) → WorksIn Unaries.Complement (promoted_type t)
+promoted_works t e f = not_bool t f
+  where
+    not_bool : (t : IntType) → promoted_type t ≡ Ints.Bool → ⊥
+    not_bool Ints.Bool f = absurd (cc)
+    not_bool _ f = absurd (cc)
 
 module _ (o : ℕ → Bool) (c : List ℕ) where
   abbrev Says : OperandTree → Type 0
@@ -58,11 +68,9 @@ module _ (o : ℕ → Bool) (c : List ℕ) where
   -- ## Values
 
   loaded_mentions : (scope : Scope) (l : LvalueTree) (q : Qualified) (t : CType) → LvalueMentions o c l → Mentions o c (let v : Rated = loaded scope l q t in v.value)
-  loaded_mentions scope l q Types.Void h = h
   loaded_mentions scope l q (Types.Int t) h = (tt, h)
   loaded_mentions scope l q (Types.Pointer r) h = (refl, h)
-  loaded_mentions scope l q (Types.Array e n) h = h
-  loaded_mentions scope l q (Types.Struct k) h = h
+  loaded_mentions scope l q _ h = h
 
   pub valued_mentions : (scope : Scope) (a : OperandTree) → OperandMentions o c a → Mentions o c (let v : Rated = valued scope a in v.value)
   valued_mentions scope (a_value v) h = h
@@ -87,10 +95,7 @@ module _ (o : ℕ → Bool) (c : List ℕ) where
 
   as_pointer_mentions : (v : Rated) (s : Sort) → Mentions o c v.value → Mentions o c (as_pointer v s)
   as_pointer_mentions v (Sorts.Pointer q) h = h
-  as_pointer_mentions v (Sorts.Integer t f) h = tt
-  as_pointer_mentions v Sorts.Null h = tt
-  as_pointer_mentions v (Sorts.Structure k) h = tt
-  as_pointer_mentions v Sorts.Nothing h = tt
+  as_pointer_mentions v _ h = tt
 
   chosen_mentions : (b : Bool) (e : RvalueTree) → Mentions o c e → OnSome (Mentions o c) (cond b (Some e) None)
   chosen_mentions true e h = h
@@ -98,17 +103,12 @@ module _ (o : ℕ → Bool) (c : List ℕ) where
 
   integer_given_mentions : (t : IntType) (v : Rated) (s : Sort) → Mentions o c v.value → OnSome (Mentions o c) (integer_given t v s)
   integer_given_mentions t v (Sorts.Integer from f) h = converted_mentions from t v h
-  integer_given_mentions t v (Sorts.Pointer q) h = tt
-  integer_given_mentions t v Sorts.Null h = tt
-  integer_given_mentions t v (Sorts.Structure k) h = tt
-  integer_given_mentions t v Sorts.Nothing h = tt
+  integer_given_mentions t v _ h = tt
 
   given_to_mentions : (scope : Scope) (v : Rated) (t : CType) → Mentions o c v.value → OnSome (Mentions o c) (given_to scope v t)
   given_to_mentions scope v (Types.Int t) h = integer_given_mentions t v v.sort h
   given_to_mentions scope v (Types.Pointer q) h = chosen_mentions (is_taken scope q v.sort) (as_pointer v v.sort) (as_pointer_mentions v v.sort h)
-  given_to_mentions scope v Types.Void h = tt
-  given_to_mentions scope v (Types.Array e n) h = tt
-  given_to_mentions scope v (Types.Struct k) h = tt
+  given_to_mentions scope v _ h = tt
 
   pub given_mentions : (scope : Scope) (v : Rated) (n : ℕ) → Mentions o c v.value → OnSome (Mentions o c) (given scope v n)
   given_mentions scope v n h = given_to_mentions scope v (ctype_of scope n) h
@@ -121,14 +121,8 @@ module _ (o : ℕ → Bool) (c : List ℕ) where
   IsNamed n = Unit {0}
 
   pub name_mentions : (p : Place) (n : Option Named) → IsNamed n → Gives (Rules.name_rules p n)
-  name_mentions p None h = tt
   name_mentions p (Some (Names.Object (Objects.Static k) q)) h = h
-  name_mentions p (Some (Names.Object (Objects.Local k) q)) h = tt
-  name_mentions p (Some (Names.Function f)) h = tt
-  name_mentions p (Some (Names.Alias q)) h = tt
-  name_mentions p (Some Names.Task) h = tt
-  name_mentions p (Some (Names.Mutex m)) h = tt
-  name_mentions p (Some (Names.Enumerator z)) h = tt
+  name_mentions p _ h = tt
 
   pub constant_mentions : (k : IntConstant) (p : Place) → Gives (Rules.constant_rules k p)
   constant_mentions k p = on_row_unless (λ (t : IntType). Unit {0}) Says (Rules.constant_type k) Kinds.Unsupported p _ (some_any (Rules.constant_type k)) (λ t i. tt)
@@ -137,24 +131,14 @@ module _ (o : ℕ → Bool) (c : List ℕ) where
   input_mentions p x y = on_row Says (not (int_le x y)) Kinds.NotConstant p (made (an_input_value x y p) (Sorts.Integer Ints.Int Folds.Unbuilt) p) (λ e. in_order (int_le x y) e)
 
   pub islocked_mentions : (p q : Place) (n : Option Named) → Gives (Rules.islocked_rules p q n)
-  islocked_mentions p q None = tt
   islocked_mentions p q (Some (Names.Mutex m)) = tt
-  islocked_mentions p q (Some (Names.Object x y)) = tt
-  islocked_mentions p q (Some (Names.Function f)) = tt
-  islocked_mentions p q (Some (Names.Alias x)) = tt
-  islocked_mentions p q (Some Names.Task) = tt
-  islocked_mentions p q (Some (Names.Enumerator z)) = tt
+  islocked_mentions p q _ = tt
 
   -- ## Unary operators
 
   address_value_mentions : (l : LvalueTree) (p : Place) → LvalueMentions o c l → Mentions o c (Rules.address_value l p)
-  address_value_mentions (a_pointed e t q) p h = h
-  address_value_mentions (a_pointed_element e i k t q) p h = h
-  address_value_mentions (an_element l i n k q) p h = h
   address_value_mentions (an_object (Objects.Static k) q) p h = h
-  address_value_mentions (an_object (Objects.Local k) q) p h = h
-  address_value_mentions (an_arrow e t k q) p h = h
-  address_value_mentions (a_part l k q) p h = h
+  address_value_mentions _ p h = h
 
   pub address_mentions : (p : Place) (a : OperandTree) → Says a → Gives (Rules.address_rules p a)
   address_mentions p (a_value v) h = tt
@@ -162,47 +146,32 @@ module _ (o : ℕ → Bool) (c : List ℕ) where
 
   pub dereference_mentions : (scope : Scope) (p : Place) (v : Rated) (s : Sort) → Mentions o c v.value → Gives (Rules.dereference_rules scope p v s)
   dereference_mentions scope p v (Sorts.Pointer q) h = on_row Says (not (is_complete scope q.number)) Kinds.Mismatch p _ (λ e. h)
-  dereference_mentions scope p v (Sorts.Integer t f) h = tt
-  dereference_mentions scope p v Sorts.Null h = tt
-  dereference_mentions scope p v (Sorts.Structure k) h = tt
-  dereference_mentions scope p v Sorts.Nothing h = tt
+  dereference_mentions scope p v _ h = tt
 
   pub not_mentions : (p : Place) (v : Rated) → Mentions o c v.value → Gives (Rules.not_rules p v)
   not_mentions p v h = on_row Says (not (is_condition v.sort)) Kinds.Mismatch p _ (λ e. truth_mentions (Rules.not_fold (fold_of v.sort)) (a_not v.value p) p h)
 
   pub minus_mentions : (p : Place) (v : Rated) (s : Sort) → Mentions o c v.value → Gives (Rules.minus_rules p v s)
   minus_mentions p v (Sorts.Integer t f) h =
-      let u : IntType = promoted_type t in integer_mentions u (Rules.minus_fold u f) (a_unary Unaries.Negate u (converted t u v) p) p (converted_mentions t u v h)
-  minus_mentions p v (Sorts.Pointer q) h = tt
-  minus_mentions p v Sorts.Null h = tt
-  minus_mentions p v (Sorts.Structure k) h = tt
-  minus_mentions p v Sorts.Nothing h = tt
+      let u : IntType = promoted_type t in integer_mentions u (Rules.minus_fold u f) (a_unary Unaries.Negate u (converted t u v) p) p (negate_works u, converted_mentions t u v h)
+  minus_mentions p v _ h = tt
 
   pub complement_mentions : (p : Place) (v : Rated) (s : Sort) → Mentions o c v.value → Gives (Rules.complement_rules p v s)
   complement_mentions p v (Sorts.Integer t f) h =
-      let u : IntType = promoted_type t in integer_mentions u (Rules.complement_fold u f) (a_unary Unaries.Complement u (converted t u v) p) p (converted_mentions t u v h)
-  complement_mentions p v (Sorts.Pointer q) h = tt
-  complement_mentions p v Sorts.Null h = tt
-  complement_mentions p v (Sorts.Structure k) h = tt
-  complement_mentions p v Sorts.Nothing h = tt
+      let u : IntType = promoted_type t in integer_mentions u (Rules.complement_fold u f) (a_unary Unaries.Complement u (converted t u v) p) p (promoted_works t, converted_mentions t u v h)
+  complement_mentions p v _ h = tt
 
   pub plus_mentions : (p : Place) (v : Rated) (s : Sort) → Mentions o c v.value → Gives (Rules.plus_rules p v s)
   plus_mentions p v (Sorts.Integer t f) h =
       let u : IntType = promoted_type t in integer_mentions u f (the_same (converted t u v) p) p (converted_mentions t u v h)
-  plus_mentions p v (Sorts.Pointer q) h = tt
-  plus_mentions p v Sorts.Null h = tt
-  plus_mentions p v (Sorts.Structure k) h = tt
-  plus_mentions p v Sorts.Nothing h = tt
+  plus_mentions p v _ h = tt
 
   pub sizeof_type_mentions : (scope : Scope) (p : Place) (n : ℕ) → Gives (Rules.sizeof_type_rules scope p n)
   sizeof_type_mentions scope p n = on_row Says (not (is_complete scope n)) Kinds.Mismatch p _ (λ e. tt)
 
   sizeof_sort_mentions : (scope : Scope) (p : Place) (s : Sort) → Gives (Rules.sizeof_sort scope p s)
   sizeof_sort_mentions scope p (Sorts.Integer t f) = tt
-  sizeof_sort_mentions scope p (Sorts.Pointer q) = tt
-  sizeof_sort_mentions scope p Sorts.Null = tt
-  sizeof_sort_mentions scope p (Sorts.Structure k) = tt
-  sizeof_sort_mentions scope p Sorts.Nothing = tt
+  sizeof_sort_mentions scope p _ = tt
 
   pub sizeof_mentions : (scope : Scope) (p : Place) (a : OperandTree) → Gives (Rules.sizeof_rules scope p a)
   sizeof_mentions scope p (an_lvalue l q) = sizeof_type_mentions scope p q.number
@@ -234,18 +203,11 @@ module _ (o : ℕ → Bool) (c : List ℕ) where
   paired_mention scope l (Sorts.Pointer q) r (Sorts.Pointer s) h k = pair_chosen (is_same_type scope q.number s.number) (two l.value r.value (Sorts.Pointer (qualified_as q s))) (h, k)
   paired_mention scope l (Sorts.Pointer q) r (Sorts.Integer t f) h k = pair_chosen (is_null (Sorts.Integer t f)) (two l.value (a_null r.place) (Sorts.Pointer q)) (h, tt)
   paired_mention scope l (Sorts.Pointer q) r Sorts.Null h k = (h, tt)
-  paired_mention scope l (Sorts.Pointer q) r (Sorts.Structure n) h k = tt
-  paired_mention scope l (Sorts.Pointer q) r Sorts.Nothing h k = tt
   paired_mention scope l Sorts.Null r (Sorts.Pointer q) h k = (tt, k)
   paired_mention scope l Sorts.Null r (Sorts.Integer t f) h k = pair_chosen (is_null (Sorts.Integer t f)) (two l.value (a_null r.place) Sorts.Null) (h, tt)
   paired_mention scope l Sorts.Null r Sorts.Null h k = (h, tt)
-  paired_mention scope l Sorts.Null r (Sorts.Structure n) h k = tt
-  paired_mention scope l Sorts.Null r Sorts.Nothing h k = tt
   paired_mention scope l (Sorts.Integer t f) r (Sorts.Pointer q) h k = pair_chosen (is_null (Sorts.Integer t f)) (two (a_null l.place) r.value (Sorts.Pointer q)) (tt, k)
   paired_mention scope l (Sorts.Integer t f) r Sorts.Null h k = pair_chosen (is_null (Sorts.Integer t f)) (two (a_null l.place) r.value Sorts.Null) (tt, k)
-  paired_mention scope l (Sorts.Integer t f) r (Sorts.Integer u g) h k = tt
-  paired_mention scope l (Sorts.Integer t f) r (Sorts.Structure n) h k = tt
-  paired_mention scope l (Sorts.Integer t f) r Sorts.Nothing h k = tt
   paired_mention scope l (Sorts.Structure n) r t h k = structure_mentions t
     where
       structure_mentions : (t : Sort) → OnSome Both (paired scope l (Sorts.Structure n) r t)
@@ -262,6 +224,7 @@ module _ (o : ℕ → Bool) (c : List ℕ) where
       nothing_mentions (Sorts.Integer u g) = tt
       nothing_mentions (Sorts.Structure m) = tt
       nothing_mentions Sorts.Nothing = tt
+  paired_mention scope l _ r _ h k = tt
 
   equality_mentions : (scope : Scope) (b : Bool) (p : Place) (l r : Rated) → Mentions o c l.value → Mentions o c r.value → Gives (Rules.equality_rules scope b p l r)
   equality_mentions scope b p l r h k = on_row_unless Both Says (paired scope l l.sort r r.sort) Kinds.Mismatch p _ (paired_mention scope l l.sort r r.sort h k) (λ x i. i)
@@ -280,14 +243,8 @@ module _ (o : ℕ → Bool) (c : List ℕ) where
 
   difference_mentions : (scope : Scope) (p : Place) (l : Rated) (s : Sort) (r : Rated) (t : Sort) → Mentions o c l.value → Mentions o c r.value → Gives (Rules.difference_rules scope p l s r t)
   difference_mentions scope p l (Sorts.Pointer q) r (Sorts.Integer t f) h k = move_mentions scope true false p l q r h k
-  difference_mentions scope p l (Sorts.Pointer q) r (Sorts.Pointer s) h k = tt
-  difference_mentions scope p l (Sorts.Pointer q) r Sorts.Null h k = tt
-  difference_mentions scope p l (Sorts.Pointer q) r (Sorts.Structure n) h k = tt
-  difference_mentions scope p l (Sorts.Pointer q) r Sorts.Nothing h k = tt
   difference_mentions scope p l Sorts.Null r t h k = refusal_mentions (is_pointer t) p
-  difference_mentions scope p l (Sorts.Integer u f) r t h k = tt
-  difference_mentions scope p l (Sorts.Structure n) r t h k = tt
-  difference_mentions scope p l Sorts.Nothing r t h k = tt
+  difference_mentions scope p l _ r _ h k = tt
 
   order_mentions : (p : Place) (s t : Sort) → Gives (Rules.order_rules p s t)
   order_mentions p s t = refusal_mentions (is_pointer s && is_pointer t) p
@@ -339,12 +296,7 @@ module _ (o : ℕ → Bool) (c : List ℕ) where
   conditional_sorts_mention scope p x a (Sorts.Structure k) b t h i j = paired_choice scope p x a (Sorts.Structure k) b t h i j
   conditional_sorts_mention scope p x a (Sorts.Integer t f) b (Sorts.Pointer q) h i j = paired_choice scope p x a (Sorts.Integer t f) b (Sorts.Pointer q) h i j
   conditional_sorts_mention scope p x a (Sorts.Integer t f) b Sorts.Null h i j = paired_choice scope p x a (Sorts.Integer t f) b Sorts.Null h i j
-  conditional_sorts_mention scope p x a (Sorts.Integer t f) b (Sorts.Structure k) h i j = tt
-  conditional_sorts_mention scope p x a (Sorts.Integer t f) b Sorts.Nothing h i j = tt
-  conditional_sorts_mention scope p x a Sorts.Nothing b (Sorts.Pointer q) h i j = tt
-  conditional_sorts_mention scope p x a Sorts.Nothing b Sorts.Null h i j = tt
-  conditional_sorts_mention scope p x a Sorts.Nothing b (Sorts.Integer t f) h i j = tt
-  conditional_sorts_mention scope p x a Sorts.Nothing b (Sorts.Structure k) h i j = tt
+  conditional_sorts_mention scope p x a _ b _ h i j = tt
 
   pub conditional_mentions : (scope : Scope) (p : Place) (x a b : Rated) → Mentions o c x.value → Mentions o c a.value → Mentions o c b.value → Gives (Rules.conditional_rules scope p x a b)
   conditional_mentions scope p x a b h i j = on_row Says (not (is_condition x.sort)) Kinds.Mismatch p _ (λ e. conditional_sorts_mention scope p x a a.sort b b.sort h i j)
@@ -372,16 +324,11 @@ module _ (o : ℕ → Bool) (c : List ℕ) where
   step_by_mentions : (scope : Scope) (step : Step) (p : Place) (l : LvalueTree) (q : Qualified) (e : TypeEntry) (t : CType) → LvalueMentions o c l → Gives (Rules.step_by scope step p l q e t)
   step_by_mentions scope step p l q e (Types.Int t) h = on_row Says q.constant Kinds.NotLvalue p _ (λ x. h)
   step_by_mentions scope step p l q e (Types.Pointer r) h = on_row Says (not (is_complete scope r.number)) Kinds.Mismatch p _ (λ x. on_row Says q.constant Kinds.NotLvalue p _ (λ y. h))
-  step_by_mentions scope step p l q e Types.Void h = tt
-  step_by_mentions scope step p l q e (Types.Array f n) h = tt
-  step_by_mentions scope step p l q e (Types.Struct k) h = tt
+  step_by_mentions scope step p l q e _ h = tt
 
   step_value_mentions : (scope : Scope) (p : Place) (s : Sort) → Gives (Rules.step_value scope p s)
   step_value_mentions scope p (Sorts.Pointer q) = on_row Says (not (is_complete scope q.number)) Kinds.Mismatch p _ (λ x. tt)
-  step_value_mentions scope p Sorts.Null = tt
-  step_value_mentions scope p (Sorts.Integer t f) = tt
-  step_value_mentions scope p (Sorts.Structure k) = tt
-  step_value_mentions scope p Sorts.Nothing = tt
+  step_value_mentions scope p _ = tt
 
   pub step_mentions : (scope : Scope) (step : Step) (p : Place) (a : OperandTree) → Says a → Gives (Rules.step_rules scope step p a)
   step_mentions scope step p (an_lvalue l q) h = step_by_mentions scope step p l q (entry scope q.number) (ctype_of scope q.number) h
@@ -402,9 +349,7 @@ module _ (o : ℕ → Bool) (c : List ℕ) where
   compound_by_mentions : (scope : Scope) (op : BinOp) (p : Place) (l : LvalueTree) (q : Qualified) (v : Rated) (e : TypeEntry) (t : CType) → LvalueMentions o c l → Mentions o c v.value → Gives (Rules.compound_by scope op p l q v e t)
   compound_by_mentions scope op p l q v e (Types.Int t) h k = compound_integer_mentions op p l q t v v.sort h k
   compound_by_mentions scope op p l q v e (Types.Pointer r) h k = compound_pointer_mentions scope op p l q e.class r v v.sort h k
-  compound_by_mentions scope op p l q v e Types.Void h k = tt
-  compound_by_mentions scope op p l q v e (Types.Array f n) h k = tt
-  compound_by_mentions scope op p l q v e (Types.Struct n) h k = tt
+  compound_by_mentions scope op p l q v e _ h k = tt
 
   compound_value_mentions : (scope : Scope) (op : BinOp) (p : Place) (s t : Sort) → Gives (Rules.compound_value scope op p s t)
   compound_value_mentions scope op p (Sorts.Integer t f) s = on_row Says (not (is_integer s)) Kinds.Mismatch p _ (λ x. tt)
@@ -431,10 +376,7 @@ module _ (o : ℕ → Bool) (c : List ℕ) where
   cast_integer_mentions p t b v (Sorts.Integer from f) h =
       let e : RvalueTree = a_conversion from t v.value p in
       integer_mentions t (fold_converted t f) (Rules.cast_form b e p) p (cast_form_mentions b e p h)
-  cast_integer_mentions p t b v (Sorts.Pointer q) h = tt
-  cast_integer_mentions p t b v Sorts.Null h = tt
-  cast_integer_mentions p t b v (Sorts.Structure k) h = tt
-  cast_integer_mentions p t b v Sorts.Nothing h = tt
+  cast_integer_mentions p t b v _ h = tt
 
   null_or : (b : Bool) (p : Place) (s : Sort) (r : Result OperandTree Refusal) → Gives r → Gives (cond b (made (a_null p) s p) r)
   null_or true p s r h = tt
@@ -445,9 +387,7 @@ module _ (o : ℕ → Bool) (c : List ℕ) where
       on_row_unless (Mentions o c) Says (pointer_given scope q v (Sorts.Pointer r)) Kinds.Unsupported p _
       (chosen_mentions (is_taken scope q (Sorts.Pointer r)) v.value h) (λ e i. i)
   cast_pointer_mentions scope p q v (Sorts.Integer t f) h = null_or (is_null (Sorts.Integer t f)) p (Sorts.Pointer q) _ tt
-  cast_pointer_mentions scope p q v Sorts.Null h = tt
-  cast_pointer_mentions scope p q v (Sorts.Structure k) h = tt
-  cast_pointer_mentions scope p q v Sorts.Nothing h = tt
+  cast_pointer_mentions scope p q v _ h = tt
 
   cast_by_mentions : (scope : Scope) (p : Place) (b : Bool) (v : Rated) (t : CType) → Mentions o c v.value → Gives (Rules.cast_by scope p b v t)
   cast_by_mentions scope p b v Types.Void h = h
@@ -491,28 +431,19 @@ module _ (o : ℕ → Bool) (c : List ℕ) where
 
   pub call_mentions : (scope : Scope) (p : Place) (site : ℕ) (vs : List Rated) (n : Named) → IsCalled site n → RatedMention vs → Gives (Rules.call_rules scope p site vs n)
   call_mentions scope p site vs (Names.Function f) e h = function_mentions scope p f site vs (slice_get scope.functions f) e h
-  call_mentions scope p site vs Names.Task e h = tt
-  call_mentions scope p site vs (Names.Object x q) e h = tt
-  call_mentions scope p site vs (Names.Alias q) e h = tt
-  call_mentions scope p site vs (Names.Mutex m) e h = tt
-  call_mentions scope p site vs (Names.Enumerator z) e h = tt
+  call_mentions scope p site vs _ e h = tt
 
   -- ## Subscripts and members
 
   pointer_subscript_mentions : (scope : Scope) (p : Place) (e : Rated) (s : Sort) (i : Rated) → Mentions o c e.value → Mentions o c i.value → Gives (Rules.pointer_subscript scope p e s i)
   pointer_subscript_mentions scope p e (Sorts.Pointer q) i h k = on_row Says (not (is_integer i.sort && is_complete scope q.number)) Kinds.Mismatch p _ (λ x. (h, k))
-  pointer_subscript_mentions scope p e (Sorts.Integer t f) i h k = tt
-  pointer_subscript_mentions scope p e Sorts.Null i h k = tt
-  pointer_subscript_mentions scope p e (Sorts.Structure n) i h k = tt
-  pointer_subscript_mentions scope p e Sorts.Nothing i h k = tt
+  pointer_subscript_mentions scope p e _ i h k = tt
 
   lvalue_subscript_mentions : (scope : Scope) (p : Place) (l : LvalueTree) (q : Qualified) (i : Rated) (t : CType) → LvalueMentions o c l → Mentions o c i.value → Gives (Rules.lvalue_subscript scope p l q i t)
   lvalue_subscript_mentions scope p l q i (Types.Array e n) h k = on_row Says (not (is_integer i.sort)) Kinds.Mismatch p _ (λ x. (h, k))
-  lvalue_subscript_mentions scope p l q i Types.Void h k = tt
-  lvalue_subscript_mentions scope p l q i (Types.Int t) h k = tt
   lvalue_subscript_mentions scope p l q i (Types.Pointer r) h k =
       pointer_subscript_mentions scope p (loaded scope l q (Types.Pointer r)) (Sorts.Pointer r) i (refl, h) k
-  lvalue_subscript_mentions scope p l q i (Types.Struct n) h k = tt
+  lvalue_subscript_mentions scope p l q i _ h k = tt
 
   pub subscript_mentions : (scope : Scope) (p : Place) (a : OperandTree) (i : Rated) → Says a → Mentions o c i.value → Gives (Rules.subscript_rules scope p a i)
   subscript_mentions scope p (an_lvalue l q) i h k = lvalue_subscript_mentions scope p l q i (ctype_of scope q.number) h k
@@ -522,10 +453,7 @@ module _ (o : ℕ → Bool) (c : List ℕ) where
   dot_by_mentions scope p l q n np (Types.Struct k) h =
       on_row_unless (λ (m : Member). Unit {0}) Says (member_of scope k n) Kinds.Undeclared np _ (some_any (member_of scope k n)) (λ m i.
       on_row Says (Rules.is_volatile_pointer scope (Rules.member_type q m.part)) Kinds.Unsupported p _ (λ e. h))
-  dot_by_mentions scope p l q n np Types.Void h = tt
-  dot_by_mentions scope p l q n np (Types.Int t) h = tt
-  dot_by_mentions scope p l q n np (Types.Pointer t) h = tt
-  dot_by_mentions scope p l q n np (Types.Array e k) h = tt
+  dot_by_mentions scope p l q n np _ h = tt
 
   pub dot_mentions : (scope : Scope) (p : Place) (a : OperandTree) (n : Name) (np : Place) → Says a → Gives (Rules.dot_rules scope p a n np)
   dot_mentions scope p (an_lvalue l q) n np h = dot_by_mentions scope p l q n np (ctype_of scope q.number) h
@@ -535,14 +463,8 @@ module _ (o : ℕ → Bool) (c : List ℕ) where
   arrow_by_mentions scope p v q n np (Types.Struct k) h =
       on_row_unless (λ (m : Member). Unit {0}) Says (member_of scope k n) Kinds.Undeclared np _ (some_any (member_of scope k n)) (λ m i.
       on_row Says (Rules.is_volatile_pointer scope (Rules.member_type q m.part)) Kinds.Unsupported p _ (λ e. h))
-  arrow_by_mentions scope p v q n np Types.Void h = tt
-  arrow_by_mentions scope p v q n np (Types.Int t) h = tt
-  arrow_by_mentions scope p v q n np (Types.Pointer t) h = tt
-  arrow_by_mentions scope p v q n np (Types.Array e k) h = tt
+  arrow_by_mentions scope p v q n np _ h = tt
 
   pub arrow_mentions : (scope : Scope) (p : Place) (v : Rated) (s : Sort) (n : Name) (np : Place) → Mentions o c v.value → Gives (Rules.arrow_rules scope p v s n np)
   arrow_mentions scope p v (Sorts.Pointer q) n np h = arrow_by_mentions scope p v q n np (ctype_of scope q.number) h
-  arrow_mentions scope p v (Sorts.Integer t f) n np h = tt
-  arrow_mentions scope p v Sorts.Null n np h = tt
-  arrow_mentions scope p v (Sorts.Structure k) n np h = tt
-  arrow_mentions scope p v Sorts.Nothing n np h = tt
+  arrow_mentions scope p v _ n np h = tt

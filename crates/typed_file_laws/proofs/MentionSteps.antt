@@ -319,9 +319,7 @@ module _ (o : ℕ → Bool) (c : List ℕ) where
   local_rules_locate s (Some Storages.Typedef) d = none_located s (typedef_rules s d) (same_quiet s (typedef_rules s d) (typedef_same s s d refl))
   local_rules_locate s (Some Storages.Extern) d = none_located s (extern_object s d) (extern_quiet s d)
   local_rules_locate s (Some Storages.Static) d = none_located s (static_object s d) (static_object_quiet s d)
-  local_rules_locate s (Some Storages.Register) d = local_locates s d
-  local_rules_locate s (Some Storages.Auto) d = local_locates s d
-  local_rules_locate s None d = local_locates s d
+  local_rules_locate s _ d = local_locates s d
 
   locates_on : (s t : State) (P : Type 0) (r : Result Locals Refusal) → Spends s t P → OnAnswer (λ (a : Locals). Spends t a.1 (P → LocalsMention a.0)) r → OnAnswer (Locates s) r
   locates_on s t P r a h = answer_weaker (λ (x : Locals). Spends t x.1 (P → LocalsMention x.0)) (Locates s) r (λ x b. spends_on s t x.1 P (P → LocalsMention x.0) (LocalsMention x.0) a b (λ p f. f p)) h
@@ -380,10 +378,7 @@ module _ (o : ℕ → Bool) (c : List ℕ) where
 
   selected : (p : Place) (v : Rated) (u : Sort) (s t : State) → Spends s t (Mentions o c v.value) → OnAnswer (λ (x : Selector). Spends s t (Mentions o c x.value)) (selector_rules p v u)
   selected p v (Sorts.Integer t f) s u h = spends_weaker s u (Mentions o c v.value) (Mentions o c (let x : Selector = record { works_in = promoted_type t; value = converted t (promoted_type t) v } in x.value)) h (converted_mentions o c t (promoted_type t) v)
-  selected p v (Sorts.Pointer q) s u h = tt
-  selected p v Sorts.Null s u h = tt
-  selected p v (Sorts.Structure k) s u h = tt
-  selected p v Sorts.Nothing s u h = tt
+  selected p v _ s u h = tt
 
   selector_selects : (s : State) (t : Tree) → OnAnswer (Selects s) (selector_in s t)
   selector_selects s t = typed_on s t (Selects s) _ (λ a h.

@@ -1,6 +1,6 @@
 -- A typed expression mentions what its text uses, and its calls stand at their sites.
 use Rattle.std.proofs.Common.{◌≡◌, ℕ, suc, List, [], ◌∷◌, ◌++◌, refl, subst, arith}
-use Rattle.std.specs.Prelude.{◌+◌, Bool, true, false, slice_get, Option, Some, None, Result, Ok, Err}
+use Rattle.std.specs.Prelude.{◌+◌, Bool, true, false, slice_get, Option, Some, Result, Ok, Err}
 use Rattle.tm_laid.specs.tm_cint.declared.operators.BinOp.TheVariants as Ops
 use Rattle.tm_laid.specs.tm_terms.declared.places.Place.{Place}
 use Rattle.tm_laid.specs.tm_terms.declared.tokens.Name.{Name}
@@ -77,24 +77,12 @@ pub at_site : (o : ℕ → Bool) (c : List ℕ) (m n : ℕ) (us : List Use) → 
 at_site o c m n us e h = let P : ℕ → Type 0 = λ j. UsesStand o c j us in subst P e h
 
 named_count : (p : Place) (n : Option Named) → call_count (named_use p n) ≡ 0
-named_count p None = refl
 named_count p (Some (Names.Object (Objects.Static k) q)) = omega arith
-named_count p (Some (Names.Object (Objects.Local k) q)) = refl
-named_count p (Some (Names.Function f)) = refl
-named_count p (Some (Names.Alias q)) = refl
-named_count p (Some Names.Task) = refl
-named_count p (Some (Names.Mutex m)) = refl
-named_count p (Some (Names.Enumerator z)) = refl
+named_count p _ = refl
 
 named_stands : (o : ℕ → Bool) (c : List ℕ) (site : ℕ) (p : Place) (n : Option Named) → UsesStand o c site (named_use p n) → IsNamed o c n
-named_stands o c site p None h = tt
 named_stands o c site p (Some (Names.Object (Objects.Static k) q)) h = h.0
-named_stands o c site p (Some (Names.Object (Objects.Local k) q)) h = tt
-named_stands o c site p (Some (Names.Function f)) h = tt
-named_stands o c site p (Some (Names.Alias q)) h = tt
-named_stands o c site p (Some Names.Task) h = tt
-named_stands o c site p (Some (Names.Mutex m)) h = tt
-named_stands o c site p (Some (Names.Enumerator z)) h = tt
+named_stands o c site p _ h = tt
 
 -- what follows of each answer follows of the answer
 under : {A : Type 0} (U : Type 0) (P : A → Type 0) (r : Result A Refusal) → (U → OnAnswer P r) → OnAnswer (λ a. U → P a) r
@@ -190,9 +178,6 @@ module _ (o : ℕ → Bool) (c : List ℕ) (types : CastTypes) (scope : Scope) w
   -- a call, of what the name names
   call_told : (site : ℕ) (p : Place) (x : Option Named) (us : List Use) (n : ℕ) (r : Result (List Rated) Refusal) → OnAnswer (AllTold (suc site) us n) r
       → OnAnswer (Told site (called_use p x ++ us) (suc n)) (then_with (callee p x) (λ g. then_with r (λ vs. call_rules scope p site vs g)))
-  call_told site p None us n r h = tt
-  call_told site p (Some (Names.Alias q)) us n r h = tt
-  call_told site p (Some (Names.Mutex m)) us n r h = tt
   call_told site p (Some (Names.Object y q)) us n r h = then_any (Told site us (suc n)) r (λ vs. call_rules scope p site vs (Names.Object y q)) (λ vs. tt)
   call_told site p (Some Names.Task) us n r h = then_any (Told site us (suc n)) r (λ vs. call_rules scope p site vs Names.Task) (λ vs. tt)
   call_told site p (Some (Names.Enumerator z)) us n r h = then_any (Told site us (suc n)) r (λ vs. call_rules scope p site vs (Names.Enumerator z)) (λ vs. tt)
@@ -200,6 +185,7 @@ module _ (o : ℕ → Bool) (c : List ℕ) (types : CastTypes) (scope : Scope) w
       then_on (AllTold (suc site) us n) (Told site (called_use p (Some (Names.Function f)) ++ us) (suc n)) r (λ vs. call_rules scope p site vs (Names.Function f)) h (λ vs k.
       tells site (called_use p (Some (Names.Function f)) ++ us) (suc n) (call_rules scope p site vs (Names.Function f)) (let e = k.0 in omega (arith, e)) (λ u.
       call_mentions o c scope p site vs (Names.Function f) u.0 (k.1 (at_site o c (site + 1) (suc site) us (omega arith) u.1))))
+  call_told site p _ us n r h = tt
 
   mutual
     pub typing_told : (site : ℕ) (t : Tree) → OnAnswer (Told site (uses_of scope t) (calls t)) (typing types scope site t)

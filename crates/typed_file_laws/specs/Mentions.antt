@@ -1,6 +1,10 @@
 -- What typed trees mention: the objects of static storage that they name, the functions that they call, what they load
--- as volatile, and the bounds of their inputs.
+-- as volatile, the types in which they complement, and the bounds of their inputs.
 use Rattle.std.specs.Prelude.{◌≡◌, ℕ, Bool, true, false, int_le, List, All, slice_get, Option, Some, None}
+use Rattle.tm_laid.specs.tm_cint.declared.int_types.IntType.{IntType}
+use Rattle.tm_laid.specs.tm_cint.declared.int_types.IntType.TheVariants as Ints
+use Rattle.tm_laid.specs.tm_typed.declared.expressions.Unary.{Unary}
+use Rattle.tm_laid.specs.tm_typed.declared.expressions.Unary.TheVariants.{Complement}
 use Rattle.tm_laid.specs.tm_typed.declared.types.Scalar.{Scalar}
 use Rattle.tm_laid.specs.tm_typed.declared.types.Scalar.TheVariants as Scalars
 use Rattle.tm_laid.specs.tm_typed.declared.scopes.ObjectNumber.TheVariants as Objects
@@ -30,9 +34,14 @@ abbrev pub MayLoad : Scalar → Bool → Type 0
 MayLoad (Scalars.Int t) volatile = Unit {0}
 MayLoad (Scalars.Pointer class) volatile = volatile ≡ false
 
+-- the operator, if it is `~`, does not work in `_Bool` (C99 6.5.3.3: its operand is promoted)
+abbrev pub WorksIn : Unary → IntType → Type 0
+WorksIn operator of = operator ≡ Complement → of ≡ Ints.Bool → ⊥
+
 abbrev mutual
   -- Each object of static storage that is named passes the test, the call with this site calls the function that stands
-  -- there in the list, no pointer is loaded as volatile, and the bounds of each input are in order.
+  -- there in the list, no pointer is loaded as volatile, each operator works in such a type, and the bounds of each
+  -- input are in order.
   pub Mentions : (ℕ → Bool) → List ℕ → RvalueTree → Type 0
   Mentions o c (a_constant t z p) = Unit {0}
   Mentions o c (a_folded z e) = Mentions o c e
@@ -41,7 +50,7 @@ abbrev mutual
   Mentions o c (an_address l p) = LvalueMentions o c l
   Mentions o c (a_structure l) = LvalueMentions o c l
   Mentions o c (the_same e p) = Mentions o c e
-  Mentions o c (a_unary u t e p) = Mentions o c e
+  Mentions o c (a_unary u t e p) = WorksIn u t × Mentions o c e
   Mentions o c (a_binary u t l r p) = Mentions o c l × Mentions o c r
   Mentions o c (a_comparison_of_pointers b l r p) = Mentions o c l × Mentions o c r
   Mentions o c (a_move m n f e i p) = Mentions o c e × Mentions o c i

@@ -1,4 +1,5 @@
--- Calls stand at their sites, what bodies name is defined, and what they load and choose can be answered.
+-- Calls stand at their sites, what bodies name is defined, what they complement is promoted, and what they load and
+-- choose can be answered.
 use Rattle.std.specs.Prelude.{◌≡◌, ℕ, Bool, true, is_some, List, All, get_or, Option, Some, Ok}
 use Rattle.tm_laid.specs.tm_terms.declared.tokens.Name.{Name}
 use Rattle.tm_laid.specs.tm_trees.FileTrees.{ItemTree}
@@ -21,7 +22,7 @@ is_defined_function file k = is_some (function_of_file file k).body
 
 -- Each call in the body of the function k calls the function that stands at its site among those that k calls, all of
 -- which the file defines; and so it does all objects of static storage that the body names. The body loads no pointer
--- as volatile, and the bounds of its inputs are in order.
+-- as volatile, no `~` of it works in `_Bool`, and the bounds of its inputs are in order.
 abbrev pub SitesStand : Type 0
 SitesStand =
     (main : Option Name) (items : List ItemTree) (file : TypedFileTree) → IsTyped main items (Ok file)

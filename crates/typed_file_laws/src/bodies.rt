@@ -16,7 +16,7 @@ pub fn numbers_are_of_integer_types()
 
 /// Each call in the body of a function calls the function that stands at its site among those that the function calls,
 /// and the file defines all of these, and all objects of static storage that the body names. No pointer is loaded as
-/// volatile, and the bounds of each `__input` are in order.
+/// volatile, each `~` works in another type than `_Bool`, and the bounds of each `__input` are in order.
 pub fn calls_stand_at_their_sites()
     ensures { SitesStand }
 {}

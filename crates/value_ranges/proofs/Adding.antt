@@ -7,13 +7,13 @@ use Rattle.tm_terms.specs.declared.places.Place.{Place}
 use Rattle.flow_graph.specs.declared.graphs.Edge.{Edge}
 use Rattle.flow_graph.specs.declared.graphs.Graph.{Graph}
 use Rattle.mutex_configs.specs.declared.nodes.ConfiguredGraph.{ConfiguredGraph}
-use Rattle.post_recheck.specs.program_equations.Solutions.{table_at}
+use Rattle.program_reports.specs.post_recheck.program_equations.Solutions.{table_at}
 use Rattle.flow_graph.specs.declared.operations.Operation.{Operation}
 use Rattle.flow_graph.specs.Graphs.{Edges}
 use Rattle.mutex_configs.specs.declared.nodes.EdgeCopy.{EdgeCopy}
-use Rattle.post_recheck.specs.transfer_rows.StateForms.{State}
-use Rattle.post_recheck.specs.table_covers.Solutions.{at}
-use Rattle.post_recheck.specs.task_equations.Bodies.{no_edge, no_copy}
+use Rattle.program_reports.specs.post_recheck.transfer_rows.StateForms.{State}
+use Rattle.program_reports.specs.post_recheck.table_covers.Solutions.{at}
+use Rattle.program_reports.specs.post_recheck.task_equations.Bodies.{no_edge, no_copy}
 use Rattle.place_lists.specs.Order.{AreInOrder}
 use Rattle.value_ranges.specs.Places.{ReachesAt}
 use Rattle.value_ranges.specs.reading.Notes.{Below}

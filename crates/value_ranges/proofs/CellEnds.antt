@@ -6,10 +6,10 @@ use Rattle.std.specs.Int.Signed.{≤ℤ_refl}
 use Rattle.std.proofs.lemmas.Int.{ints}
 use Rattle.tm_laid.specs.Layouts.{LaidTree, abstract_at}
 use Rattle.interfere_set.specs.Stores.{Interferences}
-use Rattle.post_recheck.specs.transfer_rows.StateForms.{State}
-use Rattle.post_recheck.specs.program_equations.Readings.{read_layout}
-use Rattle.post_recheck.specs.program_equations.Programs.{ProgramBodies}
-use Rattle.post_recheck.specs.program_equations.Solutions.{tables_of}
+use Rattle.program_reports.specs.post_recheck.transfer_rows.StateForms.{State}
+use Rattle.program_reports.specs.post_recheck.program_equations.Readings.{read_layout}
+use Rattle.program_reports.specs.post_recheck.program_equations.Programs.{ProgramBodies}
+use Rattle.program_reports.specs.post_recheck.program_equations.Solutions.{tables_of}
 use Rattle.value_ranges.specs.declared.object_bounds.ObjectBounds.{ObjectBounds}
 use Rattle.value_ranges.specs.declared.object_bounds.Grouping.TheVariants as Groupings
 use Rattle.value_ranges.specs.Ranges.{IsIntegerCell, IsToldNumber, IsNumberBy, IsNumberOf, AreBoundsIf, AreRanges}

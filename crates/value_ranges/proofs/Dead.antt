@@ -8,13 +8,13 @@ use Rattle.flow_graph.specs.Graphs.{Edges}
 use Rattle.mutex_configs.specs.declared.nodes.ConfiguredGraph.{ConfiguredGraph}
 use Rattle.mutex_configs.specs.declared.nodes.EdgeCopy.{EdgeCopy}
 use Rattle.mutex_configs.specs.declared.programs.Program.{Program}
-use Rattle.post_recheck.specs.task_equations.Bodies.{no_edge}
-use Rattle.post_recheck.specs.program_equations.Programs.{ProgramBodies, body_at, IsProgram}
-use Rattle.post_recheck.specs.program_equations.Solutions.{table_at, tables_of}
-use Rattle.post_recheck.specs.program_systems.Analysable.{IsAnalysable}
-use Rattle.post_recheck.specs.program_systems.ProgramFacts.{AllFacts, AreProgramFacts, program_with}
-use Rattle.post_recheck.proofs.low.program_systems.Bodies.{is_program, is_program_of, body_count}
-use Rattle.post_recheck.specs.Pairs.{Pair, FitsPair}
+use Rattle.program_reports.specs.post_recheck.task_equations.Bodies.{no_edge}
+use Rattle.program_reports.specs.post_recheck.program_equations.Programs.{ProgramBodies, body_at, IsProgram}
+use Rattle.program_reports.specs.post_recheck.program_equations.Solutions.{table_at, tables_of}
+use Rattle.program_reports.specs.post_recheck.program_systems.Analysable.{IsAnalysable}
+use Rattle.program_reports.specs.post_recheck.program_systems.ProgramFacts.{AllFacts, AreProgramFacts, program_with}
+use Rattle.program_reports.proofs.low.program_systems.Bodies.{is_program, is_program_of, body_count}
+use Rattle.program_reports.specs.post_recheck.Pairs.{Pair, FitsPair}
 use Rattle.value_ranges.specs.Places.{ReachesAt, IsReachedPlace, IsListedPlace, AreDead}
 use Rattle.value_ranges.specs.reading.Reached.{edges_at, copies_at, IsOfEdges, IsOfGraphs, IsOfCopies, IsOfTables}
 use Rattle.value_ranges.specs.reading.Reached.{AreCopiesIn, AreCopiesOf, AreDeadIn}

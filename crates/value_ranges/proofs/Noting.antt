@@ -4,8 +4,8 @@ use Rattle.std.specs.Prelude.{ℤ}
 use Rattle.std.specs.FinMap.{entries}
 use Rattle.tm_laid.specs.Layouts.{LaidTree}
 use Rattle.interfere_set.specs.Stores.{Nested}
-use Rattle.post_recheck.specs.transfer_rows.StateForms.{State, own_of}
-use Rattle.post_recheck.specs.table_covers.Solutions.{at}
+use Rattle.program_reports.specs.post_recheck.transfer_rows.StateForms.{State, own_of}
+use Rattle.program_reports.specs.post_recheck.table_covers.Solutions.{at}
 use Rattle.value_ranges.specs.declared.cells.IntegerCell.{IntegerCell}
 use Rattle.value_ranges.specs.declared.object_bounds.Grouping.{Grouping}
 use Rattle.value_ranges.specs.Ranges.{key_count}

@@ -13,12 +13,12 @@ use Rattle.tm_lattice.specs.Tables.{Table}
 use Rattle.pointer_dom.specs.Values.{Values}
 use Rattle.interfere_set.specs.Stores.{Interferences, value_or_none, left_in}
 use Rattle.interfere_set.specs.laws.Joins.{IsOf, of_entry, entry_of}
-use Rattle.post_recheck.specs.transfer_rows.StateForms.{State, own_of}
-use Rattle.post_recheck.specs.transfer_rows.Contributions.{entry_at, at_task}
-use Rattle.post_recheck.specs.table_covers.Solutions.{at}
-use Rattle.post_recheck.specs.program_equations.Readings.{read_layout}
-use Rattle.post_recheck.specs.program_equations.Programs.{ProgramBodies}
-use Rattle.post_recheck.specs.program_equations.Solutions.{table_at, tables_of}
+use Rattle.program_reports.specs.post_recheck.transfer_rows.StateForms.{State, own_of}
+use Rattle.program_reports.specs.post_recheck.transfer_rows.Contributions.{entry_at, at_task}
+use Rattle.program_reports.specs.post_recheck.table_covers.Solutions.{at}
+use Rattle.program_reports.specs.post_recheck.program_equations.Readings.{read_layout}
+use Rattle.program_reports.specs.post_recheck.program_equations.Programs.{ProgramBodies}
+use Rattle.program_reports.specs.post_recheck.program_equations.Solutions.{table_at, tables_of}
 use Rattle.value_ranges.specs.declared.object_bounds.ObjectBounds.{ObjectBounds}
 use Rattle.value_ranges.specs.declared.cells.IntegerCell.{IntegerCell}
 use Rattle.value_ranges.specs.declared.object_bounds.Grouping.{Grouping}

@@ -7,9 +7,9 @@ use Rattle.tm_terms.specs.declared.places.Place.{Place}
 use Rattle.flow_graph.specs.declared.graphs.Edge.{Edge}
 use Rattle.flow_graph.specs.declared.operations.Operation.{Operation}
 use Rattle.flow_graph.specs.declared.operations.Operation.TheVariants as Op
-use Rattle.post_recheck.specs.transfer_rows.StateForms.{State}
-use Rattle.post_recheck.specs.table_covers.Solutions.{NodeTable}
-use Rattle.post_recheck.specs.program_equations.Programs.{ProgramBodies, body_at}
+use Rattle.program_reports.specs.post_recheck.transfer_rows.StateForms.{State}
+use Rattle.program_reports.specs.post_recheck.table_covers.Solutions.{NodeTable}
+use Rattle.program_reports.specs.post_recheck.program_equations.Programs.{ProgramBodies, body_at}
 use Rattle.program_reports.specs.Reports.{operation_in, IsReachedIn}
 use Rattle.place_lists.specs.Order.{AreInOrder}
 

@@ -7,10 +7,10 @@ use Rattle.tm_laid.specs.tm_typed.declared.types.Scalar.TheVariants as Scalars
 use Rattle.tm_laid.specs.declared.objects.Initial.TheVariants as Initials
 use Rattle.tm_laid.specs.Layouts.{LaidTree, cell_at, abstract_at, is_shared}
 use Rattle.interfere_set.specs.Stores.{Interferences}
-use Rattle.post_recheck.specs.transfer_rows.StateForms.{State, own_of}
-use Rattle.post_recheck.specs.transfer_rows.Contributions.{entry_at}
-use Rattle.post_recheck.specs.table_covers.Solutions.{NodeTable}
-use Rattle.post_recheck.specs.program_equations.Programs.{ProgramBodies}
+use Rattle.program_reports.specs.post_recheck.transfer_rows.StateForms.{State, own_of}
+use Rattle.program_reports.specs.post_recheck.transfer_rows.Contributions.{entry_at}
+use Rattle.program_reports.specs.post_recheck.table_covers.Solutions.{NodeTable}
+use Rattle.program_reports.specs.post_recheck.program_equations.Programs.{ProgramBodies}
 use Rattle.value_ranges.specs.declared.object_bounds.ObjectBounds.{ObjectBounds}
 use Rattle.value_ranges.specs.declared.object_bounds.Grouping.{Grouping}
 use Rattle.value_ranges.specs.declared.object_bounds.Grouping.TheVariants as Groupings

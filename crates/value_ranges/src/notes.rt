@@ -2,8 +2,8 @@
 ghost use Rattle.std.specs.Prelude.{◌≡◌, ◌≤◌, ℕ, length, None, IfOk};
 ghost use Rattle.std.specs.FinMap.{entries};
 ghost use Rattle.tm_laid.specs.Layouts.{laid_tree};
-ghost use Rattle.post_recheck.specs.transfer_rows.StateForms.{own_of};
-ghost use Rattle.post_recheck.specs.Pairs.{lists_of};
+ghost use Rattle.program_reports.specs.post_recheck.transfer_rows.StateForms.{own_of};
+ghost use Rattle.program_reports.specs.post_recheck.Pairs.{lists_of};
 ghost use Rattle.value_ranges.specs.reading.Notes.{AreWidened, AreOfObjects, AreNotedIn, IsInValues, IsInTable};
 ghost use Rattle.value_ranges.specs.reading.Notes.{IsInTables, IsInTableOf, IsInWritten, IsInWeak, noted_at};
 
@@ -13,7 +13,7 @@ use crate::object_bounds::{Grouping, ObjectBounds};
 use cell_env::State;
 use interfere_set::Store;
 use pointer_dom::AbsValue;
-use post_recheck::{BodyState, Table};
+use program_reports::{BodyState, Table};
 use std::alloc::Global;
 use tm_laid::Laid;
 use tm_lattice::{Keyed, NoMemory};

@@ -1,7 +1,7 @@
 //! Places at which bodies read, write, lock and unlock.
 ghost use Rattle.std.specs.Prelude.{◌≡◌, ◌<◌, ◌↔◌, length, Some, IfOk, OnOk, Contains};
 ghost use Rattle.tm_terms.specs.declared.places.Place.{Place as APlace};
-ghost use Rattle.post_recheck.specs.Pairs.{lists_of};
+ghost use Rattle.program_reports.specs.post_recheck.Pairs.{lists_of};
 ghost use Rattle.value_ranges.specs.Places.{ReachesAt};
 ghost use Rattle.value_ranges.specs.reading.Reached.{AddsPlaces, IsOfEdges, IsOfGraphs, IsOfCopies, IsOfTables};
 ghost use Rattle.value_ranges.specs.reading.Reached.{AreCopiesIn, AreCopiesOf, AreLeftOut, AreDeadIn};
@@ -9,7 +9,7 @@ ghost use Rattle.value_ranges.specs.reading.Reached.{AreCopiesIn, AreCopiesOf, A
 use flow_graph::{Edge, Graph, Operation};
 use mutex_configs::{ConfiguredGraph, EdgeCopy};
 use place_lists::{has_place, in_order, push_place};
-use post_recheck::{BodyState, Table};
+use program_reports::{BodyState, Table};
 use std::alloc::Global;
 use tm_lattice::NoMemory;
 use tm_terms::Place;

@@ -3,8 +3,8 @@ use Rattle.std.specs.Prelude.{◌≡◌, ℕ, ◌<◌, length, get_or, Option, S
 use Rattle.tm_terms.specs.declared.places.Place.{Place}
 use Rattle.flow_graph.specs.declared.operations.Operation.{Operation}
 use Rattle.flow_graph.specs.declared.operations.Operation.TheVariants as Op
-use Rattle.post_recheck.specs.task_equations.Bodies.{Body, copy_at}
-use Rattle.post_recheck.specs.task_equations.Premises.{IsCopyOf}
+use Rattle.program_reports.specs.post_recheck.task_equations.Bodies.{Body, copy_at}
+use Rattle.program_reports.specs.post_recheck.task_equations.Premises.{IsCopyOf}
 use Rattle.access_groups.specs.declared.copies.TaskParts.{TaskParts}
 
 -- where an operation stands that reaches cells

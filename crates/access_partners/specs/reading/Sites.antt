@@ -6,7 +6,7 @@ use Rattle.post_recheck.specs.table_covers.Solutions.{NodeTable}
 use Rattle.post_recheck.specs.task_equations.Bodies.{Body, copy_at}
 use Rattle.post_recheck.specs.program_equations.Programs.{ProgramBodies, body_at}
 use Rattle.access_races.specs.declared.accesses.Way.{Way}
-use Rattle.program_reports.specs.reading.Found.{IsTargetIn, GivesAccess}
+use Rattle.access_groups.specs.program_reports.reading.Found.{IsTargetIn, GivesAccess}
 use Rattle.access_partners.specs.declared.site.Site.{Site}
 
 -- an access to one of these cells, at the edge

@@ -2,10 +2,10 @@
 use Rattle.std.specs.Prelude.{◌≡◌, ℕ, ◌<◌, List, [], length, map, get_or, Option, Some, None}
 use Rattle.flow_graph.specs.Operations.{used}
 use Rattle.interfere_set.specs.pointer_dom.Values.{Values, joined_values, no_value}
-use Rattle.post_recheck.specs.transfer_rows.StateForms.{State, value_of}
-use Rattle.post_recheck.specs.table_covers.Solutions.{NodeTable}
-use Rattle.post_recheck.specs.task_equations.Bodies.{Body, copy_at}
-use Rattle.post_recheck.specs.program_equations.Programs.{ProgramBodies, body_at}
+use Rattle.program_reports.specs.post_recheck.transfer_rows.StateForms.{State, value_of}
+use Rattle.program_reports.specs.post_recheck.table_covers.Solutions.{NodeTable}
+use Rattle.program_reports.specs.post_recheck.task_equations.Bodies.{Body, copy_at}
+use Rattle.program_reports.specs.post_recheck.program_equations.Programs.{ProgramBodies, body_at}
 use Rattle.program_reports.specs.reading.Found.{operation_at}
 use Rattle.alarm_contexts.specs.declared.exits.Context.{Context}
 use Rattle.alarm_contexts.specs.declared.flaws.ObjectFlaw.{ObjectFlaw}

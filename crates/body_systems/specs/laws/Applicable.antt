@@ -16,8 +16,8 @@ use Rattle.flow_graph.specs.concrete_values.declared.values.Value.TheVariants.{N
 use Rattle.flow_graph.specs.declared.operations.Operation.{Operation}
 use Rattle.flow_graph.specs.declared.operations.Operation.TheVariants as Op
 use Rattle.pointer_dom.specs.Advances.{IsInteger}
-use Rattle.edge_actions.specs.transfer_int.Operands.{AreValues, AreRightOperands}
-use Rattle.edge_actions.specs.transfer_rows.StateForms.{Temp, State, temp_value, value_of}
+use Rattle.transfer_mem.specs.edge_actions.transfer_int.Operands.{AreValues, AreRightOperands}
+use Rattle.transfer_mem.specs.edge_actions.transfer_rows.StateForms.{Temp, State, temp_value, value_of}
 use Rattle.transfer_mem.specs.Applicable.{IsConstant, AreIntegers, IsOperable}
 use Rattle.task_equations.specs.typed_values.Types.{IsOfType}
 use Rattle.task_equations.specs.typed_values.laws.TypeLaws.{none_of_type}

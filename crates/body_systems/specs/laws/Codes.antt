@@ -8,7 +8,7 @@ use Rattle.pointer_dom.specs.laws.Codes.{values_code}
 use Rattle.cell_env.specs.laws.Codes.{state_code}
 use Rattle.interfere_set.specs.Stores.{Interferences}
 use Rattle.interfere_set.specs.laws.StoreLaws.{store_code}
-use Rattle.edge_actions.specs.transfer_rows.StateForms.{State}
+use Rattle.transfer_mem.specs.edge_actions.transfer_rows.StateForms.{State}
 use Rattle.body_systems.specs.Facts.{Facts}
 use Rattle.body_systems.specs.Systems.{SystemOf}
 

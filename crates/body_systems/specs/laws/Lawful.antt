@@ -1,7 +1,7 @@
 -- The equations of a body are a system of equations.
 use Rattle.pointer_dom.specs.Values.{joined_values}
 use Rattle.cell_env.specs.States.{joined_state}
-use Rattle.edge_actions.specs.transfer_rows.StateForms.{IsStateForm, IsStateUnder}
+use Rattle.transfer_mem.specs.edge_actions.transfer_rows.StateForms.{IsStateForm, IsStateUnder}
 use Rattle.table_covers.specs.Systems.{IsLawfulSystem}
 use Rattle.program_equations.specs.Systems.{FitsBody}
 use Rattle.task_equations.specs.laws.Lawful.{equations_are_lawful}

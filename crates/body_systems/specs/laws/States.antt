@@ -5,7 +5,7 @@ use Rattle.pointer_dom.specs.Values.{Values, IsValues, IsValuesBelow, joined_val
 use Rattle.pointer_dom.specs.laws.ValueLaws.{values_order, values_join, values_closure}
 use Rattle.cell_env.specs.States.{rounded_state}
 use Rattle.cell_env.specs.laws.StateLaws.{state_closure, state_nothing}
-use Rattle.edge_actions.specs.transfer_rows.StateForms.{IsStateForm, IsStateUnder}
+use Rattle.transfer_mem.specs.edge_actions.transfer_rows.StateForms.{IsStateForm, IsStateUnder}
 
 abbrev Values_are : Values → Type 0
 Values_are v = IsValues v

@@ -1,4 +1,4 @@
 -- The crates below, passed on to those above.
-pub use Rattle.edge_actions.proofs.ActionForms
-pub use Rattle.edge_actions.proofs.Lists
-pub use Rattle.edge_actions.proofs.Ranges
+pub use Rattle.edge_effects.proofs.low.edge_actions.ActionForms
+pub use Rattle.edge_effects.proofs.low.edge_actions.Lists
+pub use Rattle.edge_effects.proofs.low.edge_actions.Ranges

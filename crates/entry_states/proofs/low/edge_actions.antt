@@ -1,3 +1,3 @@
 -- The crates below, passed on to those above.
-pub use Rattle.edge_actions.proofs.ActionForms
-pub use Rattle.edge_actions.proofs.Lists
+pub use Rattle.body_systems.proofs.low.edge_actions.ActionForms
+pub use Rattle.body_systems.proofs.low.edge_actions.Lists

@@ -1,6 +1,6 @@
 -- The crates below, passed on to those above.
-pub use Rattle.edge_actions.proofs.low.transfer_rows.Contributing
-pub use Rattle.edge_actions.proofs.low.transfer_rows.CoverSteps
-pub use Rattle.edge_actions.proofs.low.transfer_rows.CoverValues
-pub use Rattle.edge_actions.proofs.low.transfer_rows.Covers
-pub use Rattle.edge_actions.proofs.low.transfer_rows.FilterLaws
+pub use Rattle.body_systems.proofs.low.transfer_rows.Contributing
+pub use Rattle.body_systems.proofs.low.transfer_rows.CoverSteps
+pub use Rattle.body_systems.proofs.low.transfer_rows.CoverValues
+pub use Rattle.body_systems.proofs.low.transfer_rows.Covers
+pub use Rattle.body_systems.proofs.low.transfer_rows.FilterLaws

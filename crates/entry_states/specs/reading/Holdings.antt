@@ -1,7 +1,7 @@
 -- Where it stands what abstract cells hold.
 use Rattle.std.specs.Prelude.{ℕ, slice_get, Option, Some, None}
 use Rattle.pointer_dom.specs.Values.{Values, no_value}
-use Rattle.edge_actions.specs.transfer_rows.StateForms.{own_of}
+use Rattle.body_systems.specs.edge_actions.transfer_rows.StateForms.{own_of}
 use Rattle.entry_states.specs.declared.entries.Holding.{Holding}
 use Rattle.entry_states.specs.declared.entries.Holding.TheVariants.{Listed, Kept}
 

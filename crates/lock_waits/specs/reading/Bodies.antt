@@ -1,9 +1,9 @@
 -- The requests of the first tasks.
 use Rattle.std.specs.Prelude.{ℕ, ◌<◌, List, length, Option}
 use Rattle.request_circles.specs.declared.requests.Request.{Request}
-use Rattle.post_recheck.specs.transfer_rows.StateForms.{State}
-use Rattle.post_recheck.specs.program_equations.Programs.{ProgramBodies, body_at}
-use Rattle.post_recheck.specs.program_equations.Solutions.{table_at}
+use Rattle.program_reports.specs.post_recheck.transfer_rows.StateForms.{State}
+use Rattle.program_reports.specs.post_recheck.program_equations.Programs.{ProgramBodies, body_at}
+use Rattle.program_reports.specs.post_recheck.program_equations.Solutions.{table_at}
 use Rattle.lock_waits.specs.reading.Copies.{IsAskedBelow}
 
 module _ (p : ProgramBodies) (tables : List (List (Option State))) where

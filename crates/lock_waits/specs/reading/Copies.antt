@@ -8,9 +8,9 @@ use Rattle.mutex_configs.specs.declared.nodes.EdgeCopy.{EdgeCopy}
 use Rattle.mutex_configs.specs.Nodes.{entry_node}
 use Rattle.mutex_configs.specs.Sets.{has}
 use Rattle.request_circles.specs.declared.requests.Request.{Request}
-use Rattle.post_recheck.specs.transfer_rows.StateForms.{State}
-use Rattle.post_recheck.specs.table_covers.Solutions.{at}
-use Rattle.post_recheck.specs.task_equations.Bodies.{no_edge, no_copy}
+use Rattle.program_reports.specs.post_recheck.transfer_rows.StateForms.{State}
+use Rattle.program_reports.specs.post_recheck.table_covers.Solutions.{at}
+use Rattle.program_reports.specs.post_recheck.task_equations.Bodies.{no_edge, no_copy}
 use Rattle.lock_waits.specs.declared.copies.TaskParts.{TaskParts}
 
 -- the request of an operation of a task at a node where it holds these mutexes

@@ -4,9 +4,9 @@ use Rattle.std.specs.FinMap.{get}
 use Rattle.tm_lattice.specs.Tables.{Table}
 use Rattle.tm_laid.specs.Layouts.{laid_tree}
 use Rattle.pointer_dom.specs.Values.{Values}
-use Rattle.calculations.specs.transfer_rows.StateForms.{Cell, is_no_value}
-use Rattle.calculations.specs.transfer_rows.Accesses.{is_among}
-use Rattle.calculations.specs.transfer_rows.Rows.{aged, cleared_to, taken}
+use Rattle.edge_effects.specs.calculations.transfer_rows.StateForms.{Cell, is_no_value}
+use Rattle.edge_effects.specs.calculations.transfer_rows.Accesses.{is_among}
+use Rattle.edge_effects.specs.calculations.transfer_rows.Rows.{aged, cleared_to, taken}
 use Rattle.edge_actions.specs.Edges.{around_of, cleared_value}
 use Rattle.edge_actions.specs.declared.views.EdgeView.{EdgeView}
 use Rattle.memory_effects.specs.declared.changes.Change.{Change}

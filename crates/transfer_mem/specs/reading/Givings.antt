@@ -2,11 +2,11 @@
 use Rattle.std.specs.Prelude.{◌≡◌, ◌⊎◌}
 use Rattle.flow_graph.specs.declared.operations.Operation.{Operation}
 use Rattle.flow_graph.specs.declared.operations.Operation.TheVariants as Op
-use Rattle.calculations.specs.transfer_rows.StateForms.{State}
-use Rattle.calculations.specs.transfer_rows.Actions.{Calculation, gives}
-use Rattle.calculations.specs.Given.{IsCalculated}
-use Rattle.edge_actions.specs.declared.views.EdgeView.{EdgeView}
-use Rattle.edge_actions.specs.Edges.{action_at}
+use Rattle.memory_effects.specs.calculations.transfer_rows.StateForms.{State}
+use Rattle.memory_effects.specs.calculations.transfer_rows.Actions.{Calculation, gives}
+use Rattle.memory_effects.specs.calculations.Given.{IsCalculated}
+use Rattle.memory_effects.specs.edge_actions.declared.views.EdgeView.{EdgeView}
+use Rattle.memory_effects.specs.edge_actions.Edges.{action_at}
 use Rattle.transfer_mem.specs.declared.giving.Given.{Given}
 
 -- those that work on numbers, or copy

@@ -10,9 +10,9 @@ use Rattle.tm_laid.specs.declared.objects.Initial.{Initial}
 use Rattle.tm_laid.specs.declared.objects.Initial.TheVariants as Initials
 use Rattle.tm_laid.specs.Layouts.{LaidTree, cell_at}
 use Rattle.interfere_set.specs.Stores.{Nested, value_or_none}
-use Rattle.post_recheck.specs.transfer_rows.StateForms.{State, own_of}
-use Rattle.post_recheck.specs.table_covers.Solutions.{at}
-use Rattle.post_recheck.specs.program_equations.Solutions.{table_at}
+use Rattle.program_reports.specs.post_recheck.transfer_rows.StateForms.{State, own_of}
+use Rattle.program_reports.specs.post_recheck.table_covers.Solutions.{at}
+use Rattle.program_reports.specs.post_recheck.program_equations.Solutions.{table_at}
 use Rattle.value_ranges.specs.declared.object_bounds.ObjectBounds.{ObjectBounds}
 use Rattle.value_ranges.specs.declared.cells.IntegerCell.{IntegerCell}
 use Rattle.value_ranges.specs.Ranges.{IsKeyOf, key_count}

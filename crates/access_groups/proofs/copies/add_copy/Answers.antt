@@ -1,6 +1,6 @@
 use Rattle.std.proofs.Common.{sym, ◌∙◌}
 use Rattle.std.proofs.lemmas.Result.{on_ok_weaker}
-use Rattle.post_recheck.specs.body_systems.Systems.{body_of}
+use Rattle.program_reports.specs.post_recheck.body_systems.Systems.{body_of}
 use Rattle.access_groups.proofs.Targets.{relabelled, nothing_given, access_given}
 use Rattle.access_groups.proofs.copies.add_copy.Goals as goal
 

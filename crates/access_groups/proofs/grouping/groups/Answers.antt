@@ -3,10 +3,10 @@ use Rattle.std.specs.Prelude.{Contains}
 use Rattle.std.specs.declared.alloc.Global.{Global}
 use Rattle.std.proofs.lemmas.Result.{IfOk-weaker}
 use Rattle.tm_laid.specs.Layouts.{laid_tree}
-use Rattle.post_recheck.specs.program_equations.Solutions.{tables_of}
-use Rattle.post_recheck.specs.program_systems.ProgramFacts.{program_with}
-use Rattle.post_recheck.proofs.low.program_systems.Bodies.{is_program}
-use Rattle.post_recheck.specs.Pairs.{lists_of}
+use Rattle.program_reports.specs.post_recheck.program_equations.Solutions.{tables_of}
+use Rattle.program_reports.specs.post_recheck.program_systems.ProgramFacts.{program_with}
+use Rattle.program_reports.proofs.low.program_systems.Bodies.{is_program}
+use Rattle.program_reports.specs.post_recheck.Pairs.{lists_of}
 use Rattle.access_races.specs.declared.accesses.Way.{Way}
 use Rattle.access_races.specs.declared.accesses.Access.{Access}
 use Rattle.access_races.specs.reading.Ways.{IsWayTo}

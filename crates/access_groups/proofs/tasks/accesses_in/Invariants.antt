@@ -1,8 +1,8 @@
 use Rattle.std.proofs.Common.{◌↔◌}
 use Rattle.std.specs.Prelude.{Contains}
-use Rattle.post_recheck.specs.program_equations.Solutions.{tables_of}
-use Rattle.post_recheck.specs.program_systems.ProgramFacts.{program_with}
-use Rattle.post_recheck.specs.Pairs.{lists_of}
+use Rattle.program_reports.specs.post_recheck.program_equations.Solutions.{tables_of}
+use Rattle.program_reports.specs.post_recheck.program_systems.ProgramFacts.{program_with}
+use Rattle.program_reports.specs.post_recheck.Pairs.{lists_of}
 use Rattle.access_races.specs.declared.accesses.Access.{Access as AnAccess}
 use Rattle.program_reports.specs.reading.Bodies.{IsAccessUpTo}
 use Rattle.access_groups.proofs.tasks.accesses_in.Given as goal

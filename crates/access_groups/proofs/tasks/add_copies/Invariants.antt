@@ -1,7 +1,7 @@
 use Rattle.std.proofs.Common.{◌↔◌, ◌⊎◌}
 use Rattle.std.specs.Prelude.{Contains}
-use Rattle.post_recheck.specs.table_covers.Solutions.{at}
-use Rattle.post_recheck.specs.body_systems.Systems.{body_of}
+use Rattle.program_reports.specs.post_recheck.table_covers.Solutions.{at}
+use Rattle.program_reports.specs.post_recheck.body_systems.Systems.{body_of}
 use Rattle.access_races.specs.declared.accesses.Access.{Access as AnAccess}
 use Rattle.program_reports.specs.reading.Found.{IsAccessBelow}
 use Rattle.access_groups.proofs.tasks.add_copies.Given as goal

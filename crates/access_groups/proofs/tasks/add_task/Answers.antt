@@ -1,8 +1,8 @@
 use Rattle.std.proofs.Common.{length, get_or, refl, ap, sym, ◌∙◌}
 use Rattle.std.proofs.lemmas.Result.{on_ok_weaker}
-use Rattle.post_recheck.specs.body_systems.Systems.{body_of}
-use Rattle.post_recheck.specs.Pairs.{pair_of}
-use Rattle.post_recheck.proofs.Found.{table_read, tables_counted}
+use Rattle.program_reports.specs.post_recheck.body_systems.Systems.{body_of}
+use Rattle.program_reports.specs.post_recheck.Pairs.{pair_of}
+use Rattle.program_reports.proofs.low.post_recheck.Found.{table_read, tables_counted}
 use Rattle.access_groups.proofs.Adding.{in_bodies, in_tables, parts_are}
 use Rattle.access_groups.proofs.Adding.{copies_count, table_fits, access_of}
 use Rattle.access_groups.proofs.tasks.add_task.Goals as goal

@@ -2,11 +2,11 @@ use Rattle.std.proofs.Common.{◌↔◌, ◌⊎◌, length, get_or, refl, ap, sy
 use Rattle.std.specs.Prelude.{Contains}
 use Rattle.std.proofs.lemmas.Result.{on_ok_weaker}
 use Rattle.interfere_set.specs.Stores.{Interferences}
-use Rattle.post_recheck.specs.table_covers.Solutions.{at}
-use Rattle.post_recheck.specs.body_systems.Systems.{body_of}
-use Rattle.post_recheck.proofs.low.program_systems.Bodies.{body_count}
-use Rattle.post_recheck.specs.Pairs.{pair_of}
-use Rattle.post_recheck.proofs.Found.{table_read, tables_counted}
+use Rattle.program_reports.specs.post_recheck.table_covers.Solutions.{at}
+use Rattle.program_reports.specs.post_recheck.body_systems.Systems.{body_of}
+use Rattle.program_reports.proofs.low.program_systems.Bodies.{body_count}
+use Rattle.program_reports.specs.post_recheck.Pairs.{pair_of}
+use Rattle.program_reports.proofs.low.post_recheck.Found.{table_read, tables_counted}
 use Rattle.program_reports.proofs.Numbered.{in_priorities, in_tables, parts_are, copies_count, of_same}
 use Rattle.alarm_contexts.specs.reading.Found.{IsContextBelow}
 use Rattle.alarm_contexts.proofs.bodies.add_body.Goals as goal

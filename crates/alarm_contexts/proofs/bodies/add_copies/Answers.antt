@@ -1,8 +1,8 @@
 use Rattle.std.proofs.Common.{◌≡◌, ◌↔◌, ◌⊎◌, ◌+◌, ap, sym, subst, ◌∙◌, length, Some, arith, Vec}
 use Rattle.std.specs.Prelude.{Contains}
 use Rattle.std.specs.declared.alloc.Global.{Global}
-use Rattle.post_recheck.specs.table_covers.Solutions.{at}
-use Rattle.post_recheck.specs.body_systems.Systems.{body_of}
+use Rattle.program_reports.specs.post_recheck.table_covers.Solutions.{at}
+use Rattle.program_reports.specs.post_recheck.body_systems.Systems.{body_of}
 use Rattle.access_races.proofs.Joins.{joined, unchanged}
 use Rattle.program_reports.proofs.Tables.{reached, fits_there}
 use Rattle.alarm_contexts.specs.declared.exits.Context.{Context}

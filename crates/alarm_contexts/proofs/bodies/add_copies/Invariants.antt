@@ -1,7 +1,7 @@
 use Rattle.std.proofs.Common.{◌↔◌, ◌⊎◌}
 use Rattle.std.specs.Prelude.{Contains}
-use Rattle.post_recheck.specs.table_covers.Solutions.{at}
-use Rattle.post_recheck.specs.body_systems.Systems.{body_of}
+use Rattle.program_reports.specs.post_recheck.table_covers.Solutions.{at}
+use Rattle.program_reports.specs.post_recheck.body_systems.Systems.{body_of}
 use Rattle.alarm_contexts.specs.declared.exits.Context.{Context as AContext}
 use Rattle.alarm_contexts.specs.reading.Found.{IsContextBelow}
 use Rattle.alarm_contexts.proofs.bodies.add_copies.Given as goal

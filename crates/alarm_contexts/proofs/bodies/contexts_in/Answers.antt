@@ -1,10 +1,10 @@
 use Rattle.std.proofs.Common.{◌≡◌, ◌↔◌, length, subst, arith}
 use Rattle.std.specs.Prelude.{Contains}
 use Rattle.std.proofs.lemmas.List.{length-map}
-use Rattle.post_recheck.specs.program_equations.Solutions.{tables_of}
-use Rattle.post_recheck.specs.program_systems.ProgramFacts.{program_with}
-use Rattle.post_recheck.specs.Pairs.{lists_of}
-use Rattle.post_recheck.proofs.Given.{bodies_small}
+use Rattle.program_reports.specs.post_recheck.program_equations.Solutions.{tables_of}
+use Rattle.program_reports.specs.post_recheck.program_systems.ProgramFacts.{program_with}
+use Rattle.program_reports.specs.post_recheck.Pairs.{lists_of}
+use Rattle.program_reports.proofs.low.post_recheck.Given.{bodies_small}
 use Rattle.access_races.proofs.Joins.{grown}
 use Rattle.alarm_contexts.specs.reading.Found.{IsContextUpTo}
 use Rattle.alarm_contexts.proofs.Adding.{bodies_more}

@@ -1,6 +1,6 @@
 use Rattle.std.proofs.Common.{sym, ap, ◌∙◌}
 use Rattle.std.proofs.lemmas.Result.{on_ok_weaker}
-use Rattle.post_recheck.specs.body_systems.Systems.{body_of}
+use Rattle.program_reports.specs.post_recheck.body_systems.Systems.{body_of}
 use Rattle.program_reports.specs.Reports.{place_of}
 use Rattle.alarm_contexts.proofs.Noted.{relabelled}
 use Rattle.alarm_contexts.proofs.Adding.{nothing_given, exit_is, context_given}

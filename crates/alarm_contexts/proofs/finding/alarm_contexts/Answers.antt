@@ -1,8 +1,8 @@
 use Rattle.std.proofs.lemmas.Result.{IfOk-weaker}
-use Rattle.post_recheck.specs.program_equations.Solutions.{tables_of}
-use Rattle.post_recheck.specs.program_systems.ProgramFacts.{program_with}
-use Rattle.post_recheck.specs.Pairs.{lists_of}
-use Rattle.post_recheck.proofs.low.program_systems.Bodies.{is_program}
+use Rattle.program_reports.specs.post_recheck.program_equations.Solutions.{tables_of}
+use Rattle.program_reports.specs.post_recheck.program_systems.ProgramFacts.{program_with}
+use Rattle.program_reports.specs.post_recheck.Pairs.{lists_of}
+use Rattle.program_reports.proofs.low.program_systems.Bodies.{is_program}
 use Rattle.alarm_contexts.proofs.Exact.{contexts_are}
 use Rattle.alarm_contexts.proofs.finding.alarm_contexts.Goals as goal
 

@@ -1,9 +1,9 @@
 use Rattle.std.proofs.Common.{◌+◌, ◌≤◌, sym, subst, take, get_or, length, arith}
 use Rattle.std.proofs.lemmas.List.{take_all}
-use Rattle.post_recheck.specs.program_equations.Solutions.{tables_of}
-use Rattle.post_recheck.specs.program_systems.ProgramFacts.{program_with}
-use Rattle.post_recheck.specs.Pairs.{lists_of}
-use Rattle.post_recheck.proofs.low.program_systems.Bodies.{is_program}
+use Rattle.program_reports.specs.post_recheck.program_equations.Solutions.{tables_of}
+use Rattle.program_reports.specs.post_recheck.program_systems.ProgramFacts.{program_with}
+use Rattle.program_reports.specs.post_recheck.Pairs.{lists_of}
+use Rattle.program_reports.proofs.low.program_systems.Bodies.{is_program}
 use Rattle.access_races.proofs.Joins.{front_more}
 use Rattle.alarm_contexts.specs.Order.{AreRising}
 use Rattle.alarm_contexts.specs.reading.Operands.{operands_of, IsFlawed}

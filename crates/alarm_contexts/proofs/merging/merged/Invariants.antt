@@ -1,7 +1,7 @@
 use Rattle.std.proofs.Common.{take}
-use Rattle.post_recheck.specs.program_equations.Solutions.{tables_of}
-use Rattle.post_recheck.specs.program_systems.ProgramFacts.{program_with}
-use Rattle.post_recheck.specs.Pairs.{lists_of}
+use Rattle.program_reports.specs.post_recheck.program_equations.Solutions.{tables_of}
+use Rattle.program_reports.specs.post_recheck.program_systems.ProgramFacts.{program_with}
+use Rattle.program_reports.specs.post_recheck.Pairs.{lists_of}
 use Rattle.alarm_contexts.specs.reading.Operands.{operands_of, IsFlawed}
 use Rattle.alarm_contexts.specs.reading.Merging.{AreMerged}
 use Rattle.alarm_contexts.proofs.merging.merged.Given as goal

@@ -1,14 +1,14 @@
 use Rattle.std.proofs.Common.{◌↔◌, ◌<◌, length, get_or, refl, ap, sym, subst, ◌∙◌, arith}
 use Rattle.std.proofs.lemmas.Result.{IfOk-weaker}
-use Rattle.post_recheck.specs.table_covers.Solutions.{at}
-use Rattle.post_recheck.specs.body_systems.Systems.{body_of}
-use Rattle.post_recheck.proofs.low.program_systems.Bodies.{body_count, is_program}
-use Rattle.post_recheck.specs.Pairs.{pair_of}
-use Rattle.post_recheck.proofs.Found.{table_read, tables_counted}
+use Rattle.program_reports.specs.post_recheck.table_covers.Solutions.{at}
+use Rattle.program_reports.specs.post_recheck.body_systems.Systems.{body_of}
+use Rattle.program_reports.proofs.low.program_systems.Bodies.{body_count, is_program}
+use Rattle.program_reports.specs.post_recheck.Pairs.{pair_of}
+use Rattle.program_reports.proofs.low.post_recheck.Found.{table_read, tables_counted}
 use Rattle.program_reports.proofs.Numbered.{in_priorities, in_tables, parts_are, copies_count}
 use Rattle.std.specs.Prelude.{Contains}
 use Rattle.tm_laid.specs.Layouts.{laid_tree}
-use Rattle.post_recheck.specs.program_equations.Readings.{read_layout}
+use Rattle.program_reports.specs.post_recheck.program_equations.Readings.{read_layout}
 use Rattle.program_reports.specs.reading.Found.{operation_at}
 use Rattle.alarm_contexts.specs.Flaws.{HasFlaw}
 use Rattle.alarm_contexts.specs.reading.Operands.{operands_at}

@@ -1,7 +1,7 @@
 use Rattle.std.proofs.Common.{◌≡◌, ◌∙◌, Some, sym, ap}
 use Rattle.std.specs.FinMap.{get}
 use Rattle.std.specs.Option.{option_copied}
-use Rattle.edge_actions.specs.Edges.{around_of}
+use Rattle.edge_effects.specs.edge_actions.Edges.{around_of}
 use Rattle.edge_effects.proofs.Common.{something}
 use Rattle.edge_filters.proofs.Refined.{refined_absent, refined_nothing, refined_contradicted, refined_kept}
 use Rattle.edge_filters.proofs.refining.after_refined.Goals as goal

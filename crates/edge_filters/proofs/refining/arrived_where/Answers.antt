@@ -1,7 +1,7 @@
 use Rattle.std.proofs.Common.{◌∙◌, Some, sym, ap}
 use Rattle.std.specs.Option.{option_map}
-use Rattle.calculations.specs.transfer_rows.Rows.{arrived}
-use Rattle.edge_actions.specs.Edges.{around_of}
+use Rattle.edge_effects.specs.calculations.transfer_rows.Rows.{arrived}
+use Rattle.edge_effects.specs.edge_actions.Edges.{around_of}
 use Rattle.edge_filters.proofs.refining.arrived_where.Goals as goal
 
 pub returns-in_default : goal.returns-in_default

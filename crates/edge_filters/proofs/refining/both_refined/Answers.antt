@@ -1,7 +1,7 @@
 use Rattle.std.proofs.Common.{◌∙◌, sym, ap}
-use Rattle.calculations.specs.transfer_rows.Actions.{temporary}
-use Rattle.calculations.specs.transfer_rows.Rows.{then_refined}
-use Rattle.edge_actions.specs.Edges.{around_of}
+use Rattle.edge_effects.specs.calculations.transfer_rows.Actions.{temporary}
+use Rattle.edge_effects.specs.calculations.transfer_rows.Rows.{then_refined}
+use Rattle.edge_effects.specs.edge_actions.Edges.{around_of}
 use Rattle.edge_filters.proofs.refining.both_refined.Goals as goal
 
 pub returns-in_default : goal.returns-in_default

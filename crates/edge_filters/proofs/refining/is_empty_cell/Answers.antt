@@ -1,7 +1,7 @@
 use Rattle.std.proofs.Common.{◌∙◌, sym, ap}
 use Rattle.std.specs.Option.{option_copied}
-use Rattle.calculations.specs.transfer_rows.StateForms.{is_no_value, own_value}
-use Rattle.calculations.proofs.low.transfer_rows.Steps.{none_is_none}
+use Rattle.edge_effects.specs.calculations.transfer_rows.StateForms.{is_no_value, own_value}
+use Rattle.edge_effects.proofs.low.transfer_rows.Steps.{none_is_none}
 use Rattle.edge_effects.proofs.Common.{nothing_test}
 use Rattle.edge_filters.proofs.refining.is_empty_cell.Goals as goal
 

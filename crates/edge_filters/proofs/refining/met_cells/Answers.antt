@@ -2,8 +2,8 @@ use Rattle.std.proofs.Common.{◌≡◌, ◌∙◌, Some, sym, ap}
 use Rattle.std.specs.FinMap.{get, insert}
 use Rattle.std.specs.Option.{option_copied}
 use Rattle.tm_lattice.specs.Tables.{changed_table}
-use Rattle.calculations.specs.transfer_rows.StateForms.{Cell}
-use Rattle.calculations.specs.transfer_rows.Rows.{met_where}
+use Rattle.edge_effects.specs.calculations.transfer_rows.StateForms.{Cell}
+use Rattle.edge_effects.specs.calculations.transfer_rows.Rows.{met_where}
 use Rattle.edge_filters.proofs.MetCells.{met_below, none_met, absent_met, same_met, put_met}
 use Rattle.edge_filters.proofs.refining.met_cells.Goals as goal
 

@@ -1,4 +1,4 @@
-use Rattle.calculations.proofs.low.operator_values.OneAnswer.{one_meet}
+use Rattle.edge_effects.proofs.low.operator_values.OneAnswer.{one_meet}
 use Rattle.edge_filters.proofs.refining.met_value.Goals as goal
 
 pub returns : goal.returns

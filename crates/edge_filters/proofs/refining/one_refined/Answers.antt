@@ -1,7 +1,7 @@
 use Rattle.std.proofs.Common.{◌∙◌}
-use Rattle.calculations.specs.transfer_rows.Actions.{temporary}
-use Rattle.calculations.specs.transfer_rows.Rows.{side_refined}
-use Rattle.edge_actions.specs.Edges.{around_of}
+use Rattle.edge_effects.specs.calculations.transfer_rows.Actions.{temporary}
+use Rattle.edge_effects.specs.calculations.transfer_rows.Rows.{side_refined}
+use Rattle.edge_effects.specs.edge_actions.Edges.{around_of}
 use Rattle.edge_effects.proofs.Common.{something}
 use Rattle.edge_filters.proofs.Refined.{fixed_nothing, fixed_something}
 use Rattle.edge_filters.proofs.refining.one_refined.Goals as goal

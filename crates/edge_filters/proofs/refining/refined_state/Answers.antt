@@ -1,8 +1,8 @@
 use Rattle.std.proofs.Common.{◌∙◌, ap}
 use Rattle.std.specs.FinMap.{insert}
 use Rattle.tm_lattice.specs.Tables.{changed_table}
-use Rattle.calculations.specs.transfer_rows.StateForms.{Temp}
-use Rattle.calculations.specs.transfer_rows.Rows.{met_where}
+use Rattle.edge_effects.specs.calculations.transfer_rows.StateForms.{Temp}
+use Rattle.edge_effects.specs.calculations.transfer_rows.Rows.{met_where}
 use Rattle.edge_filters.proofs.Refined.{refined_so}
 use Rattle.edge_filters.proofs.refining.refined_state.Goals as goal
 

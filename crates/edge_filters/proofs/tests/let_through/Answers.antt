@@ -1,10 +1,10 @@
 use Rattle.std.proofs.Common.{◌∙◌, sym, ap, subst}
 use Rattle.strided_dom.specs.Progression.{single}
 use Rattle.strided_dom.proofs.Reach.{kept}
-use Rattle.calculations.specs.transfer_rows.StateForms.{only_numbers}
-use Rattle.calculations.specs.transfer_rows.Actions.{temporary, fixed, numbers_compare}
-use Rattle.calculations.specs.transfer_rows.Rows.{after_filter}
-use Rattle.edge_actions.specs.Edges.{around_of, filter_of}
+use Rattle.edge_effects.specs.calculations.transfer_rows.StateForms.{only_numbers}
+use Rattle.edge_effects.specs.calculations.transfer_rows.Actions.{temporary, fixed, numbers_compare}
+use Rattle.edge_effects.specs.calculations.transfer_rows.Rows.{after_filter}
+use Rattle.edge_effects.specs.edge_actions.Edges.{around_of, filter_of}
 use Rattle.edge_filters.specs.Tests.{IsTestable}
 use Rattle.edge_filters.proofs.tests.let_through.Goals as goal
 

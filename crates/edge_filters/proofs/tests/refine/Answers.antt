@@ -1,7 +1,7 @@
 use Rattle.std.proofs.Common.{◌∙◌, ap}
 use Rattle.std.specs.Option.{option_map}
-use Rattle.calculations.specs.transfer_rows.Rows.{arrived}
-use Rattle.edge_actions.specs.Edges.{around_of, filter_of}
+use Rattle.edge_effects.specs.calculations.transfer_rows.Rows.{arrived}
+use Rattle.edge_effects.specs.edge_actions.Edges.{around_of, filter_of}
 use Rattle.edge_filters.proofs.FilterEdges.{filter_is}
 use Rattle.edge_filters.proofs.Sides.{no_test_fails}
 use Rattle.edge_filters.proofs.tests.refine.Goals as goal

@@ -2,12 +2,12 @@ use Rattle.std.proofs.Common.{◌≡◌, ◌∙◌, ap}
 use Rattle.std.specs.Option.{option_map}
 use Rattle.tm_cint.specs.declared.Class.TheVariants.{Pointer}
 use Rattle.transfer_int.specs.declared.outcomes.Classes.{Classes}
-use Rattle.calculations.specs.Given.{no_class}
-use Rattle.calculations.proofs.Calculating.{noted_so, pointer_noted}
-use Rattle.calculations.specs.transfer_rows.StateForms.{value_of}
-use Rattle.calculations.specs.transfer_rows.Actions.{usable}
-use Rattle.calculations.specs.transfer_rows.Rows.{arrived, after_refined}
-use Rattle.edge_actions.specs.Edges.{around_of}
+use Rattle.edge_effects.specs.calculations.Given.{no_class}
+use Rattle.edge_effects.proofs.low.calculations.Calculating.{noted_so, pointer_noted}
+use Rattle.edge_effects.specs.calculations.transfer_rows.StateForms.{value_of}
+use Rattle.edge_effects.specs.calculations.transfer_rows.Actions.{usable}
+use Rattle.edge_effects.specs.calculations.transfer_rows.Rows.{arrived, after_refined}
+use Rattle.edge_effects.specs.edge_actions.Edges.{around_of}
 use Rattle.edge_filters.proofs.FilterEdges.{filter_is}
 use Rattle.edge_filters.proofs.tests.usable.Goals as goal
 

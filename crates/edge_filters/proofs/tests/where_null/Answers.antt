@@ -1,7 +1,7 @@
 use Rattle.std.proofs.Common.{◌∙◌}
-use Rattle.calculations.specs.transfer_rows.StateForms.{only_pointers}
-use Rattle.calculations.specs.transfer_rows.Actions.{temporary, fixed}
-use Rattle.edge_actions.specs.Edges.{around_of, only_null}
+use Rattle.edge_effects.specs.calculations.transfer_rows.StateForms.{only_pointers}
+use Rattle.edge_effects.specs.calculations.transfer_rows.Actions.{temporary, fixed}
+use Rattle.edge_effects.specs.edge_actions.Edges.{around_of, only_null}
 use Rattle.edge_filters.proofs.Sides.{pointers_so}
 use Rattle.edge_filters.proofs.tests.where_null.Goals as goal
 

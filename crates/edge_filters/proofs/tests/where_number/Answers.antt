@@ -1,9 +1,9 @@
 use Rattle.std.proofs.Common.{◌∙◌, ap}
 use Rattle.strided_dom.specs.Progression.{single}
 use Rattle.strided_dom.proofs.Reach.{kept}
-use Rattle.calculations.specs.transfer_rows.StateForms.{only_numbers}
-use Rattle.calculations.specs.transfer_rows.Actions.{temporary, fixed}
-use Rattle.edge_actions.specs.Edges.{around_of}
+use Rattle.edge_effects.specs.calculations.transfer_rows.StateForms.{only_numbers}
+use Rattle.edge_effects.specs.calculations.transfer_rows.Actions.{temporary, fixed}
+use Rattle.edge_effects.specs.edge_actions.Edges.{around_of}
 use Rattle.edge_filters.proofs.Sides.{numbers_so}
 use Rattle.edge_filters.proofs.tests.where_number.Goals as goal
 

@@ -1,6 +1,6 @@
 use Rattle.std.proofs.Common.{◌∙◌}
-use Rattle.calculations.specs.transfer_rows.Actions.{temporary}
-use Rattle.edge_actions.specs.Edges.{around_of}
+use Rattle.edge_effects.specs.calculations.transfer_rows.Actions.{temporary}
+use Rattle.edge_effects.specs.edge_actions.Edges.{around_of}
 use Rattle.edge_filters.proofs.Sides.{pointers_so}
 use Rattle.edge_filters.proofs.tests.where_pointers.Goals as goal
 

@@ -2,10 +2,10 @@ use Rattle.std.proofs.Common.{◌∙◌, sym, ap}
 use Rattle.strided_dom.specs.Progression.{single}
 use Rattle.std.specs.Prelude.{pos}
 use Rattle.flow_graph.specs.declared.operations.Test.TheVariants.{Truth}
-use Rattle.calculations.specs.transfer_rows.StateForms.{only_numbers}
-use Rattle.calculations.specs.transfer_rows.Actions.{temporary, fixed, numbers_compare}
-use Rattle.calculations.specs.transfer_rows.Rows.{after_filter}
-use Rattle.edge_actions.specs.Edges.{around_of, filter_of}
+use Rattle.edge_effects.specs.calculations.transfer_rows.StateForms.{only_numbers}
+use Rattle.edge_effects.specs.calculations.transfer_rows.Actions.{temporary, fixed, numbers_compare}
+use Rattle.edge_effects.specs.calculations.transfer_rows.Rows.{after_filter}
+use Rattle.edge_effects.specs.edge_actions.Edges.{around_of, filter_of}
 use Rattle.edge_filters.proofs.Sides.{turned}
 use Rattle.edge_filters.proofs.tests.where_true.Goals as goal
 

@@ -6,7 +6,7 @@ use Rattle.cell_env.specs.States.{joined_state}
 use Rattle.body_systems.specs.table_covers.Solutions.{at}
 use Rattle.mutex_configs.specs.declared.nodes.ConfiguredNode.{ConfiguredNode}
 use Rattle.mutex_configs.specs.Nodes.{entry_node}
-use Rattle.edge_actions.specs.transfer_rows.StateForms.{State}
+use Rattle.body_systems.specs.edge_actions.transfer_rows.StateForms.{State}
 use Rattle.std.specs.Prelude.{Option, None}
 use Rattle.entry_states.proofs.Marks.{end_joined, end_passed}
 use Rattle.entry_states.proofs.ends.ended_state.Goals.{then-is_end+in_ok-ended, else-is_end}

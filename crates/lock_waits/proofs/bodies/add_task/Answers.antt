@@ -1,7 +1,7 @@
 use Rattle.std.proofs.Common.{ap, sym, ◌∙◌, arith}
 use Rattle.std.proofs.lemmas.Result.{on_ok_weaker}
-use Rattle.post_recheck.specs.Pairs.{lists_of}
-use Rattle.post_recheck.proofs.Found.{table_read, tables_counted}
+use Rattle.program_reports.specs.post_recheck.Pairs.{lists_of}
+use Rattle.program_reports.proofs.low.post_recheck.Found.{table_read, tables_counted}
 use Rattle.lock_waits.proofs.Reading.{in_graphs, in_configured, in_tables, number_small, in_range, asked_of}
 use Rattle.lock_waits.proofs.bodies.add_task.Goals as goal
 

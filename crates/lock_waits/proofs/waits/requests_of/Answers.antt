@@ -1,7 +1,7 @@
 use Rattle.std.proofs.Common.{◌≡◌, refl, arith}
-use Rattle.post_recheck.specs.program_systems.ProgramFacts.{program_with}
-use Rattle.post_recheck.proofs.low.program_systems.Bodies.{is_program}
-use Rattle.post_recheck.specs.Pairs.{lists_of}
+use Rattle.program_reports.specs.post_recheck.program_systems.ProgramFacts.{program_with}
+use Rattle.program_reports.proofs.low.program_systems.Bodies.{is_program}
+use Rattle.program_reports.specs.post_recheck.Pairs.{lists_of}
 use Rattle.lock_waits.proofs.Asking.{grown, tasks_more}
 use Rattle.lock_waits.proofs.Programs.{requested}
 use Rattle.lock_waits.proofs.waits.requests_of.Goals as goal

@@ -1,8 +1,8 @@
 use Rattle.std.proofs.Common.{◌↔◌}
 use Rattle.std.specs.Prelude.{Contains}
 use Rattle.request_circles.specs.declared.requests.Request.{Request as ARequest}
-use Rattle.post_recheck.specs.program_systems.ProgramFacts.{AllFacts, AreProgramFacts, program_with}
-use Rattle.post_recheck.specs.Pairs.{lists_of}
+use Rattle.program_reports.specs.post_recheck.program_systems.ProgramFacts.{AllFacts, AreProgramFacts, program_with}
+use Rattle.program_reports.specs.post_recheck.Pairs.{lists_of}
 use Rattle.lock_waits.specs.reading.Bodies.{IsAskedUpTo}
 use Rattle.lock_waits.proofs.waits.requests_of.Given as goal
 

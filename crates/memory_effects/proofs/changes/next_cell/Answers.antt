@@ -2,7 +2,7 @@ use Rattle.std.proofs.Common.{◌≡◌, ℕ, ◌≤◌, ◌<◌, ◌∙◌, ap,
 use Rattle.std.specs.FinMap.{get, remove}
 use Rattle.std.specs.Option.{MatchOption}
 use Rattle.tm_lattice.specs.Tables.{IsPast, IsNext}
-use Rattle.calculations.specs.transfer_rows.StateForms.{Cell}
+use Rattle.edge_effects.specs.calculations.transfer_rows.StateForms.{Cell}
 use Rattle.memory_effects.proofs.Changing.{none_greater, another}
 use Rattle.memory_effects.proofs.changes.next_cell.Goals as goal
 

@@ -1,7 +1,7 @@
 use Rattle.std.proofs.Common.{◌∙◌, ap, Some}
 use Rattle.tm_laid.specs.Layouts.{laid_tree}
 use Rattle.tm_lattice.specs.Tables.{changed_table}
-use Rattle.calculations.specs.transfer_rows.Rows.{cleared_to}
+use Rattle.edge_effects.specs.calculations.transfer_rows.Rows.{cleared_to}
 use Rattle.edge_actions.specs.Edges.{around_of, cleared_value}
 use Rattle.memory_effects.proofs.Effects.{clear_is}
 use Rattle.memory_effects.proofs.States.{cleared_state}

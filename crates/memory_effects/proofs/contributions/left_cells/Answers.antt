@@ -3,7 +3,7 @@ use Rattle.std.specs.Option.{MatchOption}
 use Rattle.tm_lattice.specs.Tables.{IsPast, IsNext}
 use Rattle.tm_laid.specs.Layouts.{laid_tree}
 use Rattle.pointer_dom.specs.Values.{no_value}
-use Rattle.calculations.specs.transfer_rows.Reports.{left_by}
+use Rattle.edge_effects.specs.calculations.transfer_rows.Reports.{left_by}
 use Rattle.edge_actions.specs.Layouts.{is_shared_cell}
 use Rattle.memory_effects.proofs.Contributing.{IsLeftBelow, left_start, left_put, left_skip, left_all, shown_some}
 use Rattle.memory_effects.proofs.contributions.left_cells.Goals.{in-Some-2+in_ok-put, in_default-2}

@@ -2,7 +2,7 @@ use Rattle.std.proofs.Common.{◌∙◌, ap, true, None}
 use Rattle.std.specs.FinMap.{insert, retain_keys}
 use Rattle.tm_lattice.specs.Tables.{changed_table}
 use Rattle.pointer_dom.specs.PointerSets.{no_pointer}
-use Rattle.calculations.specs.transfer_rows.Rows.{dropped, taken}
+use Rattle.edge_effects.specs.calculations.transfer_rows.Rows.{dropped, taken}
 use Rattle.edge_actions.specs.Edges.{around_of}
 use Rattle.memory_effects.proofs.mutexes.found_free.Goals as goal
 

@@ -4,9 +4,9 @@ use Rattle.tm_laid.specs.Layouts.{laid_tree}
 use Rattle.tm_lattice.specs.Tables.{Table}
 use Rattle.pointer_dom.specs.Values.{no_value}
 use Rattle.interfere_set.specs.Stores.{Interferences}
-use Rattle.calculations.specs.transfer_rows.StateForms.{Cell}
-use Rattle.calculations.specs.transfer_rows.Reports.{left_by}
-use Rattle.calculations.specs.transfer_rows.Contributions.{cells_added, nested_under}
+use Rattle.edge_effects.specs.calculations.transfer_rows.StateForms.{Cell}
+use Rattle.edge_effects.specs.calculations.transfer_rows.Reports.{left_by}
+use Rattle.edge_effects.specs.calculations.transfer_rows.Contributions.{cells_added, nested_under}
 use Rattle.edge_actions.specs.Layouts.{is_shared_cell}
 use Rattle.edge_actions.specs.Edges.{around_of}
 use Rattle.memory_effects.proofs.Effects.{unlock_held, unlock_free}

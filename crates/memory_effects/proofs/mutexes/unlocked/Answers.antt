@@ -1,6 +1,6 @@
 use Rattle.std.proofs.Common.{◌∙◌, ap, bit_and}
 use Rattle.tm_lattice.specs.Tables.{changed_table}
-use Rattle.calculations.specs.transfer_rows.StateForms.{Cell}
+use Rattle.edge_effects.specs.calculations.transfer_rows.StateForms.{Cell}
 use Rattle.edge_actions.specs.Edges.{around_of}
 use Rattle.memory_effects.proofs.States.{kept_temps}
 use Rattle.memory_effects.proofs.mutexes.unlocked.Goals as goal

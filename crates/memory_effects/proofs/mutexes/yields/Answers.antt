@@ -1,6 +1,6 @@
 use Rattle.std.proofs.Common.{◌∙◌, ap, Some}
 use Rattle.tm_lattice.specs.Tables.{changed_table}
-use Rattle.calculations.specs.transfer_rows.Rows.{aged}
+use Rattle.edge_effects.specs.calculations.transfer_rows.Rows.{aged}
 use Rattle.edge_actions.specs.Edges.{around_of}
 use Rattle.memory_effects.proofs.Effects.{yield_is}
 use Rattle.memory_effects.proofs.States.{kept_temps}

@@ -3,9 +3,9 @@ use Rattle.std.specs.Option.{option_map}
 use Rattle.tm_laid.specs.Layouts.{laid_tree}
 use Rattle.pointer_dom.specs.Values.{Values, no_value}
 use Rattle.interfere_set.specs.Stores.{Interferences}
-use Rattle.calculations.specs.transfer_rows.Accesses.{is_among}
-use Rattle.calculations.specs.transfer_rows.Rows.{arrived, after_store}
-use Rattle.calculations.specs.transfer_rows.Contributions.{cells_added, nested_under}
+use Rattle.edge_effects.specs.calculations.transfer_rows.Accesses.{is_among}
+use Rattle.edge_effects.specs.calculations.transfer_rows.Rows.{arrived, after_store}
+use Rattle.edge_effects.specs.calculations.transfer_rows.Contributions.{cells_added, nested_under}
 use Rattle.edge_actions.specs.Layouts.{is_shared_cell, spots_of}
 use Rattle.edge_actions.specs.Edges.{around_of}
 use Rattle.memory_effects.proofs.Effects.{store_is}

@@ -1,7 +1,7 @@
 use Rattle.std.proofs.Common.{◌≡◌, ℕ, length, ◌∙◌, ap, Some, arith}
 use Rattle.tm_lattice.specs.Tables.{changed_table}
-use Rattle.calculations.specs.transfer_rows.Accesses.{single_of}
-use Rattle.calculations.specs.transfer_rows.Rows.{stored_cell}
+use Rattle.edge_effects.specs.calculations.transfer_rows.Accesses.{single_of}
+use Rattle.edge_effects.specs.calculations.transfer_rows.Rows.{stored_cell}
 use Rattle.edge_actions.specs.Edges.{around_of}
 use Rattle.memory_effects.proofs.States.{stored_state}
 use Rattle.memory_effects.proofs.stores.stored.Goals as goal

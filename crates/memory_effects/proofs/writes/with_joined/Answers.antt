@@ -1,8 +1,8 @@
 use Rattle.std.proofs.Common.{ℕ, ◌∙◌, ◌∷◌, [], ◌++◌, get_or, take, sym, subst}
 use Rattle.std.proofs.lemmas.List.{take_all, take_more}
 use Rattle.tm_laid.specs.Layouts.{laid_tree}
-use Rattle.calculations.specs.transfer_rows.StateForms.{Cell}
-use Rattle.calculations.specs.transfer_rows.Rows.{joining}
+use Rattle.edge_effects.specs.calculations.transfer_rows.StateForms.{Cell}
+use Rattle.edge_effects.specs.calculations.transfer_rows.Rows.{joining}
 use Rattle.edge_actions.specs.Layouts.{is_shared_cell}
 use Rattle.memory_effects.proofs.Changing.{IsChangedAmong, among_start, among_where}
 use Rattle.memory_effects.proofs.Joining.{joined_next}

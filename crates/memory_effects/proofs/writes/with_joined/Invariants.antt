@@ -1,6 +1,6 @@
 use Rattle.std.proofs.Common.{take}
 use Rattle.tm_laid.specs.Layouts.{laid_tree}
-use Rattle.calculations.specs.transfer_rows.Rows.{joining}
+use Rattle.edge_effects.specs.calculations.transfer_rows.Rows.{joining}
 use Rattle.edge_actions.specs.Layouts.{is_shared_cell}
 use Rattle.memory_effects.proofs.Changing.{IsChangedAmong}
 use Rattle.memory_effects.proofs.writes.with_joined.Given as goal

@@ -2,8 +2,8 @@ use Rattle.std.proofs.Common.{◌≡◌, ℕ, ◌∙◌, ap, sym, refl, Some}
 use Rattle.std.specs.FinMap.{get}
 use Rattle.std.specs.Option.{option_copied}
 use Rattle.tm_laid.specs.Layouts.{laid_tree}
-use Rattle.calculations.specs.transfer_rows.StateForms.{Cell}
-use Rattle.calculations.specs.transfer_rows.Rows.{joining}
+use Rattle.edge_effects.specs.calculations.transfer_rows.StateForms.{Cell}
+use Rattle.edge_effects.specs.calculations.transfer_rows.Rows.{joining}
 use Rattle.edge_actions.specs.Layouts.{is_shared_cell}
 use Rattle.memory_effects.specs.reading.Changes.{kept_or}
 use Rattle.memory_effects.proofs.Changing.{one_changed, one_absent, one_same}

@@ -2,8 +2,8 @@ use Rattle.std.proofs.Common.{◌∙◌, ap, sym}
 use Rattle.std.specs.FinMap.{insert}
 use Rattle.std.specs.Option.{option_copied}
 use Rattle.tm_laid.specs.Layouts.{laid_tree}
-use Rattle.calculations.specs.transfer_rows.StateForms.{Cell}
-use Rattle.calculations.specs.transfer_rows.Rows.{overwriting}
+use Rattle.edge_effects.specs.calculations.transfer_rows.StateForms.{Cell}
+use Rattle.edge_effects.specs.calculations.transfer_rows.Rows.{overwriting}
 use Rattle.edge_actions.specs.Layouts.{is_shared_cell}
 use Rattle.memory_effects.proofs.Changing.{one_changed, one_absent}
 use Rattle.memory_effects.proofs.writes.with_overwritten.Goals as goal

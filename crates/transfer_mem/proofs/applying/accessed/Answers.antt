@@ -1,7 +1,7 @@
 use Rattle.std.proofs.Common.{sym, ap, subst}
 use Rattle.tm_laid.specs.Layouts.{laid_tree}
-use Rattle.edge_actions.specs.Edges.{around_of, action_of}
-use Rattle.edge_effects.specs.Effects.{IsAfter}
+use Rattle.memory_effects.specs.edge_actions.Edges.{around_of, action_of}
+use Rattle.memory_effects.specs.edge_effects.Effects.{IsAfter}
 use Rattle.transfer_mem.proofs.applying.accessed.Goals as goal
 
 pub returns-in_ok-after-in-LoadAny : goal.returns-in_ok-after-in-LoadAny

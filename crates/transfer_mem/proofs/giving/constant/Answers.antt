@@ -1,5 +1,5 @@
 use Rattle.std.proofs.Common.{refl}
-use Rattle.edge_effects.proofs.Effects.{constant_given}
+use Rattle.memory_effects.proofs.low.edge_effects.Effects.{constant_given}
 use Rattle.transfer_mem.proofs.giving.constant.Goals as goal
 
 pub returns : goal.returns

@@ -2,11 +2,12 @@ use Rattle.std.specs.Prelude.{not}
 use Rattle.std.proofs.Common.{◌∙◌, ap, subst}
 use Rattle.tm_laid.specs.Layouts.{laid_tree, is_alive, stands_at}
 use Rattle.flow_graph.specs.declared.operations.Operation.{Operation}
-use Rattle.calculations.specs.transfer_rows.Actions.{Action, constant, copied, operated, converted, compared, part}
-use Rattle.calculations.specs.transfer_rows.Actions.{element, moved}
-use Rattle.calculations.specs.Given.{IsCalculated}
-use Rattle.edge_actions.specs.Layouts.{numbers_between}
-use Rattle.edge_actions.specs.Edges.{action_of, constant_value, base_value, unary_of, followed}
+use Rattle.memory_effects.specs.calculations.transfer_rows.Actions.{Action, constant, copied, operated, converted}
+use Rattle.memory_effects.specs.calculations.transfer_rows.Actions.{compared, part}
+use Rattle.memory_effects.specs.calculations.transfer_rows.Actions.{element, moved}
+use Rattle.memory_effects.specs.calculations.Given.{IsCalculated}
+use Rattle.memory_effects.specs.edge_actions.Layouts.{numbers_between}
+use Rattle.memory_effects.specs.edge_actions.Edges.{action_of, constant_value, base_value, unary_of, followed}
 use Rattle.transfer_mem.proofs.giving.pointer_given.Goals as goal
 
 pub returns-in-BinPointers : goal.returns-in-BinPointers

@@ -1,8 +1,8 @@
 use Rattle.tm_laid.specs.Layouts.{laid_tree}
-use Rattle.calculations.proofs.low.transfer_rows.Contributing.{added_is}
-use Rattle.calculations.proofs.low.transfer_rows.Fitting.{after_is}
-use Rattle.edge_actions.proofs.ActionForms.{edge_is}
-use Rattle.edge_actions.specs.Edges.{around_of, action_at}
+use Rattle.memory_effects.proofs.low.transfer_rows.Contributing.{added_is}
+use Rattle.memory_effects.proofs.low.transfer_rows.Fitting.{after_is}
+use Rattle.memory_effects.proofs.low.edge_actions.ActionForms.{edge_is}
+use Rattle.memory_effects.specs.edge_actions.Edges.{around_of, action_at}
 use Rattle.transfer_mem.proofs.laws.edges_give_states.Goals as goal
 
 pub returns : goal.returns

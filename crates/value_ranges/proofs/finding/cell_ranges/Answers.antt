@@ -1,7 +1,7 @@
 use Rattle.std.proofs.Common.{refl}
 use Rattle.tm_laid.specs.Layouts.{laid_tree}
-use Rattle.post_recheck.specs.program_systems.ProgramFacts.{program_with}
-use Rattle.post_recheck.specs.Pairs.{lists_of}
+use Rattle.program_reports.specs.post_recheck.program_systems.ProgramFacts.{program_with}
+use Rattle.program_reports.specs.post_recheck.Pairs.{lists_of}
 use Rattle.value_ranges.proofs.Told.{are_cell_ranges}
 use Rattle.value_ranges.proofs.finding.cell_ranges.Goals as goal
 

@@ -3,8 +3,8 @@ use Rattle.std.proofs.lemmas.List.{length-map}
 use Rattle.tm_laid.specs.Layouts.{laid_tree}
 use Rattle.flow_graph.specs.declared.graphs.Graph.{Graph}
 use Rattle.mutex_configs.specs.declared.nodes.ConfiguredGraph.{ConfiguredGraph}
-use Rattle.post_recheck.specs.program_systems.ProgramFacts.{program_with}
-use Rattle.post_recheck.specs.Pairs.{lists_of, pair_of}
+use Rattle.program_reports.specs.post_recheck.program_systems.ProgramFacts.{program_with}
+use Rattle.program_reports.specs.post_recheck.Pairs.{lists_of, pair_of}
 use Rattle.value_ranges.specs.reading.Notes.{Noted, IsNamed, noted_at, AreListed}
 use Rattle.value_ranges.specs.reading.Reached.{AreCopiesOf, AreDeadIn}
 use Rattle.value_ranges.proofs.CellEnds.{cells_are_proper, ranges_grouped}

@@ -2,7 +2,7 @@ use Rattle.std.proofs.Common.{◌≡◌, ◌+◌, ◌∙◌, ℕ, ap, length, re
 use Rattle.std.specs.declared.alloc.Global.{Global}
 use Rattle.std.specs.Option.{option_copied}
 use Rattle.pointer_dom.specs.Values.{Values}
-use Rattle.post_recheck.specs.transfer_rows.StateForms.{own_of, own_value}
+use Rattle.program_reports.specs.post_recheck.transfer_rows.StateForms.{own_of, own_value}
 use Rattle.value_ranges.specs.reading.Notes.{Noted, AreWidened, Below, IsInCell, IsInFirst, no_integer_cell}
 use Rattle.value_ranges.proofs.Widening.{begins, goes_on, stays, cell_noted, cell_silent}
 use Rattle.value_ranges.proofs.notes.note_state.Goals as goal

@@ -1,4 +1,4 @@
-use Rattle.post_recheck.specs.transfer_rows.StateForms.{own_of}
+use Rattle.program_reports.specs.post_recheck.transfer_rows.StateForms.{own_of}
 use Rattle.value_ranges.specs.reading.Notes.{AreWidened, IsInFirst}
 use Rattle.value_ranges.proofs.notes.note_state.Given as goal
 

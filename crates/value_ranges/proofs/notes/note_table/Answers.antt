@@ -1,7 +1,7 @@
 use Rattle.std.proofs.Common.{◌≡◌, ◌+◌, ◌∙◌, ap, length, sym, subst, arith, Vec, Some, None}
 use Rattle.std.specs.declared.alloc.Global.{Global}
 use Rattle.std.proofs.lemmas.List.{get_or_default}
-use Rattle.post_recheck.specs.table_covers.Solutions.{at}
+use Rattle.program_reports.specs.post_recheck.table_covers.Solutions.{at}
 use Rattle.value_ranges.specs.reading.Notes.{Noted, AreWidened, Below, IsInNode}
 use Rattle.value_ranges.proofs.Widening.{begins, goes_on, stays, of_those}
 use Rattle.value_ranges.proofs.Noting.{node_noted, node_silent}

@@ -1,8 +1,8 @@
 use Rattle.std.proofs.Common.{◌≡◌, ◌∙◌, ap, length, List, Option, sym, subst, arith}
-use Rattle.post_recheck.specs.transfer_rows.StateForms.{State}
-use Rattle.post_recheck.specs.program_equations.Solutions.{table_at}
-use Rattle.post_recheck.specs.Pairs.{lists_of}
-use Rattle.post_recheck.proofs.Found.{table_read}
+use Rattle.program_reports.specs.post_recheck.transfer_rows.StateForms.{State}
+use Rattle.program_reports.specs.post_recheck.program_equations.Solutions.{table_at}
+use Rattle.program_reports.specs.post_recheck.Pairs.{lists_of}
+use Rattle.program_reports.proofs.low.post_recheck.Found.{table_read}
 use Rattle.value_ranges.specs.reading.Notes.{AreWidened, IsInTable, IsInTables}
 use Rattle.value_ranges.proofs.Widening.{begins, goes_on, of_those}
 use Rattle.value_ranges.proofs.notes.note_tables.Goals as goal

@@ -1,4 +1,4 @@
-use Rattle.post_recheck.specs.Pairs.{lists_of}
+use Rattle.program_reports.specs.post_recheck.Pairs.{lists_of}
 use Rattle.value_ranges.specs.reading.Notes.{AreWidened, IsInTables}
 use Rattle.value_ranges.proofs.notes.note_tables.Given as goal
 

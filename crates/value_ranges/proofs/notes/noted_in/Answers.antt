@@ -1,7 +1,7 @@
 use Rattle.std.proofs.Common.{length, List, sym, subst, arith}
 use Rattle.std.proofs.lemmas.List.{length-map}
 use Rattle.tm_laid.specs.Layouts.{laid_tree}
-use Rattle.post_recheck.specs.Pairs.{lists_of}
+use Rattle.program_reports.specs.post_recheck.Pairs.{lists_of}
 use Rattle.value_ranges.specs.declared.cells.IntegerCell.{IntegerCell}
 use Rattle.value_ranges.specs.reading.Notes.{AreOfObjects}
 use Rattle.value_ranges.proofs.Listing.{of_objects}

@@ -1,7 +1,7 @@
 use Rattle.std.proofs.Common.{length, List, subst}
 use Rattle.std.proofs.lemmas.Result.{IfOk-weaker}
 use Rattle.tm_terms.specs.declared.places.Place.{Place}
-use Rattle.post_recheck.specs.Pairs.{lists_of}
+use Rattle.program_reports.specs.post_recheck.Pairs.{lists_of}
 use Rattle.value_ranges.specs.reading.Reached.{AreLeftOut}
 use Rattle.value_ranges.proofs.Adding.{dead_in}
 use Rattle.value_ranges.proofs.places.dead_places.Goals as goal

@@ -1,7 +1,7 @@
 use Rattle.std.proofs.Common.{◌≡◌, ◌+◌, ◌∙◌, length, sym, subst, arith, None, Vec}
 use Rattle.std.specs.declared.alloc.Global.{Global}
 use Rattle.std.proofs.lemmas.List.{get_or_default}
-use Rattle.post_recheck.specs.task_equations.Bodies.{no_copy}
+use Rattle.program_reports.specs.post_recheck.task_equations.Bodies.{no_copy}
 use Rattle.tm_terms.specs.declared.places.Place.{Place}
 use Rattle.value_ranges.specs.reading.Reached.{AddsPlaces, IsOfCopy, IsOfCopies}
 use Rattle.value_ranges.proofs.Adding.{adds_nothing, adds_more, adds_same, copy_added, no_copy_added}

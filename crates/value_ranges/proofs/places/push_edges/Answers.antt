@@ -1,5 +1,5 @@
 use Rattle.std.proofs.Common.{◌≡◌, length, subst, arith}
-use Rattle.post_recheck.specs.task_equations.Bodies.{no_edge}
+use Rattle.program_reports.specs.post_recheck.task_equations.Bodies.{no_edge}
 use Rattle.std.specs.Prelude.{get_or}
 use Rattle.value_ranges.specs.Places.{ReachesAt}
 use Rattle.value_ranges.specs.reading.Reached.{AddsPlaces, IsOfEdges}

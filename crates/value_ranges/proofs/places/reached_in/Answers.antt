@@ -2,9 +2,9 @@ use Rattle.std.proofs.Common.{◌≡◌, ◌∙◌, [], ap, length, sym, subst, 
 use Rattle.std.proofs.lemmas.List.{get_or-map, length-map}
 use Rattle.flow_graph.specs.declared.graphs.Graph.{Graph}
 use Rattle.mutex_configs.specs.declared.nodes.ConfiguredGraph.{ConfiguredGraph}
-use Rattle.post_recheck.proofs.Found.{table_read}
-use Rattle.post_recheck.specs.Pairs.{lists_of}
-use Rattle.post_recheck.specs.program_equations.Solutions.{table_at}
+use Rattle.program_reports.proofs.low.post_recheck.Found.{table_read}
+use Rattle.program_reports.specs.post_recheck.Pairs.{lists_of}
+use Rattle.program_reports.specs.post_recheck.program_equations.Solutions.{table_at}
 use Rattle.value_ranges.specs.reading.Reached.{AddsPlaces, IsOfCopies, IsOfTables, edges_at, copies_at}
 use Rattle.value_ranges.proofs.Adding.{adds_nothing, adds_more, adds_all, copies_read, places_read}
 use Rattle.value_ranges.proofs.places.reached_in.Goals as goal

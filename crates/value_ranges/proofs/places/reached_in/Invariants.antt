@@ -1,5 +1,5 @@
 use Rattle.std.proofs.Common.{[]}
-use Rattle.post_recheck.specs.Pairs.{lists_of}
+use Rattle.program_reports.specs.post_recheck.Pairs.{lists_of}
 use Rattle.value_ranges.specs.reading.Reached.{AddsPlaces, IsOfTables}
 use Rattle.value_ranges.proofs.places.reached_in.Given as goal
 

@@ -1,5 +1,5 @@
 use Rattle.std.proofs.Common.{◌∙◌, ap, List, Bool}
-use Rattle.edge_actions.specs.transfer_rows.Accesses.{is_among}
+use Rattle.transfer_mem.specs.edge_actions.transfer_rows.Accesses.{is_among}
 use Rattle.program_equations.specs.Programs.{marked_from}
 use Rattle.body_systems.specs.Facts.{Facts, pointers_of}
 use Rattle.body_systems.proofs.Pointers.{mark_read, no_mark_read}

@@ -2,8 +2,8 @@ use Rattle.std.proofs.Common.{◌≡◌, ◌∙◌, sym, subst}
 use Rattle.std.specs.Prelude.{get_or}
 use Rattle.std.proofs.lemmas.List.{get_or_default}
 use Rattle.std.proofs.lemmas.Result.{IfOk-weaker}
-use Rattle.edge_actions.specs.Edges.{action_at, around_of}
-use Rattle.edge_effects.specs.Effects.{IsAfter}
+use Rattle.transfer_mem.specs.edge_actions.Edges.{action_at, around_of}
+use Rattle.transfer_mem.specs.edge_effects.Effects.{IsAfter}
 use Rattle.transfer_mem.specs.Applicable.{IsApplicable}
 use Rattle.mutex_configs.specs.declared.nodes.EdgeCopy.{EdgeCopy}
 use Rattle.task_equations.specs.Bodies.{no_copy, copy_at}

@@ -1,7 +1,7 @@
 use Rattle.std.proofs.Common.{◌≡◌, ◌∙◌, sym, subst}
 use Rattle.std.specs.Prelude.{get_or}
 use Rattle.std.proofs.lemmas.List.{get_or_default}
-use Rattle.edge_actions.specs.Edges.{action_at, around_of}
+use Rattle.transfer_mem.specs.edge_actions.Edges.{action_at, around_of}
 use Rattle.mutex_configs.specs.declared.nodes.EdgeCopy.{EdgeCopy}
 use Rattle.task_equations.specs.Bodies.{no_copy}
 use Rattle.task_equations.specs.Equations.{action_along, around_along}

@@ -1,9 +1,9 @@
 use Rattle.std.proofs.Common.{◌≡◌, ◌∙◌, sym, ap, subst}
 use Rattle.std.specs.Prelude.{get_or, map}
-use Rattle.edge_actions.specs.Edges.{action_at, around_of}
-use Rattle.edge_effects.specs.Effects.{IsAfter}
+use Rattle.transfer_mem.specs.edge_actions.Edges.{action_at, around_of}
+use Rattle.transfer_mem.specs.edge_effects.Effects.{IsAfter}
 use Rattle.transfer_mem.specs.Applicable.{IsApplicable}
-use Rattle.edge_actions.specs.transfer_rows.StateForms.{State}
+use Rattle.transfer_mem.specs.edge_actions.transfer_rows.StateForms.{State}
 use Rattle.table_covers.specs.Systems.{from_of}
 use Rattle.task_equations.specs.Equations.{link_of}
 use Rattle.program_equations.specs.Systems.{FitsBody}

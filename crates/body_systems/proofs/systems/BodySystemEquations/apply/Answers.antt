@@ -1,9 +1,9 @@
 use Rattle.std.proofs.Common.{◌≡◌, ◌∙◌, sym, ap, subst, Some}
 use Rattle.std.specs.Prelude.{get_or, map, not}
-use Rattle.edge_actions.specs.Edges.{action_at, around_of}
-use Rattle.edge_effects.specs.Effects.{IsAfter}
+use Rattle.transfer_mem.specs.edge_actions.Edges.{action_at, around_of}
+use Rattle.transfer_mem.specs.edge_effects.Effects.{IsAfter}
 use Rattle.transfer_mem.specs.Applicable.{IsApplicable}
-use Rattle.edge_actions.specs.transfer_rows.StateForms.{State}
+use Rattle.transfer_mem.specs.edge_actions.transfer_rows.StateForms.{State}
 use Rattle.table_covers.specs.Systems.{from_of}
 use Rattle.task_equations.specs.Bodies.{copy_at}
 use Rattle.task_equations.specs.Equations.{link_of, after_along}

@@ -2,7 +2,7 @@ use Rattle.std.proofs.Common.{◌∙◌, sym, ap, ℕ, List, Option, Some, Bor}
 use Rattle.std.specs.Prelude.{option_map}
 use Rattle.pointer_dom.specs.Values.{rounded_values}
 use Rattle.cell_env.specs.States.{rounded_state_at}
-use Rattle.edge_actions.specs.transfer_rows.StateForms.{State}
+use Rattle.transfer_mem.specs.edge_actions.transfer_rows.StateForms.{State}
 use Rattle.task_equations.specs.Equations.{rounded_at}
 use Rattle.body_systems.specs.Systems.{SystemOf}
 use Rattle.body_systems.proofs.systems.BodySystemEquations.rounded.Goals as goal

@@ -1,0 +1,9 @@
+-- The crates below, passed on to those above.
+pub use Rattle.calculations.proofs.low.transfer_rows.Contributing
+pub use Rattle.calculations.proofs.low.transfer_rows.CoverSteps
+pub use Rattle.calculations.proofs.low.transfer_rows.CoverValues
+pub use Rattle.calculations.proofs.low.transfer_rows.Covers
+pub use Rattle.calculations.proofs.low.transfer_rows.FilterLaws
+pub use Rattle.calculations.proofs.low.transfer_rows.Fitting
+pub use Rattle.calculations.proofs.low.transfer_rows.RowsRise
+pub use Rattle.calculations.proofs.low.transfer_rows.Steps

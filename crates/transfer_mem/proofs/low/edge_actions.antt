@@ -1,0 +1,3 @@
+-- The crates below, passed on to those above.
+pub use Rattle.edge_filters.proofs.low.edge_actions.ActionForms
+pub use Rattle.edge_filters.proofs.low.edge_actions.Lists
