@@ -1,12 +1,12 @@
 #!/usr/bin/env python3
 """Tries the list of assumptions against what compilers make of random programs.
 
-    benches/assumptions.py NOTES [PROGRAMS [SEED]]
+    benches/assumptions.py ANALYSER [PROGRAMS [SEED]]
 
-NOTES is the built alarm_notes. Each program (1,000, where PROGRAMS does not say another number) has one task over
-shared numbers, arrays, structures, enumerations and functions, and aims at what C99 leaves open: operands with effects,
-pointers that walk through objects, blocks that end, objects that are never set, enumerations beside negative numbers,
-names of the library. gcc and clang compile it at -O0, -O1 and -O2; what the objects of static storage hold at its end
+ANALYSER is the built analyse_main. Each program (1,000, where PROGRAMS does not say another number) has one task
+over shared numbers, arrays, structures, enumerations and functions, and aims at what C99 leaves open: operands with
+effects, pointers that walk through objects, blocks that end, objects that are never set, enumerations beside negative
+numbers, names of the library. gcc and clang compile it at -O0, -O1 and -O2; what the objects of static storage hold at its end
 is compared between these, and with the ranges that the analyser tells. A program whose report is empty and whose list
 has nothing but IMPLEMENTATION has to end everywhere, with the same numbers, each in its range. The status is 1 where
 one does not. Told are also how many of the others deviate, by the kinds in their lists.
@@ -125,9 +125,10 @@ class Program:
         return f"{pad}x = {self.named.split()[-1]}(z & 3) & 15;\n"
 
 
-def answers(notes, text):
+def answers(analyser, text):
     """The status of the report, and each text of `parts` by its name; or a refusal."""
-    done = subprocess.run([notes, "parts"], input=text.encode(), stdout=subprocess.PIPE, stderr=subprocess.DEVNULL, check=False)
+    words = [analyser, "notes", "parts"]
+    done = subprocess.run(words, input=text.encode(), stdout=subprocess.PIPE, stderr=subprocess.DEVNULL, check=False)
     rest, texts = done.stdout, {}
     while done.returncode < 2 and rest:
         head, _, rest = rest.partition(b"\n")
@@ -208,12 +209,12 @@ def is_outside(texts, program, numbers):
     return False
 
 
-def tried(notes, seeds):
+def tried(analyser, seeds):
     """Of each program: the seed; its report; the kinds in the list; the builds deviate; a number is out of its range."""
     programs = [(seed, Program(random.Random(seed))) for seed in seeds]
     found, together, rows = {}, [], []
     for seed, program in programs:
-        found[seed] = answers(notes, program.text)
+        found[seed] = answers(analyser, program.text)
         if found[seed][0] < 2 and "reserved" not in program.holes:
             together.append((seed, program))
     groups = [together] if together else []
@@ -235,14 +236,14 @@ def tried(notes, seeds):
 
 
 def main():
-    notes = sys.argv[1]
+    analyser = sys.argv[1]
     count = int(sys.argv[2]) if len(sys.argv) > 2 else 1000
     first = int(sys.argv[3]) if len(sys.argv) > 3 else 0
     sums, wrong, refusals = collections.Counter(), [], collections.Counter()
     by_kind = collections.Counter()
     with concurrent.futures.ThreadPoolExecutor(os.cpu_count()) as pool:
         batches = [range(at, min(at + TOGETHER, first + count)) for at in range(first, first + count, TOGETHER)]
-        rows = (row for batch in pool.map(lambda it: tried(notes, it), batches) for row in batch)
+        rows = (row for batch in pool.map(lambda it: tried(analyser, it), batches) for row in batch)
         for seed, report, kinds, differ, outside in rows:
             if report.startswith("refused"):
                 refusals[report.split(" ", 2)[-1]] += 1

@@ -56,7 +56,7 @@ sed -n 's/^classes = \(.*\) ∷ \[\]$/\1/p' crates/report_views/specs/Sentences.
     tr '[:lower:]' '[:upper:]' >"$folder/found"
 differs 'classes of crates/report_views/specs/Sentences.antt' "$folder/names" "$folder/found"
 
-# the rules beside the classes: sentence, help and level, and the sentences of tools/findings.awk
+# the rules beside the classes: sentence, help and level, by which tools/findings.awk tells the sentence of the program
 rows docs/ALARMS.md 'WAIT and DEAD in a log' | awk -F ' *[|] *' '{ print $2 "|" $3 "|" $4 "|" $5 }' >"$folder/rules"
 for function in level_text rule_sentence rule_help; do
     tr -s '\n ' ' ' <crates/report_views/specs/Sentences.antt |
@@ -66,8 +66,9 @@ done
 join -t '|' <(sort "$folder/level_text") <(sort "$folder/rule_sentence") | join -t '|' - <(sort "$folder/rule_help") |
     sort -r >"$folder/found"
 differs 'the rules of crates/report_views/specs/Sentences.antt' "$folder/rules" "$folder/found"
-while IFS='|' read -r name level sentence _; do
-    grep -Fq ": $level: $sentence [$name]\"" tools/findings.awk || { echo "tools/findings.awk has not the sentence of $name"; status=1; }
+while IFS='|' read -r name level _; do
+    grep -Fq ": $level: \" says[\"$name\"] \" [$name]\"" tools/findings.awk ||
+        { echo "tools/findings.awk does not tell the sentence of $name as a $level"; status=1; }
 done <"$folder/rules"
 
 rows docs/LANGUAGE.md 'Error classes' | awk '{ print $2 }' >"$folder/found"

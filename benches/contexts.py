@@ -3,7 +3,7 @@
 
     benches/contexts.py PROGRAM CASES
 
-PROGRAM is the built alarm_notes. CASES has a JSON object in each line, with the source `stdin`, and `status` and
+PROGRAM is the built analyse_main. CASES has a JSON object in each line, with the source `stdin`, and `status` and
 `stdout` of the other implementation: where the status is not 2, `stdout` is JSON with the lists `alarms`, `objects`,
 `tasks` and `mutexes`, which refer to each other by their positions. Compared are of each alarm other than a race, in
 their order: place, class and operator; the type in which it computes, the length of an array, the cells of an element,
@@ -114,7 +114,7 @@ def main():
     with open(sys.argv[2], encoding="utf-8") as cases:
         for line in cases:
             case = json.loads(line)
-            ran = subprocess.run([sys.argv[1], "alarms"], input=case["stdin"].encode(), capture_output=True, check=False)
+            ran = subprocess.run([sys.argv[1], "notes", "alarms"], input=case["stdin"].encode(), capture_output=True, check=False)
             text = ran.stdout.decode()
             if case["status"] == 2:
                 is_same = text == case["stdout"]

@@ -193,6 +193,10 @@ def views(top, program, view, folder):
             with open(others[-1], "wb") as it:
                 # (of the answer of `ranges` the view takes what stands behind the lines of objects, of four words)
                 it.writelines(line for line in found.splitlines(keepends=True) if len(line.split()) == 2)
+        # (no program lists assumptions here; the lines of the text are those of its file)
+        others += [f"{path}.assumptions", path, folder, folder]
+        with open(f"{path}.assumptions", "wb") as it:
+            it.write(b"1:1 ORDER\nassumptions 1\n")
         refusal = ["--refusal", path, name, path, folder, "2", "1", "Syntax", "no source goes on so"]
         for words in [["--lines", path, name], ["--sarif", path, name, *others], ["--summary", path, name], refusal]:
             yield f"{words[0]} < the report of {name}", [view, *words], report.stdout

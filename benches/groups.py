@@ -3,7 +3,7 @@
 
     benches/groups.py PROGRAM CASES
 
-PROGRAM is the built alarm_notes. CASES has a JSON object in each line, with the source `stdin`, and `status` and
+PROGRAM is the built analyse_main. CASES has a JSON object in each line, with the source `stdin`, and `status` and
 `stdout` of the other implementation: where the status is not 2, `stdout` is JSON with the lists `objects`, `tasks`,
 `mutexes` and `races`, which refer to each other by their positions. Compared are of each object with a race the place
 and the name, and of each access to it place, task, kind, the mutexes that are held and those that were found free, and
@@ -65,7 +65,7 @@ def main():
     with open(sys.argv[2], encoding="utf-8") as cases:
         for line in cases:
             case = json.loads(line)
-            ran = subprocess.run([sys.argv[1], "races"], input=case["stdin"].encode(), capture_output=True, check=False)
+            ran = subprocess.run([sys.argv[1], "notes", "races"], input=case["stdin"].encode(), capture_output=True, check=False)
             text = ran.stdout.decode()
             is_same = text == case["stdout"] if case["status"] == 2 else told(text) == wanted(case)
             same += is_same

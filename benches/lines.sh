@@ -40,9 +40,8 @@ look() { # WHAT NOTES WORDS..
 }
 
 program=$(told --program)
-noter=${program//analyse_main/alarm_notes}
 look_single() { # SOURCE
-    "$noter" notes <"$1" >"$work/notes" || [ $? = 1 ]
+    "$program" notes notes <"$1" >"$work/notes" || [ $? = 1 ]
     look "${1##*/}" "$work/notes" --preprocessed "$1"
 }
 
@@ -153,8 +152,18 @@ sys.exit(sum(it["ruleId"] in classes for it in results) != int(sys.argv[2]))' "$
     "$program" analyse --json <"$source" >"$work/text" || [ $? = 1 ]
     told --preprocessed "$source" --json | cmp - "$work/text"
     (TERM=xterm on_terminal --plain --preprocessed "$source" --json) | cmp - "$work/text"
+    "$program" notes large report <"$source" >"$work/text" || [ $? = 1 ]
+    told --large --preprocessed "$source" --json | cmp - "$work/text"
+    told --large --plain --preprocessed "$source" --json | cmp - "$work/text"
+    for asked in alarms-why races-races rings-rings assumptions-assumptions; do
+        "$program" notes large "${asked%-*}" <"$source" >"$work/text" || [ $? = 1 ]
+        told --large "--${asked#*-}" --plain --preprocessed "$source" | cmp - "$work/text"
+    done
+    # (each FILE has its own log, whatever the one before has left)
+    told --sarif "$source" >"$work/log"
+    told --each --sarif "$top/examples/tank.c" "$source" | tail -n 1 | cmp - "$work/log"
 done
-echo "logs, pages, --plain and --json: as ever"
+echo "logs, pages, --plain and --json: as ever, on the large scale and of several FILEs too"
 
 # 10,000 alarms: of values; of races at two objects; of races at 50; and two accesses that race at 500.
 python3 - "$work" <<'PYTHON'
@@ -187,7 +196,7 @@ for name in values two_objects objects reached; do
             awk 'END { print $2 + $3 < $1 ? $2 + $3 : $1 }')
         least=$(printf '%s\n' "$took" "$least" | sort -n | head -n 1)
     done
-    "$noter" notes <"$work/$name.c" >"$work/notes" || [ $? = 1 ]
+    "$program" notes notes <"$work/$name.c" >"$work/notes" || [ $? = 1 ]
     look "$name" "$work/notes" --preprocessed "$work/$name.c"
     echo "$name: $(tail -n 1 "$work/lines"), $(wc -l <"$work/lines") lines in $least seconds"
     awk -v took="$least" 'BEGIN { exit took > 2 }' || { echo "$name: more than 2 seconds" && exit 1; }

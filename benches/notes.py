@@ -3,7 +3,7 @@
 
     benches/notes.py PROGRAM CASES
 
-PROGRAM is the built alarm_notes. CASES has a JSON object in each line, with the source `stdin`, and `status` and
+PROGRAM is the built analyse_main. CASES has a JSON object in each line, with the source `stdin`, and `status` and
 `stdout` of the other implementation. The whole texts are compared, byte for byte; of one that differs it is told in
 which members. Of the objects that are not of static storage both list also those that their advice names, which
 need not be the same: a text that differs in these alone, with the numbers of objects that follow from it, counts as one
@@ -55,7 +55,7 @@ def main():
     with open(sys.argv[2], encoding="utf-8") as cases:
         for line in cases:
             case = json.loads(line)
-            ran = subprocess.run([sys.argv[1], "notes"], input=case["stdin"].encode(), capture_output=True, check=False)
+            ran = subprocess.run([sys.argv[1], "notes", "notes"], input=case["stdin"].encode(), capture_output=True, check=False)
             text = ran.stdout.decode()
             if case["status"] == 2:
                 found = [] if text == case["stdout"] else ["refusal"]

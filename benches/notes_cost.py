@@ -1,10 +1,10 @@
 #!/usr/bin/env python3
 """What whole notes cost beside the analysis alone, on sources that are hard for them.
 
-    benches/notes_cost.py ANALYSER NOTER [FILE..]
+    benches/notes_cost.py ANALYSER [FILE..]
 
-ANALYSER is the built analyse_main, NOTER the built alarm_notes. Each source, those made here and each FILE, is answered
-by both in turn, three times; printed are the least processor seconds of each, their ratio, and the greatest memory. The
+ANALYSER is the built analyse_main. Of each source, those made here and each FILE, it makes the report and the whole
+notes in turn, three times; printed are the least processor seconds of each, their ratio, and the greatest memory. The
 notes are read as JSON: a refusal, or counts that are not those of the report, end it with status 1. Made here are:
 stores of unknown subscripts in two tasks, many accesses of one object, many call paths to one place, and 32 tasks."""
 import json
@@ -54,11 +54,11 @@ def answered(words, path):
     return ran, seconds, after.ru_maxrss / 1024
 
 
-def compared(name, path, analyser, noter):
+def compared(name, path, analyser):
     """Prints the row of a source; whether its notes are those of its report."""
     best = {}
     for _ in range(3):
-        for kind, words in (("report", [analyser, "analyse", "--json"]), ("notes", [noter, "notes"])):
+        for kind, words in (("report", [analyser, "analyse", "--json"]), ("notes", [analyser, "notes", "notes"])):
             ran, seconds, memory = answered(words, path)
             if ran.returncode > 1:
                 print(f"{name}: refused by {kind}: {ran.stdout[:200]!r}")
@@ -75,9 +75,9 @@ def compared(name, path, analyser, noter):
 
 
 def main():
-    if len(sys.argv) < 3:
+    if len(sys.argv) < 2:
         sys.exit(__doc__.splitlines()[2].strip())
-    analyser, noter, *files = sys.argv[1:]
+    analyser, *files = sys.argv[1:]
     made = {
         "1,920 stores of unknown subscripts": unknown_subscripts(1920),
         "10,000 accesses of one object": accesses(10000),
@@ -90,9 +90,9 @@ def main():
             path = os.path.join(folder, "source.c")
             with open(path, "w", encoding="ascii") as source:
                 source.write(text + "\n")
-            good &= compared(name, path, analyser, noter)
+            good &= compared(name, path, analyser)
     for path in files:
-        good &= compared(os.path.basename(path), path, analyser, noter)
+        good &= compared(os.path.basename(path), path, analyser)
     return 0 if good else 1
 
 

@@ -1,15 +1,15 @@
 #!/usr/bin/env python3
 """Tries the notes of random programs against random runs of them.
 
-    benches/operands.py ANALYSER NOTES [PROGRAMS [RUNS [SEED]]]
+    benches/operands.py ANALYSER [PROGRAMS [RUNS [SEED]]]
 
-ANALYSER is the built analyse_main, NOTES the built alarm_notes. Each program (100, where PROGRAMS does not say another
-number) has two to four tasks over shared numbers, arrays and mutexes. An interpreter here, which knows nothing of the
-analysis, runs it by random choices (20 times, or RUNS), and `replay` is asked whether these choices lead to this end:
-so many steps, or an error of this class at this place. Of each operation that a run comes to, whether or not it fails,
-the values have to lie in the operands of the alarms at its place; of an alarm of always no run may go on; and where a
-run stops, an alarm of the class has to name the task. In these programs each place has one edge, and one set of
-mutexes is held there, so that nothing is left out of operands. The status is 1 where something is not so."""
+ANALYSER is the built analyse_main. Each program (100, where PROGRAMS does not say another number) has two to four tasks
+over shared numbers, arrays and mutexes. An interpreter here, which knows nothing of the analysis, runs it by random
+choices (20 times, or RUNS), and `replay` is asked whether these choices lead to this end: so many steps, or an error of
+this class at this place. Of each operation that a run comes to, whether or not it fails, the values have to lie in the
+operands of the alarms at its place; of an alarm of always no run may go on; and where a run stops, an alarm of the
+class has to name the task. In these programs each place has one edge, and one set of mutexes is held there, so that
+nothing is left out of operands. The status is 1 where something is not so."""
 import json
 import random
 import subprocess
@@ -304,13 +304,13 @@ def differs(run, source, analyser):
     return None if last == wanted else f"replay: {last}, wanted {wanted}"
 
 
-def main(analyser, notes, programs=100, runs=20, seed=1):
+def main(analyser, programs=100, runs=20, seed=1):
     draw = random.Random(int(seed))
     count = {"programs": 0, "runs": 0, "steps": 0, "values": 0, "stops": 0, "alarms": 0}
     bad = 0
     for _ in range(int(programs)):
         program = Program(draw)
-        answer = asked(notes, ["notes"], program.source)
+        answer = asked(analyser, ["notes", "notes"], program.source)
         if answer.returncode not in (0, 1):
             print(program.source, answer.stdout, answer.stderr)
             return 1
@@ -334,6 +334,6 @@ def main(analyser, notes, programs=100, runs=20, seed=1):
 
 
 if __name__ == "__main__":
-    if len(sys.argv) < 3:
+    if len(sys.argv) < 2:
         sys.exit(__doc__)
     sys.exit(main(*sys.argv[1:]))

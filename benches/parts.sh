@@ -1,12 +1,11 @@
 #!/usr/bin/env bash
-# Compares the texts of `alarm_notes parts` with those that come alone: benches/parts.sh ANALYSER NOTER [SOURCE..],
-# where no SOURCE is given of all of examples/ and of two generated ones. It says of each source whether all nine texts
+# Compares the texts of `notes parts` with those that come alone: benches/parts.sh ANALYSER [SOURCE..], where no SOURCE
+# is given of all of examples/ and of two generated ones. It says of each source whether all nine texts
 # and their statuses are the same, and at the end the processor time of one analysis for all and of one for each.
 set -eu
 
 analyser=$(readlink -f -- "$1")
-noter=$(readlink -f -- "$2")
-shift 2
+shift
 here=$(dirname -- "$(readlink -f -- "${BASH_SOURCE[0]}")")
 work=$(mktemp -d)
 trap 'rm -rf -- "$work"' EXIT
@@ -36,7 +35,7 @@ compare() { # NAME PROGRAM WORDS..
 failed=0
 for source; do
     status=0
-    "$noter" parts <"$source" >"$work/parts" || status=$?
+    "$analyser" notes parts <"$source" >"$work/parts" || status=$?
     if [ "$status" -gt 1 ]; then
         "$analyser" analyse <"$source" >"$work/alone" || true
         cmp -s "$work/alone" "$work/parts" || { failed=1 && printf '%s: another refusal\n' "$source"; }
@@ -44,22 +43,23 @@ for source; do
     fi
     cut_apart "$work/parts"
     compare report "$analyser" analyse --json && compare waits "$analyser" waits &&
-        compare ranges "$analyser" ranges && compare rings "$noter" rings && compare races "$noter" races &&
-        compare alarms "$noter" alarms && compare causes "$noter" causes && compare notes "$noter" notes &&
-        compare assumptions "$noter" assumptions ||
+        compare ranges "$analyser" ranges && compare rings "$analyser" notes rings &&
+        compare races "$analyser" notes races && compare alarms "$analyser" notes alarms &&
+        compare causes "$analyser" notes causes && compare notes "$analyser" notes notes &&
+        compare assumptions "$analyser" notes assumptions ||
         { failed=1 && printf '%s: another text\n' "$source"; }
 done
 
 # The processor seconds of a command over all sources.
-seconds() { # PROGRAM WORDS..
+seconds() { # SOURCE..
     local TIMEFORMAT='%U %S'
-    { time for source; do "${command[@]}" <"$source" >"$work/alone" || true; done; } 2>&1 | awk '{ print $1 + $2 }'
+    { time for source; do "$analyser" "${command[@]}" <"$source" >"$work/alone" || true; done; } 2>&1 | awk '{ print $1 + $2 }'
 }
-command=("$noter" parts)
+command=(notes parts)
 all=$(seconds "$@")
 each=0
-for words in "$analyser analyse --json" "$analyser waits" "$analyser ranges" "$noter rings" "$noter races" "$noter alarms" \
-    "$noter causes" "$noter notes" "$noter assumptions"; do
+for words in 'analyse --json' waits ranges 'notes rings' 'notes races' 'notes alarms' 'notes causes' 'notes notes' \
+    'notes assumptions'; do
     read -ra command <<<"$words"
     each=$(awk "BEGIN { print $each + $(seconds "$@") }")
 done

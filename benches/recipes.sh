@@ -53,7 +53,9 @@ has() { # class|operator|command
     operator) grep -rlawE --exclude-dir=out 'Rem|Remainder|Percent' crates ;;
     command) grep -rlawE --exclude-dir=out 'Replay' crates/cmd_words crates/analyser crates/words_tests ;;
     view)
-        grep -rlawE --exclude-dir=out 'Summary|summary_text|summary' crates/report_views crates/report_view crates/words_tests
+        # (the summary of `big_source` is another)
+        (cd crates && grep -rlawE --exclude-dir=out 'Summary|summary_text|summary' report_views report_view words_tests) |
+            sed 's|^|crates/|' | xargs grep -LawF big_source
         ;;
     *) echo "there is no recipe for $1" >&2; exit 2 ;;
     esac

@@ -4,10 +4,11 @@
 It reads each file with Python's json, and tells the first thing that is not as sections 3.13 to 3.58 of the standard have
 it: which properties an object must have and which it may, of which types, that arrays of distinct values have each value
 once, that lines and columns count from 1 and regions are not empty, that each result names a rule by its word and by its
-position, and that each uri is a reference. Where a uri is a file's, that file must be there, and have the heading that the
+position, that each uri is a reference, and that related places and frames of call paths stand in files of the log. Where a uri is a file's, that file must be there, and have the heading that the
 fragment names. It tells also where a log is not what this project writes: the rules are those of RULES, each with its one
-level, and the results come in three parts, alarms, waits and dead places, and behind them those that are absent; each has a fingerprint, and no two have one; and
-the exit status is 1 where something is to be mended."""
+level, and the results come in four parts, alarms, waits, dead places and assumptions, and behind them those that are
+absent; each has a fingerprint, and no two have one; the kind of assumptions, and of no others, is `review`; and the exit
+status is 1 where something is to be mended."""
 import json
 import os
 import re
@@ -20,10 +21,12 @@ RULES = {
     **dict.fromkeys(["OVERFLOW", "DIV", "SHIFT", "INDEX", "POINTER", "DEREF", "LOCK", "RACE"], "warning"),
     "WAIT": "warning",
     "DEAD": "note",
+    **dict.fromkeys(["CONST", "ENUM", "IMPLEMENTATION", "LAYOUT", "LIFETIME", "MEMBER", "ORDER", "PRAGMA", "RESERVED",
+                     "RESTRICT", "UNSET"], "none"),
 }
 
 # The parts in which the results come.
-PARTS = ["alarms", "WAIT", "DEAD"]
+PARTS = ["alarms", "WAIT", "DEAD", "assumptions"]
 
 # What stands in a uri reference (RFC 3986).
 REFERENCE = r"(?:[A-Za-z0-9._~/-]|%[0-9A-F]{2})*"
@@ -128,6 +131,39 @@ def location(value, where):
     return uri, line, column
 
 
+def site(value, where):
+    """A location with a message: a related one, or that of a frame (3.27.22, 3.45.3)."""
+    only(value, where, "message", "physicalLocation")
+    text(part(value, where, "message", dict), where)
+    return location({"physicalLocation": value.get("physicalLocation"), "logicalLocations": []}, where)
+
+
+def stack(value, here):
+    """A call stack (3.44): its frames (3.45) from the innermost one on, which is where the result stands."""
+    where = "a stack"
+    only(value, where, "frames", "message")
+    text(part(value, where, "message", dict), where)
+    places = []
+    for frame in part(value, where, "frames", list):
+        only(frame, "a frame", "location")
+        places.append(site(part(frame, "a frame", "location", dict), "a frame"))
+    if not places or places[0] != here:
+        raise Wrong(f"{where} does not begin where its result stands")
+    return places
+
+
+def told(value, here):
+    """The places that belong to a result, and those of its call paths: each list has each of its values once."""
+    related, stacks = (part(value, "a result", name, list) for name in ("relatedLocations", "stacks"))
+    distinct(related, "relatedLocations")
+    distinct(stacks, "stacks")
+    if stacks and part_of(value["ruleId"]) != 0:
+        raise Wrong("what is no alarm has a call path")
+    if related and value["ruleId"] != "RACE":
+        raise Wrong("what is no race has related places")
+    return [site(it, "a related place") for it in related] + [place for it in stacks for place in stack(it, here)]
+
+
 def rules_of(driver):
     """The rules of the tool (3.49)."""
     found = []
@@ -219,13 +255,16 @@ def compared(values):
 def result(value, rules):
     """A result (3.27)."""
     where = "a result"
-    only(value, where, "ruleId", "ruleIndex", "level", "message", "locations", "partialFingerprints", "baselineState",
-         "suppressions")
+    only(value, where, "kind", "ruleId", "ruleIndex", "level", "message", "locations", "partialFingerprints",
+         "relatedLocations", "stacks", "baselineState", "suppressions")
     word = part(value, where, "ruleId", str)
     if rules[part(value, where, "ruleIndex", int)] != word:
         raise Wrong(f"the rule of a result is not {word}")
     if part(value, where, "level", str) != RULES[word]:
         raise Wrong(f"the level of a result is not that of {word}")
+    # (3.27.9: what has no kind is a failure, and what has another kind than that has the level none)
+    if value.get("kind", "fail") != ("review" if RULES[word] == "none" else "fail"):
+        raise Wrong(f"a result of {word} is of another kind")
     text(part(value, where, "message", dict), "a message")
     marks = part(value, where, "partialFingerprints", dict)
     only(marks, "the fingerprints", "cedratcleat/v1")
@@ -235,24 +274,34 @@ def result(value, rules):
     here = part(value, where, "locations", list)
     if len(here) != 1:
         raise Wrong("a result has not one place")
-    return word, mark, location(here[0], "a place")
+    place = location(here[0], "a place")
+    return word, mark, place, told(value, place)
+
+
+def part_of(word):
+    """The number of the part in which results of a rule stand."""
+    if RULES[word] == "none":
+        return PARTS.index("assumptions")
+    return PARTS.index(word) if word in PARTS else 0
 
 
 def results(run, rules):
-    """The results of a run that were found, each with its place and its word. Behind them stand those that were not."""
-    found, marks, last = [], [], (False, 0)
+    """The results of a run that were found, each with its place and its word, and the other places that are told of
+    them. Behind them stand those that were not found."""
+    found, others, marks, last = [], [], [], (False, 0)
     values = part(run, "a run", "results", list)
     for value, absent in zip(values, compared(values)):
-        word, mark, here = result(value, rules)
-        number = (absent, PARTS.index(word) if word in PARTS else 0)
+        word, mark, here, of_it = result(value, rules)
+        number = (absent, part_of(word))
         if number < last:
             raise Wrong(f"a result of {word} stands behind one of {PARTS[last[1]]}")
         last = number
         marks.append(mark)
         if not absent:
             found.append((*here, word))
+            others += of_it
     distinct(marks, "the fingerprints")
-    return found
+    return found, others
 
 
 def places(log):
@@ -265,7 +314,7 @@ def places(log):
         only(run, "a run", "tool", "artifacts", "columnKind", "invocations", "results")
         if part(run, "a run", "columnKind", str) != "utf16CodeUnits":
             raise Wrong("columns count something else")
-        told = results(run, tool(run))
+        told, others = results(run, tool(run))
         status, refused = invocation(run)
         if status != 2 and status != any(RULES[word] == "warning" for *_, word in told):
             raise Wrong(f"the exit status is {status}")
@@ -274,7 +323,7 @@ def places(log):
             only(artifact, "an artifact", "location")
             files.append(location_of_file(part(artifact, "an artifact", "location", dict), "an artifact"))
         distinct(files, "the artifacts")
-        for uri in [place[0] for place in told + refused]:
+        for uri in [place[0] for place in told + others + refused]:
             if uri not in files:
                 raise Wrong(f"{uri} is no artifact")
         found += told

@@ -3,23 +3,23 @@
 # another build of the analyser on the same texts.
 #
 #     benches/sizes.sh PROGRAM [OTHER]
-#     benches/sizes.sh --large NOTES [OTHER]
+#     benches/sizes.sh --large PROGRAM [OTHER]
 #
 # PROGRAM is the built analyser (./analyse --program), OTHER one to compare it with, as that of an earlier state. With
-# --large the programs are larger than the limits of the commands allow, and NOTES is the built alarm_notes, which is
-# asked for its report on the large scale; a row then also says how many times the time of `gcc -O0 -c` of the same text
-# that is, which takes the words of the language by include/cedratcleat.h. Each
-# time is the least of three runs, in processor seconds; where there are two programs, they run in turn. A row says lines
-# and tasks, alarms, seconds and MB, and how many times the time of the first the second takes; at the end stands the
-# power of the number of lines with which the time grows from the first row to the last. Only a report counts: where a
-# run has none, or the two differ, the row says so, and the status is 1. GNU time has to be installed.
+# --large the programs are larger than the limits of the commands allow, and PROGRAM is asked for its report on the
+# large scale (`notes large report`); a row then also says how many times the time of `gcc -O0 -c` of the same text that
+# is, which takes the words of the language by include/cedratcleat.h. Each time is the least of three runs, in processor
+# seconds; where there are two programs, they run in turn. A row says lines and tasks, alarms, seconds and MB, and how
+# many times the time of the first the second takes; at the end stands the power of the number of lines with which the
+# time grows from the first row to the last. Only a report counts: where a run has none, or the two differ, the row says
+# so, and the status is 1. GNU time has to be installed.
 set -eu
 words=(analyse)
 sizes=('250 3' '500 4' '750 5' '1000 6' '1400 8')
 runs='1 2 3'
 large=no
 if [ "${1-}" = --large ]; then
-    words=(large report)
+    words=(notes large report)
     sizes=('1000 6' '2500 10' '5000 15' '10000 20' '20000 30')
     runs=1
     large=yes

@@ -204,21 +204,37 @@ wanted=$'a.h:8:46 LOCK\na.h:8:46: m is held already where it is locked here\na.h
 wanted+=$'a.h:8:46: a run that comes here so always ends here: what stands behind is not analysed for such runs\nalarms 1\nstatus 1'
 same "$wanted" "$(noted '__mutex m;\n__task(3) void t(void) { __lock(m); for (;;) __lock(m); }\n')" "why of a lock"
 wanted=$'a.h:8:27 INDEX\na.h:8:27: the subscript is 0 to 8 here, and the array has 8 elements\n'
-wanted+=$'a.h:7:5: the array stands in w, which is declared here\na.h:8:27: in t (priority 1)\nalarms 1\nstatus 1'
+wanted+=$'a.h:7:5: the array stands in w, which is declared here\na.h:8:27: in t (priority 1)\n'
+wanted+=$'a.h:8:27: an input, or a function that may end without return, gives 0 to 8 here\nalarms 1\nstatus 1'
 same "$wanted" "$(noted 'int w[8];\n__task(1) void t(void) { w[__input(0, 8)] = 1; }\n')" "why of an index"
 wanted=$'a.h:9:26 DEREF\na.h:9:26: the pointer may be null\n'
-wanted+=$'a.h:7:5: the pointer may lead to g, which is declared here\na.h:9:26: in t (priority 1)\nalarms 1\nstatus 1'
+wanted+=$'a.h:7:5: the pointer may lead to g, which is declared here\na.h:9:26: in t (priority 1)\n'
+wanted+=$'a.h:9:26: null is meant here\nalarms 1\nstatus 1'
 same "$wanted" "$(noted 'int g;\nint *f(int k) { if (k == 1) return &g; return 0; }\n__task(1) void t(void) { *f(__input(0, 3)) = 5; }\n')" \
     "why of a pointer"
 wanted=$'a.h:9:32 POINTER\na.h:9:32: 0 to 6 is added to the pointer here, in elements of 1 cell\n'
 wanted+=$'a.h:7:5: the pointer may lead to w, which is declared here and has 4 elements: at its beginning\n'
-wanted+=$'a.h:7:5: the sum may lie behind the end of w\na.h:9:32: in t (priority 1)\nalarms 1\nstatus 1'
+wanted+=$'a.h:7:5: the sum may lie behind the end of w\na.h:9:32: in t (priority 1)\n'
+wanted+=$'a.h:9:32: an input, or a function that may end without return, gives 0 to 6 here\nalarms 1\nstatus 1'
 same "$wanted" "$(noted 'int w[4];\nint *p;\n__task(1) void t(void) { p = w + __input(0, 6); }\n')" "why of a sum"
 wanted=$'a.h:8:31 DIV\na.h:8:31: the divisor is 0 here, and the dividend is 1\na.h:8:31: in main (before the tasks run)\n'
-wanted+=$'a.h:8:31: a run that comes here so always ends here: what stands behind is not analysed for such runs\nalarms 1\nstatus 1'
+wanted+=$'a.h:8:31: a run that comes here so always ends here: what stands behind is not analysed for such runs\n'
+wanted+=$'a.h:8:33: main reads 0 from y here\na.h:8:33: y may be as it was before the program ran\nalarms 1\nstatus 1'
 same "$wanted" "$(noted 'int x, y;\nint main(void) { x = 2; x = 1 / y; return 0; }\n__task(1) void t(void) { y = 1; }\n')" \
     "why of an error that always occurs"
 same $'alarms 0\nstatus 0' "$(noted 'int x;\n')" "why of no alarm"
+# A log tells with which accesses a race is, and on what call paths control comes to an alarm, each place and path once,
+# also where a macro stands at several.
+printf '%s\n' 'int x;' '#define TWICE x = x + x' 'void f(void) { x = 1; }' '#define CALLS f(); f()' \
+    '__task(1) void t(void) { TWICE; CALLS; }' '__task(2) void u(void) { TWICE; }' >"$work/macros.c"
+"$top/analyse" "${how[@]}" --sarif "$work/macros.c" >"$work/macros.sarif" 2>"$work/err" || [ $? = 1 ]
+python3 "$top/benches/sarif.py" "$work/macros.sarif" >"$work/told" || { cat "$work/told" && exit 1; }
+same 'RACE 3 store of x in u, no mutex held; in t: 3 5; in t (2): 3 5' "$(python3 -c 'import json, sys
+def line(it): return str(it["physicalLocation"]["region"]["startLine"])
+it = json.load(open(sys.argv[1]))["runs"][0]["results"][0]
+stacks = [x["message"]["text"] + ": " + " ".join(line(y["location"]) for y in x["frames"]) for x in it["stacks"]]
+print("; ".join([it["ruleId"] + " " + line(it["locations"][0]) + " " + it["relatedLocations"][0]["message"]["text"]] + stacks))
+' "$work/macros.sarif")" "what a log tells of an alarm"
 # A certificate has the text that the preprocessor made, and ends as its grammar says.
 printf '# 7 "a b.h"\nint x;\n__task(1) void t(void){x=1/x;}\n' >"$work/certified.c"
 told "$top/analyse" --preprocessed --certify "$work/certified.c" >"$work/certificate"
@@ -274,7 +290,8 @@ opened() { # PAGE
 }
 
 # The logs and summaries of the examples: each log has the places and words of the lines, then those of the waits, then
-# those of the dead places, and its status is 1 where there is an alarm or a wait. A line that a macro changed is whole.
+# those of the dead places, then those of the assumptions, and its status is 1 where there is an alarm or a wait. A line
+# that a macro changed is whole.
 for source in "$top"/examples/*.c "$top/examples/project/project.c"; do
     told "$top/analyse" --sarif "$source" >"$work/log"
     for form in --summary --waits --ranges --assumptions; do told "$top/analyse" "$form" "$source" >"$work/form$form"; done
@@ -282,7 +299,8 @@ for source in "$top"/examples/*.c "$top/examples/project/project.c"; do
         "the status of the log of ${source##*/}"
     sed -i '$d' "$work/log"
     python3 "$here/sarif.py" "$work/log"
-    same "$({ told "$top/analyse" --why "$source" | grep ': warning: ' && cat "$work/form--waits" "$work/form--ranges"; } |
+    same "$({ told "$top/analyse" --why "$source" | sed '/: warning: /!d'
+        cat "$work/form--waits" "$work/form--ranges" "$work/form--assumptions"; } |
         sed -n 's/^\(.*:[0-9]*:[0-9]*: \)[a-z]*: .* \[\([A-Z]*\)\]$/\1\2/p' |
         sed 's/\(display\.c:10\):[0-9]*: /\1:-: /')" \
         "$(placed "$work/log")" "the log of ${source##*/}"

@@ -49,10 +49,10 @@ STATIONS = {
     "Certificates": "certificate_words certificate_parts certificate_texts certificate_reading certificate_check"
     " check_main",
     "Replays": "replay_lines replay_runs source_replays",
-    "Commands": "big_source analyser analyse_main alarm_notes",
+    "Commands": "big_source analyser analyse_main",
     "Views of reports": "place_details report_reading report_views report_logs report_view page_pieces report_pages"
     " report_page log_baselines report_baseline refusal_hints refusal_hint",
-    "Tests": "held_passes engine_tests words_tests source_tests transfer_tests program_tests",
+    "Tests": "held_passes engine_tests words_tests source_tests program_tests",
 }
 
 

@@ -14,11 +14,11 @@ part == 2 { shown[places[FNR]] = $0; next }
 # The last line has the number alone: `waits N`, `rings N`, `races N`, `dead N` or `assumptions N`.
 !($1 in shown) { print; next }
 NF == 2 && $2 == "WAIT" {
-    print shown[$1] ": warning: tasks may come to wait for each other for ever, one of them at this lock [WAIT]"
+    print shown[$1] ": warning: " says["WAIT"] " [WAIT]"
     next
 }
 NF == 2 && ($2 in opening) { print shown[$1] ": note: " opening[$2] " [" $2 "]"; next }
-NF == 2 && $2 == "DEAD" { print shown[$1] ": note: no run reaches this [DEAD]"; next }
+NF == 2 && $2 == "DEAD" { print shown[$1] ": note: " says["DEAD"] " [DEAD]"; next }
 NF == 3 && $2 == "RING" {
     print shown[$1] ": warning: " $3 " tasks may come to wait for each other for ever, in this order [WAIT]"
     next

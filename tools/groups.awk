@@ -4,40 +4,22 @@
 # these one with the fewest mutexes, and of these the first. Behind the number of alarms stands how many are of races.
 #
 # It reads six parts: the places of declarations, `LINE:COL`, in a line each; these places in their files, line by line;
-# the alarms, `LINE:COL CLASS`; the whole notes, as `alarm_notes notes` writes them, with `{` as what ends a record and
-# `"` as what parts its fields, so that a record is an object of JSON up to the next one; the lines of the alarms; and
-# these lines as they stand beside comments: one that is another there stays, and begins no group. The variable `mark`
-# of the environment is the number of `_` before the number of a unit in a new name of a project's text.
+# the alarms, `LINE:COL CLASS`; the whole notes, as `notes notes` writes them, with `{` as what ends a record and `"` as
+# what parts its fields, so that a record is an object of JSON up to the next one; the lines of the alarms; and these
+# lines as they stand beside comments: one that is another there stays, and begins no group. It is read behind
+# notes.awk.
 
 BEGIN {
-    for (it = 0; it < ENVIRON["mark"]; it++) new_name = new_name "_"
-    if (new_name != "") new_name = new_name "[0-9]+$"
+    begin_notes()
     MOST = 8
     last_mutex = last_object = last_task = group = -1
 }
 
 # ----- The notes -----
 
-# A number behind the name of its member.
-function number(field) {
-    return substr(field, 2) + 0
-}
-
-# The numbers of a list behind the name of its member, each between commas, or nothing.
-function numbers(field) {
-    field = substr(field, 3, index(field, "]") - 3)
-    return field == "" ? "" : "," field ","
-}
-
 # How many numbers such a list has.
 function count_of(list) {
     return list == "" ? 0 : gsub(/[0-9]+/, "&", list)
-}
-
-# The name that a file has where a text of units has a new one.
-function old_name(name) {
-    if (new_name != "") sub(new_name, "", name)
-    return name
 }
 
 # Reads the members of an object from a field on, up to the first that is a list of objects: texts and numbers.
@@ -62,18 +44,21 @@ function begin_access() {
     held = numbers($3)
     held_count = count_of(held)
     found[accesses] = ""
+    is_settled = 0
     if ($16 == "race") end_access(16)
 }
 
-# Reads a partner, which counts where the report has an alarm at its place too.
-function read_partner(    place, of, rank) {
-    place = number($11) ":" number($3)
-    if (place in races) {
-        of = numbers($5)
-        rank = (kind == "store" && $8 == "store" ? 0 : 1000) + held_count + count_of(of)
-        if (found[accesses] == "" || rank < found_rank[accesses]) {
-            found[accesses] = place " " number($13) " " $8 " " of
+# Reads a partner, which counts where the report has an alarm at its place too, and no better one was there. Where one
+# is as good as any, the further ones are passed over.
+function read_partner(    place, rank) {
+    if (!($5 in length_of)) length_of[$5] = count_of(numbers($5))
+    rank = (kind == "store" && $8 == "store" ? 0 : 1000) + held_count + length_of[$5]
+    if (found[accesses] == "" || rank < found_rank[accesses]) {
+        place = number($11) ":" number($3)
+        if (place in races) {
+            found[accesses] = place " " number($13) " " $8 " " numbers($5)
             found_rank[accesses] = rank
+            is_settled = rank == (kind == "store" ? 0 : 1000) + held_count
         }
     }
     if ($14 == "race") end_access(14)
@@ -81,6 +66,7 @@ function read_partner(    place, of, rank) {
 
 # Reads the end of an access, and of its alarm where it is the last of it.
 function end_access(field,    place, it, of) {
+    is_settled = 0
     group_of[accesses] = number($(field + 1))
     own[accesses] = number($(field + 3)) " " kind " " held
     if ($(field + 4) != "class") return
@@ -215,6 +201,7 @@ part == 3 {
     if ($2 == "RACE") races[$1] = is_race[FNR] = 1
     next
 }
+part == 4 && is_settled && !index($0, "\"race\":") { next }
 part == 4 { read_notes(); next }
 part == 5 {
     line[FNR] = $0

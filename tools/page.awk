@@ -2,11 +2,11 @@
 # and one of remarks. It reads fourteen parts: the places of the text, `LINE:COL`, in a line each; these places in their
 # files, line by line; how the results of the report stand, as `report_baseline` writes it, and the reasons for which
 # they are suppressed, both empty where nothing is compared; the report, a line `LINE:COL CLASS` for each alarm; the
-# same with its notes, as reasons.awk writes it; the notes on races, on other alarms and on rings, as `alarm_notes`
-# writes them; the answer of `ranges`; the text; for each of its lines the line of the file that it comes from; the list
-# of assumptions; and those of it that are marked, in the same order. `name` of the environment is the name of the file,
-# `spelled` the same as a line mark spells it; `folder` is where the four texts go; `baseline` is the name of the old log,
-# or nothing. It is read behind openings.awk.
+# notes on races, on other alarms and on rings, as `notes` writes them; the answer of `ranges`; the text; for each of
+# its lines the line of the file that it comes from; the list of assumptions; those of it that are marked, in the same
+# order; and the report with its notes, as reasons.awk writes it. `name` of the environment is the name of the file,
+# `spelled` the same as a line mark spells it; `folder` is where the four texts go; `baseline` is the name of the old
+# log, or nothing. It is read behind openings.awk.
 #
 # In a composed text each byte from 13 to 31 stands for markup (docs/PROGRAM.md, "The program `report_page`").
 
@@ -139,20 +139,40 @@ function read_range(    at, text) {
 }
 
 # Reads the report with its notes: a warning for each alarm, and behind it its notes.
-function read_reason(    at, place, text) {
-    if (alarm < alarms && index($0, shown[place_of[alarm + 1]] ": warning: ") == 1) {
+function read_reason(    at, place) {
+    if (FNR == 1) expect_warning()
+    if (alarm < alarms && substr($0, 1, length(warning)) == warning) {
+        sentence[alarm + 1] = substr($0, length(warning) + 1)
+        sub(/ \[[A-Z]+\]$/, "", sentence[alarm + 1])
+        end_notes()
         alarm++
-        sentence[alarm] = substr($0, length(shown[place_of[alarm]]) + 12)
-        sub(/ \[[A-Z]+\]$/, "", sentence[alarm])
+        shown_here = shown[place_of[alarm]]
+        expect_warning()
         return
     }
     at = index($0, ": note: ")
     if (!at || !alarm) return
     place = substr($0, 1, at - 1)
-    text = substr($0, at + 8)
-    if (place == shown[place_of[alarm]]) notes[alarm] = notes[alarm] NOTE text NOTE_END
-    else if (!(place in line_of)) notes[alarm] = notes[alarm] NOTE place ": " text NOTE_END
-    else notes[alarm] = notes[alarm] NOTE LINK line_of[place] LINKED place LINK_END ": " text NOTE_END
+    if (place == shown_here) noted = noted NOTE substr($0, at + 8) NOTE_END
+    else noted = noted link_to(place) substr($0, at + 8) NOTE_END
+}
+
+# What the line of the next alarm begins with.
+function expect_warning() {
+    warning = shown[place_of[alarm + 1]] ": warning: "
+}
+
+# The notes of an alarm are whole.
+function end_notes() {
+    if (alarm) notes[alarm] = noted
+    noted = ""
+}
+
+# What a note at another place begins with.
+function link_to(place) {
+    if (!(place in links)) links[place] = NOTE \
+        (place in line_of ? LINK line_of[place] LINKED place LINK_END : place) ": "
+    return links[place]
 }
 
 # Reads the priorities of tasks that begin in a line, where they are numbers: notes on races and rings do not tell them.
@@ -207,34 +227,34 @@ part == 3 && NF == 8 { for (it = 1; it < NF; it += 2) standing[$it] = $(it + 1);
 part == 3 { stands[FNR] = $1; next }
 part == 4 { why[FNR] = $0; next }
 part == 5 { alarms++; place_of[alarms] = $1; class_of[alarms] = $2; next }
-part == 6 { read_reason(); next }
-part == 7 && NF == 4 && $3 == "RACES" {
+part == 6 && NF == 4 && $3 == "RACES" {
     declared[++groups] = $1
     object[groups] = $2
     is_raced[$1, $2] = 1
     next
 }
-part == 7 && $4 == "holds" { read_access(); next }
-part == 8 && $2 ~ /^[A-Z]+$/ && NF > 3 && $3 !~ /^(of|bad)$/ { read_tasks(); next }
-part == 9 && NF == 3 && $2 == "RING" {
+part == 6 && $4 == "holds" { read_access(); next }
+part == 7 && $2 ~ /^[A-Z]+$/ && NF > 3 && $3 !~ /^(of|bad)$/ { read_tasks(); next }
+part == 8 && NF == 3 && $2 == "RING" {
     ring_place = wait_of[waits + 1] = $1
     ring_length = $3
     requests = 0
     next
 }
-part == 9 && $3 == "holds" { read_request(); next }
-part == 10 && NF == 2 && $2 == "DEAD" {
+part == 8 && $3 == "holds" { read_request(); next }
+part == 9 && NF == 2 && $2 == "DEAD" {
     dead++
     dead_row = dead_row (dead_row == "" ? "" : ", ") linked($1)
     at = line_at($1)
     dead_at[at] = (dead_at[at] == "" ? DEAD "no run reaches this line's column " : dead_at[at] ", ") column_at($1)
     next
 }
-part == 10 && NF == 4 { read_range(); next }
-part == 11 { read_text(); next }
-part == 12 { line[FNR] = $0; next }
-part == 13 && NF == 2 && ($2 in opening) { open_count[$2]++; next }
-part == 14 && NF == 2 && ($2 in opening) { open_place[++opened] = $1; open_kind[opened] = $2; next }
+part == 9 && NF == 4 { read_range(); next }
+part == 10 { read_text(); next }
+part == 11 { line[FNR] = $0; next }
+part == 12 && NF == 2 && ($2 in opening) { open_count[$2]++; next }
+part == 13 && NF == 2 && ($2 in opening) { open_place[++opened] = $1; open_kind[opened] = $2; next }
+part == 14 { read_reason(); next }
 
 # The head of a table under a heading.
 function begin_table(heading, columns) {
@@ -364,8 +384,8 @@ function write_lines(to,    it) {
     close(to)
 }
 
-# Behind a line stands first what marks it: a dead place, or an alarm or a wait, or an assumption. A range marks none, so
-# where it stands alone a blank does before it.
+# Behind a line stands first what marks it: a dead place, or an alarm or a wait, or an assumption. A range marks none,
+# so where it stands alone a blank does before it.
 function write_remarks(to,    it, at) {
     for (it = 1; it <= texts; it++) {
         if (it in dead_at) printf "%s", dead_at[it] NOTE_END > to
@@ -383,6 +403,7 @@ function begun(name) {
 }
 
 END {
+    end_notes()
     place_alarms()
     place_openings()
     write_tables(begun("tables"))

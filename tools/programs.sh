@@ -9,15 +9,14 @@
 # goes there, and nothing copies it.
 
 # The programs, by the names of their crates: the analyser, the one that shows a report in its files, the one that joins
-# the units of a project, the one that tells of a refusal what stands there, the one that tells rings and races by object,
-# the one that writes pages, and the one that compares logs. `program`, `viewer`, `joiner`, `hinter`, `noter`, `pager` and
-# `comparer` are their paths, once they are found.
-programs=(analyse_main report_view join_units refusal_hint alarm_notes report_page report_baseline)
+# the units of a project, the one that tells of a refusal what stands there, the one that writes pages, and the one that
+# compares logs. `program`, `viewer`, `joiner`, `hinter`, `pager` and `comparer` are their paths, once they are found.
+programs=(analyse_main report_view join_units refusal_hint report_page report_baseline)
 
-# What `--prove` takes, as README.md has it, measured on a busy machine: processor minutes in all, and minutes for the
+# What `--prove` takes, as README.md has it, by the table of docs/GATE.md: processor minutes in all, and minutes for the
 # longest chain of crates, each of which stands on the one before.
-proof_processor_minutes=200
-proof_chain_minutes=45
+proof_processor_minutes=260
+proof_chain_minutes=50
 
 say() { # MESSAGE
     printf '%s: %s\n' "$me" "$1" >&2
@@ -45,12 +44,30 @@ is_installed() {
     [ -f "$top/installed" ]
 }
 
-# The sum of the names and the contents of all sources.
+# The sources, each with what its file system says of it: where it stands there, its size, and when it or its name was
+# last changed, which no program can set.
+list_sources() { # FIND'S WORDS..
+    find crates.txt crates \( -name out -prune \) -o -type f \
+        \( -name '*.rt' -o -name '*.antt' -o -name crates.txt \) "$@"
+}
+
+# The sum of the names and the contents of all sources. The store keeps the last one of each checkout, and files are read
+# again only where one of them has changed since.
 sum_of_sources() {
-    (CDPATH='' cd -- "$top" &&
-        find crates.txt crates \( -name out -prune \) -o -type f \
-            \( -name '*.rt' -o -name '*.antt' -o -name crates.txt \) -print0 |
-        LC_ALL=C sort -z | xargs -0 sha256sum | sha256sum | cut -d ' ' -f 1) 2>/dev/null
+    (
+        CDPATH='' cd -- "$top" || exit
+        state=$(list_sources -printf '%p %D %i %s %C@\n' | LC_ALL=C sort | sha256sum | cut -d ' ' -f 1)
+        kept=$(store)/sums/$(pwd -P | sha256sum | cut -c 1-24)
+        if read -r was sum <"$kept" && [ "$was" = "$state" ]; then
+            printf '%s\n' "$sum"
+            exit
+        fi
+        sum=$(list_sources -print0 | LC_ALL=C sort -z | xargs -0 sha256sum | sha256sum | cut -d ' ' -f 1)
+        printf '%s\n' "$sum"
+        # (a file that changed in this second can change once more at what its file system takes for the same time)
+        [ -n "$(list_sources -newerct '2 seconds ago' -print -quit)" ] ||
+            { mkdir -p -- "${kept%/*}" && printf '%s %s\n' "$state" "$sum" >"$kept.$$" && mv -f -- "$kept.$$" "$kept"; }
+    ) 2>/dev/null
 }
 
 # What the first lines of a stamp have to be: the sum of the sources, and those of the programs.
@@ -104,9 +121,8 @@ use() { # KIND STAMP PROGRAM..
     viewer=$4
     joiner=$5
     hinter=$6
-    noter=$7
-    pager=$8
-    comparer=$9
+    pager=$7
+    comparer=$8
 }
 
 # Sets `sum`, the sum of the sources: where the programs were installed without them, the one of which their stamp

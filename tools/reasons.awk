@@ -1,6 +1,6 @@
 # Writes the lines of a report in its files, and below each why its alarm stands there. It reads eight parts: the places
 # of the notes, `LINE:COL`, in a line each; these places in their files, line by line; the notes on races, those on the
-# other alarms and the advice on these, as `alarm_notes` writes them; the ways to alarms, as `ways.awk` writes them; the
+# other alarms and the advice on these, as `notes` writes them; the ways to alarms, as `ways.awk` writes them; the
 # report as it counts the lines of the text, and as its files do.
 
 BEGIN {
@@ -43,31 +43,55 @@ function values(key, role) {
 
 # ----- Alarms of values and locks -----
 
+# Lines differ in little but their places: what is the same behind a place is looked at once, and kept by this text.
+
+# Reads a line on an alarm, on one of its operands, or on a pointer among the values of that.
+function read_alarm(    at, rest) {
+    at = index($0, " ")
+    rest = substr($0, at + 1)
+    if (!(rest in sort_of)) sort_of[rest] = sort_of_line()
+    if (sort_of[rest] == "alarm") {
+        if (!(rest in operator)) read_head(rest)
+        key = substr($0, 1, at) class_of[rest]
+        head[key] = rest
+    } else if (sort_of[rest] == "object") objects[key, role, ++count[key, role]] = $0
+    else if (sort_of[rest] == "flaw") bad[key, $1, $4] = 1
+    else if (substr($0, 1, at - 1) in shown) read_operand(rest)
+}
+
+# What the line is of: one of an object of a pointer, LINE:COL NAME of SIZE at LEAST GREATEST STRIDE, one of what is
+# wrong with a pointer to an object, LINE:COL NAME bad FLAW, the first one of an alarm, or one of an operand.
+function sort_of_line() {
+    if ($3 == "of" && $5 == "at") return "object"
+    if (NF == 4 && $3 == "bad") return "flaw"
+    return $2 ~ /^[A-Z]+$/ ? "alarm" : "operand"
+}
+
 # Reads the first line of an alarm: LINE:COL CLASS OPERATOR .. edges N [always] tasks NAME PRIORITY ..
-function read_head(    at, text) {
-    key = $1 " " $2
-    operator[key] = $3
+function read_head(rest,    at, text) {
+    class_of[rest] = $2
+    operator[rest] = $3
     at = 4
     if ($2 == "LOCK") {
-        mutex[key] = $4
-        rule[key] = $5
+        mutex[rest] = $4
+        rule[rest] = $5
         at = 6
     }
     for (; $at != "edges"; at++) {
-        if ($at == "in") type[key] = listed_type(at + 1)
-        if ($at == "of") elements[key] = $(at + 1)
-        if ($at == "cells") cells[key] = $(at + 1)
+        if ($at == "in") type[rest] = listed_type(at + 1)
+        if ($at == "of") elements[rest] = $(at + 1)
+        if ($at == "cells") cells[rest] = $(at + 1)
     }
     at += 2
     if ($at == "always") {
-        always[key] = 1
+        always[rest] = 1
         at++
     }
     for (at++; at < NF; at += 2) {
         text = text (text == "" ? "in " : ", ") $at \
             ($(at + 1) == "initial" ? " (before the tasks run)" : " (priority " $(at + 1) ")")
     }
-    tasks[key] = text
+    tasks[rest] = text
 }
 
 # The words of a type.
@@ -77,35 +101,33 @@ function listed_type(at,    text) {
 }
 
 # Reads the line of an operand: LINE:COL ROLE [LEAST GREATEST STRIDE] [null] [invalid]
-function read_operand(    at) {
-    role = $2
-    if ($3 ~ /^-?[0-9]+$/) numbers[key, role] = range($3, $4, $5, type[key])
+function read_operand(rest,    computed, at) {
+    computed = type[head[key]]
+    if (!((computed, rest) in role_of)) {
+        role_of[computed, rest] = $2
+        if ($3 ~ /^-?[0-9]+$/) span_of[computed, rest] = range($3, $4, $5, computed)
+        for (at = 3; at <= NF; at++) if ($at == "null" || $at == "invalid") is_bad[computed, rest] = 1
+    }
+    role = role_of[computed, rest]
+    if ((computed, rest) in span_of) numbers[key, role] = span_of[computed, rest]
+    if (!((computed, rest) in is_bad)) return
     for (at = 3; at <= NF; at++) if ($at == "null" || $at == "invalid") is[key, role, $at] = 1
 }
 
-# Reads the line of an object of its pointers: LINE:COL NAME of SIZE at LEAST GREATEST STRIDE
-function read_object() {
-    objects[key, role, ++count[key, role]] = $0
-}
-
-# Reads what is wrong with a pointer to an object: LINE:COL NAME bad FLAW
-function read_flaw() {
-    bad[key, $1, $4] = 1
-}
-
 # Tells of an object to which a pointer may lead, in elements where it consists of whole ones and they are known.
-function tell_object(key, text,    words, size, unit, low, high, step, sentence) {
+function tell_object(key, text,    words, size, unit, low, high, step, sentence, of_element) {
     split(text, words, " ")
     size = words[4]
     low = words[6]
     high = words[7]
     step = words[8]
     unit = 1
-    if (cells[key] > 1 && size % cells[key] + low % cells[key] + high % cells[key] + step % cells[key] == 0)
-        unit = cells[key]
+    of_element = cells[head[key]]
+    if (of_element > 1 && size % of_element + low % of_element + high % of_element + step % of_element == 0)
+        unit = of_element
     sentence = "the pointer may lead to " words[2] ", which is declared here"
     if (size > 1 || high > 0) {
-        sentence = sentence " and has " counted(size / unit, unit > 1 || cells[key] == 1 ? "element" : "cell") ": " \
+        sentence = sentence " and has " counted(size / unit, unit > 1 || of_element == 1 ? "element" : "cell") ": " \
             (high == 0 ? "at" : range(low / unit, high / unit, step / unit) " behind") " its beginning"
         if (high == size) sentence = sentence ", and so behind its last"
     }
@@ -123,7 +145,7 @@ function counted(number, unit) {
 
 # Tells of a pointer: what it may be, and where it may lead.
 function tell_pointer(key, role,    at) {
-    if (is[key, role, "null"] && operator[key] != "pointer") note(place, "the pointer may be null")
+    if (is[key, role, "null"] && operator[head[key]] != "pointer") note(place, "the pointer may be null")
     if (is[key, role, "invalid"]) note(place, "the pointer may not have been set")
     for (at = 1; at <= count[key, role] && at <= MOST; at++) tell_object(key, objects[key, role, at])
     if (at <= count[key, role])
@@ -138,46 +160,46 @@ function tell_array(key,    at, words) {
     }
 }
 
-function tell_alarm(key, class,    computes) {
-    computes = operator[key] " computes in " type[key]
+function tell_alarm(key, class,    at_head, computes) {
+    at_head = head[key]
     if (class == "DIV")
         note(place, "the divisor is " values(key, "right") " here, and the dividend is " values(key, "left"))
-    if (class == "OVERFLOW" && (key, "operand") in numbers)
-        note(place, computes ", and its operand is " values(key, "operand") " here")
-    if (class == "OVERFLOW" && (key, "left") in numbers)
-        note(place, computes ", and its operands are " values(key, "left") " and " values(key, "right") " here")
-    if (class == "SHIFT")
-        note(place, computes ", and shifts " values(key, "left") " by " values(key, "right") " here")
-    if (class == "INDEX") {
+    else if (class == "OVERFLOW" || class == "SHIFT") {
+        computes = operator[at_head] " computes in " type[at_head]
+        if (class == "SHIFT")
+            note(place, computes ", and shifts " values(key, "left") " by " values(key, "right") " here")
+        else if ((key, "operand") in numbers)
+            note(place, computes ", and its operand is " values(key, "operand") " here")
+        if (class == "OVERFLOW" && (key, "left") in numbers)
+            note(place, computes ", and its operands are " values(key, "left") " and " values(key, "right") " here")
+    } else if (class == "INDEX") {
         note(place, "the subscript is " values(key, "subscript") " here, and the array has " \
-            counted(elements[key], "element"))
+            counted(elements[at_head], "element"))
         tell_array(key)
-    }
-    if (class == "POINTER" && operator[key] == "pointer") note(place, "a pointer is compared here")
-    if (class == "POINTER" && operator[key] != "pointer")
-        note(place, values(key, "offset") (operator[key] == "-" ? " is taken from" : " is added to") \
-            " the pointer here, in elements of " counted(cells[key], "cell"))
+    } else if (class == "POINTER" && operator[at_head] == "pointer") note(place, "a pointer is compared here")
+    else if (class == "POINTER")
+        note(place, values(key, "offset") (operator[at_head] == "-" ? " is taken from" : " is added to") \
+            " the pointer here, in elements of " counted(cells[at_head], "cell"))
+    else if (class == "LOCK" && rule[at_head] == "relock")
+        note(place, mutex[at_head] " is held already where it is locked here")
+    else if (class == "LOCK" && rule[at_head] == "unheld")
+        note(place, mutex[at_head] " is not held where it is unlocked here")
     if (class == "POINTER" || class == "DEREF") tell_pointer(key, "pointer")
-    if (class == "LOCK" && rule[key] == "relock") note(place, mutex[key] " is held already where it is locked here")
-    if (class == "LOCK" && rule[key] == "unheld") note(place, mutex[key] " is not held where it is unlocked here")
-    note(place, tasks[key])
-    if (key in always)
+    note(place, tasks[at_head])
+    if (at_head in always)
         note(place, "a run that comes here so always ends here: what stands behind is not analysed for such runs")
 }
 
 # ----- Advice -----
 
-# Reads the first line of advice: LINE:COL CLASS CAUSE [ROLE]
-function read_cause() {
+# Reads the first line of advice: LINE:COL CLASS CAUSE [ROLE]. Behind it stand the steps of the way back: PLACE KIND
+# TASK [LEAST GREATEST] [null] [invalid] [of NAME], where a point stands for a place that is not known.
+function read_cause(    advised) {
     advised = $1 " " $2
     cause[advised] = $3
     blamed[advised] = $4
-}
-
-# Reads a step of the way back: PLACE KIND TASK [LEAST GREATEST] [null] [invalid] [of NAME], where a point stands for a
-# place that is not known.
-function read_step() {
-    way[advised, ++steps[advised]] = $0
+    way[++steps] = ""
+    first_step[advised] = steps + 1
 }
 
 # What the operand to blame is called.
@@ -198,36 +220,44 @@ function moved(span, bad) {
     return span != "" ? span : "a pointer" (bad != "" ? " that may be " bad : "")
 }
 
-# Tells of a step of the way back at a place. Operators, addresses and constants that are numbers are passed over: what
-# they give stands at the step before them.
-function tell_step(step, at, what,    words, last, name, span, bad) {
+# What a step of the way back says, without its place, or nothing. Operators, addresses and constants that are numbers
+# are passed over: what they give stands at the step before them.
+function said_of(step, what,    words, last, name, span, bad) {
     last = split(step, words, " ")
-    name = words[last - 1] == "of" && last > 4 ? words[last] : "the object"
-    if (words[4] ~ /^-?[0-9]+$/) span = range(words[4], words[5], 0, "")
+    name = words[last - 1] == "of" && last > 3 ? words[last] : "the object"
+    if (words[3] ~ /^-?[0-9]+$/) span = range(words[3], words[4], 0, "")
     bad = flaws(step)
-    if (words[2] == "load") note(at, words[3] " reads " moved(span, bad) " from " name " here")
-    if (words[2] == "store") note(at, words[3] " stores " moved(span, bad) " to " name " here")
-    if (words[2] == "loop") note(at, "here the way back was before: the " what " changes from turn to turn of a loop")
-    if (words[2] == "alarm") note(at, "the " what " comes from here, where another alarm stands: see that first")
-    if (words[2] == "input") note(at, "an input, or a function that may end without return, gives " span " here")
-    if (words[2] == "volatile") note(at, "a volatile object may be " (span != "" ? span : "any pointer") " here")
-    if (words[2] == "open") note(at, name " may not have been set")
-    if (words[2] == "initial") note(at, name " may be as it was before the program ran")
-    if (words[2] == "unset") note(at, "what a function gives here that may end without return is used")
-    if (words[2] == "constant" && bad != "") note(at, "null is meant here")
+    if (words[1] == "load") return words[2] " reads " moved(span, bad) " from " name " here"
+    if (words[1] == "store") return words[2] " stores " moved(span, bad) " to " name " here"
+    if (words[1] == "loop") return "here the way back was before: the " what " changes from turn to turn of a loop"
+    if (words[1] == "alarm") return "the " what " comes from here, where another alarm stands: see that first"
+    if (words[1] == "input") return "an input, or a function that may end without return, gives " span " here"
+    if (words[1] == "volatile") return "a volatile object may be " (span != "" ? span : "any pointer") " here"
+    if (words[1] == "open") return name " may not have been set"
+    if (words[1] == "initial") return name " may be as it was before the program ran"
+    if (words[1] == "unset") return "what a function gives here that may end without return is used"
+    if (words[1] == "constant" && bad != "") return "null is meant here"
+    return ""
 }
 
 # Tells the way back from the operand to blame, as far as it was not told already.
-function tell_way(key,    it, words, at) {
+function tell_way(key,    it, at, cut, step, what) {
     at = place
-    for (it = 1; it <= steps[key]; it++) {
-        split(way[key, it], words, " ")
-        if (words[1] in shown) at = words[1]
-        if ((words[2] == "load" || words[2] == "store") && told_steps[way[key, it]]++) {
+    what = operand_named(key)
+    if (key in first_step) for (it = first_step[key]; way[it] != ""; it++) {
+        cut = index(way[it], " ")
+        step = substr(way[it], 1, cut - 1)
+        if (step in shown) at = step
+        step = what substr(way[it], cut)
+        if (!(step in said)) {
+            said[step] = said_of(substr(way[it], cut + 1), what)
+            is_moved[step] = substr(way[it], cut) ~ /^ (load|store) /
+        }
+        if (is_moved[step] && told_steps[way[it]]++) {
             note(at, "further back as above")
             break
         }
-        tell_step(way[key, it], at, operand_named(key))
+        if (said[step] != "") note(at, said[step])
     }
     if (cause[key] == "interference") note(place, "without what other tasks store meanwhile no such value is here")
 }
@@ -241,6 +271,7 @@ function read_path() {
 
 # Tells by which calls tasks come to an alarm: at the innermost call of each path.
 function tell_paths(key,    at, words, last, call, text) {
+    if (!(key in path_count) && !(key in all_paths)) return
     for (at = 1; at <= path_count[key]; at++) {
         last = split(paths[key, at], words, " ")
         text = ""
@@ -268,35 +299,30 @@ function read_access(    last) {
 # Reads an access that races: LINE:COL races TASK stores|loads OBJECT MEMBER holds MUTEX .. with COUNT
 function read_race() {
     raced = $1 " " ++races[$1]
-    race_text[raced] = $3 " " $4 " " $5 ($6 == "." ? "" : $6) " here, holds " listed(8, NF - 2, "nothing") \
-        ", and races with " counted_accesses($NF)
+    race_notes[raced] = shown[$1] ": note: " $3 " " $4 " " $5 ($6 == "." ? "" : $6) " here, holds " \
+        listed(8, NF - 2, "nothing") ", and races with " counted_accesses($NF)
 }
 
 function counted_accesses(number) {
     return number " access" (number == 1 ? "" : "es") (number > MOST ? ", of which these are the first" : "")
 }
 
-# Reads what it races with: LINE:COL with LINE:COL TASK stores|loads holds MUTEX ..
+# Reads what it races with elsewhere, since what it races with here has a line of its own:
+# LINE:COL with LINE:COL TASK stores|loads holds MUTEX ..
 function read_partner() {
-    partner_place[raced, ++partners[raced]] = $3
-    partner_text[raced, partners[raced]] = $4 " " $5 " it here, holds " listed(7, NF, "nothing")
+    if ($3 != $1) race_notes[raced] = race_notes[raced] "\n" shown[$3] ": note: " $4 " " $5 " it here, holds " \
+        listed(7, NF, "nothing")
 }
 
-# Tells of the objects that are raced for here, of each once, of each access here, and of what it races with elsewhere:
-# what it races with here has a line of its own.
-function tell_race(    at, numbers_of, group, it) {
+# Tells of the objects that are raced for here, of each once, of each access here, and of what it races with elsewhere.
+function tell_race(    at, numbers_of, group) {
     split(groups_at[place], numbers_of, " ")
     for (at = 1; at in numbers_of; at++) {
         group = numbers_of[at]
         if (!told[group]++)
             note(of[group], name[group] " is declared here; " racing[group] " of its " accesses[group] " accesses race")
     }
-    for (at = 1; at <= races[place]; at++) {
-        note(place, race_text[place " " at])
-        for (it = 1; it <= partners[place " " at]; it++)
-            if (partner_place[place " " at, it] != place)
-                note(partner_place[place " " at, it], partner_text[place " " at, it])
-    }
+    for (at = 1; at <= races[place]; at++) print race_notes[place " " at]
 }
 
 # ----- The parts -----
@@ -309,12 +335,9 @@ part == 3 && NF == 4 && $3 == "RACES" {
     next
 }
 part == 3 && $4 == "holds" { read_access(); next }
-part == 4 && $3 == "of" && $5 == "at" { read_object(); next }
-part == 4 && NF == 4 && $3 == "bad" { read_flaw(); next }
-part == 4 && $2 ~ /^[A-Z]+$/ { read_head(); next }
-part == 4 && NF >= 2 && $1 in shown { read_operand(); next }
-part == 5 && $1 ~ /:/ && $2 ~ /^[A-Z]+$/ { read_cause(); next }
-part == 5 && NF > 2 { read_step(); next }
+part == 4 { read_alarm(); next }
+part == 5 && /^[0-9]+:[0-9]+ [A-Z]+ / { read_cause(); next }
+part == 5 && !/^causes / { way[++steps] = $0; next }
 part == 6 && $3 == "path" { read_path(); next }
 part == 6 && $3 == "paths" { all_paths[$1 " " $2] = $4; next }
 part == 6 && $2 == "races" { read_race(); next }
@@ -325,7 +348,7 @@ part == 8 {
     place = alarms[FNR]
     class = classes[FNR]
     if (class == "RACE") tell_race()
-    else if ((place " " class) in operator) {
+    else if ((place " " class) in head) {
         tell_alarm(place " " class, class)
         tell_way(place " " class)
     }
