@@ -15,8 +15,8 @@ programs=(analyse_main report_view join_units refusal_hint report_page report_ba
 
 # What `--prove` takes, as README.md has it, by the table of docs/GATE.md: processor minutes in all, and minutes for the
 # longest chain of crates, each of which stands on the one before.
-proof_processor_minutes=260
-proof_chain_minutes=50
+proof_processor_minutes=240
+proof_chain_minutes=45
 
 say() { # MESSAGE
     printf '%s: %s\n' "$me" "$1" >&2
