@@ -45,7 +45,7 @@ is_installed() {
 }
 
 # The sources, each with what its file system says of it: where it stands there, its size, and when it or its name was
-# last changed, which no program can set.
+# last changed, by the machine's clock.
 list_sources() { # FIND'S WORDS..
     find crates.txt crates \( -name out -prune \) -o -type f \
         \( -name '*.rt' -o -name '*.antt' -o -name crates.txt \) "$@"
