@@ -49,7 +49,7 @@ cells_by_length file d start n h (Types.Pointer q) = refl
 cells_by_length file d start n h (Types.Array e k) = elements_length (type_cells file d e) (cell_count file d e) (h e) k (cond (is_smashed k) 0 (abstract_cells_of_type file e)) start
 cells_by_length file d start n h (Types.Struct k) = members_length (type_cells file d) (cell_count file d) (abstract_cells_of_type file) h (structure_in file k).members start
 
-cells_length : (file : TypedFileTree) (d n start : ℕ) → length (type_cells file d n start) ≡ cell_count file d n
+pub cells_length : (file : TypedFileTree) (d n start : ℕ) → length (type_cells file d n start) ≡ cell_count file d n
 unfolding type_cells cell_count
 cells_length file zero n start = refl
 cells_length file (suc d) n start = cells_by_length file d start n (λ e s. cells_length file d e s) (entry_of file n).ctype
@@ -68,7 +68,7 @@ abstracts_by_length file d start n smashed h (Types.Array e k) =
     (h true e start) (elements_length (type_abstracts file d smashed e) (abstract_count file d e) (h smashed e) k (cells_of_type file e) start)
 abstracts_by_length file d start n smashed h (Types.Struct k) = members_length (type_abstracts file d smashed) (abstract_count file d) (cells_of_type file) (h smashed) (structure_in file k).members start
 
-abstracts_length : (file : TypedFileTree) (d : ℕ) (smashed : Bool) (n start : ℕ) → length (type_abstracts file d smashed n start) ≡ abstract_count file d n
+pub abstracts_length : (file : TypedFileTree) (d : ℕ) (smashed : Bool) (n start : ℕ) → length (type_abstracts file d smashed n start) ≡ abstract_count file d n
 unfolding type_abstracts abstract_count
 abstracts_length file zero smashed n start = refl
 abstracts_length file (suc d) smashed n start = abstracts_by_length file d start n smashed (λ b e s. abstracts_length file d b e s) (entry_of file n).ctype

@@ -1,7 +1,9 @@
 //! A loop that counts up, as a system of equations and as a program.
-ghost use Rattle.std.specs.Prelude.{◌≡◌, ◌≤◌, min, max};
+ghost use Rattle.std.specs.Prelude.{◌≡◌, ◌≤◌, min, max, IfOk};
+ghost use Rattle.engine_tests.specs.Loops.{loop_pass};
 
-use least_tables::{Analysed, Pass, least_pass};
+use edge_contributions::joined_contributions;
+use least_tables::{Analysed, Settled, least_table};
 use std::alloc::Global;
 use std::marker::Model;
 use table_covers::{Contributions, Equations, Link};
@@ -178,6 +180,15 @@ impl<'a> Contributions for LoopOver<'a> {
     }
 }
 
+/// What a pass of the loop adds, and how many edges were applied for its table.
+pub fn passed(alloc: Global, system: &LoopOver<'_>) -> Result<(Level, u64), NoMemory>
+    ensures { IfOk result (λ found. found.0 ≡ loop_pass system.now.program.now system.now.store.now) }
+{
+    let Settled { table, visits } = least_table(alloc, system)?;
+    let added = joined_contributions(alloc, system, &table, &[])?;
+    Ok((added, visits))
+}
+
 impl Passer for CountingLoop {
     ghost use Rattle.engine_tests.specs.Loops.{loop_pass};
     ghost use Rattle.engine_tests.specs.LoopLaws.{loop_fitting, loop_bottom, loop_rises};
@@ -213,17 +224,11 @@ impl Passer for CountingLoop {
     }
 
     fn pass(&self, alloc: Global, _task: u32, store: &Level) -> Result<Level, NoMemory> {
-        let Pass {
-            table: _table,
-            added,
-            visits: _visits,
-        } = least_pass(
-            alloc,
-            &LoopOver {
-                program: self,
-                store,
-            },
-        )?;
+        let system = LoopOver {
+            program: self,
+            store,
+        };
+        let (added, _visits) = passed(alloc, &system)?;
         Ok(added)
     }
 

@@ -1,6 +1,6 @@
 //! Least tables of the counting loop.
-use crate::counting_loop::{CountingLoop, Level, LoopOver};
-use least_tables::{Pass, Settled, least_by_passes, least_pass, least_table, warm_starts};
+use crate::counting_loop::{CountingLoop, Level, LoopOver, passed};
+use least_tables::{Settled, least_by_passes, least_table, warm_starts};
 use std::alloc::Global;
 use std::test::Fail;
 use table_covers::{Uncovered, first_uncovered};
@@ -37,16 +37,6 @@ fn first_open(
     }
 }
 
-/// What a pass adds, and how many edges were applied for it.
-fn passed(alloc: Global, system: &LoopOver<'_>) -> Result<(u8, u64), NoMemory> {
-    let Pass {
-        table: _table,
-        added,
-        visits,
-    } = least_pass(alloc, system)?;
-    Ok((added.number(), visits))
-}
-
 /// A loop's mark, by how much each edge raises, the levels of the three nodes, and the first edge that the table of a
 /// loop which does not count leaves open.
 type Row = (u8, u8, [u8; 3], Option<usize>);
@@ -75,6 +65,7 @@ fn is_so(alloc: Global, row: &Row) -> Result<bool, NoMemory> {
     };
     let (ends, visits) = ends_at(alloc, &system, levels)?;
     let (added, passed_visits) = passed(alloc, &system)?;
+    let added = added.number();
     let given = program.pass(alloc, 0, &store)?.number();
     // Two nodes rise from bottom, each along an edge.
     let counted = visits >= 2 && passed_visits == visits;

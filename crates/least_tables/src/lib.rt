@@ -10,12 +10,10 @@
 
 mod analysed_programs;
 mod leaving_edges;
-mod passes;
 mod pending;
 mod raising;
 mod sweeps;
 mod work_list;
 
 pub use analysed_programs::{Analysed, least_by_passes, warm_starts};
-pub use passes::{Pass, least_pass};
 pub use work_list::{Settled, least_table, settle};
