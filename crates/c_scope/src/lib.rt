@@ -6,19 +6,17 @@
 //! once the block is left.
 #![tactic(auto)]
 
-mod bindings;
+mod declarations;
 mod growth;
 mod positions;
 mod scopes;
 mod starts;
 mod structures;
-mod tags;
 mod types;
 
-pub use bindings::Bindings;
+pub use declarations::{Bindings, Declaration, Declarations, Tags};
 pub use growth::Outside;
 pub use scopes::Scope;
 pub use starts::ScopeTables;
 pub use structures::Structures;
-pub use tags::Tags;
 pub use types::Types;

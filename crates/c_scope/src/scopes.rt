@@ -7,9 +7,8 @@ ghost use Rattle.tm_typed.specs.Operands.{scalar_of};
 ghost use Rattle.tm_typed.specs.Structures.{are_from_zero};
 ghost use Rattle.tm_typed.specs.TypeRows.{number_in};
 
-use crate::bindings::Bindings;
+use crate::declarations::{Bindings, Tags};
 use crate::structures::Structures;
-use crate::tags::Tags;
 use crate::types::Types;
 use std::marker::Model;
 use tm_terms::Name;
@@ -77,14 +76,14 @@ impl Scope {
     pub fn tagged(&self, name: Name) -> Option<Tagged>
         ensures { result ≡ tagged self.now name }
     {
-        self.tags.tagged(name)
+        self.tags.named(name)
     }
 
     /// What a tag names by a declaration of the present block.
     pub fn tagged_here(&self, name: Name) -> Option<Tagged>
         ensures { result ≡ tagged_here self.now name }
     {
-        self.tags.tagged_since(self.outer_tags, name)
+        self.tags.named_since(self.outer_tags, name)
     }
 
     /// A row of the table of types.

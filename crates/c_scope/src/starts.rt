@@ -5,10 +5,9 @@ ghost use Rattle.tm_typed.specs.Scopes.{structure_of};
 ghost use Rattle.tm_typed.specs.Files.{first_scope};
 ghost use Rattle.c_scope.specs.reading.Starts.{with_types};
 
-use crate::bindings::Bindings;
+use crate::declarations::{Bindings, Tags};
 use crate::scopes::Scope;
 use crate::structures::Structures;
-use crate::tags::Tags;
 use crate::types::Types;
 use std::alloc::Global;
 use tm_cint::IntType;

@@ -117,7 +117,7 @@ fn outer_of(braces: &[Brace]) -> usize {
 
 // The structure that has a tag by a declaration of the innermost block.
 fn structure_here(read: &Read, tag: Name) -> Option<u32> {
-    match read.tags.tagged_since(outer_of(&read.braces), tag) {
+    match read.tags.named_since(outer_of(&read.braces), tag) {
         Some(Tagged::Structure(number)) => Some(number),
         _ => None,
     }
@@ -133,7 +133,7 @@ fn is_known(opened: &[bool], structure: u32) -> bool {
 
 // Whether a mention of a tag declares a structure anew (C99 6.7.2.3).
 fn is_new(read: &Read, mention: Mention, tag: Name) -> bool {
-    if read.tags.tagged(tag).is_none() {
+    if read.tags.named(tag).is_none() {
         return true;
     }
     match structure_here(read, tag) {

@@ -2,7 +2,7 @@ use Rattle.std.proofs.Common.{◌≡◌, drop}
 use Rattle.std.specs.List.{list_all}
 use Rattle.tm_typed.specs.declared.scopes.Binding.{Binding}
 use Rattle.tm_typed.specs.Structures.{is_from_zero}
-use Rattle.c_scope.proofs.bindings.Bindings.are_from_zero.Given as goal
+use Rattle.c_scope.proofs.declarations.Declarations+Binding.are_from_zero.Given as goal
 
 -- what is left decides
 abbrev pub invariant-loop-binding : goal.invariant-loop-binding
