@@ -11,20 +11,20 @@ use Rattle.program_reports.specs.post_recheck.transfer_rows.StateForms.{State}
 use Rattle.program_reports.specs.post_recheck.table_covers.Solutions.{NodeTable}
 use Rattle.program_reports.specs.post_recheck.program_equations.Programs.{ProgramBodies, body_at, IsProgram}
 use Rattle.access_races.specs.declared.accesses.Way.{Way}
-use Rattle.access_races.specs.declared.accesses.Access.{Access}
 use Rattle.access_races.specs.Races.{do_race}
-use Rattle.access_races.specs.reading.Ways.{IsWayTo, IsRacingIn}
+use Rattle.access_races.specs.reading.Ways.{list_at, IsRacingIn}
 use Rattle.access_races.proofs.Decided.{Race, race_from, race_is}
 use Rattle.access_races.proofs.Joins.{either}
-use Rattle.program_reports.specs.Reports.{IsAccess, AreRacing, operation_in, left_in, priority_at, place_of}
+use Rattle.program_reports.specs.Reports.{IsAccess, AreRacing, operation_in, copy_in, left_in, priority_at, place_of}
 use Rattle.program_reports.specs.reading.Found.{way_of_copy, is_writing}
-use Rattle.program_reports.specs.reading.Bodies.{IsAccessUpTo}
 use Rattle.access_groups.specs.declared.object_access.ObjectAccess.{ObjectAccess}
 use Rattle.access_groups.specs.declared.object_access.AccessGroup.{AccessGroup}
+use Rattle.access_groups.specs.declared.site.Site.{Site}
 use Rattle.access_groups.specs.Order.{sort_key}
-use Rattle.access_groups.specs.Groups.{IsAccessAt, IsRacingThere, IsObjectAccess, AreObjectAccesses}
+use Rattle.access_groups.specs.Groups.{object_in, IsAccessAt, IsRacingThere, IsObjectAccess, AreObjectAccesses}
 use Rattle.access_groups.specs.Groups.{HasRace, AreGroups}
-use Rattle.access_groups.specs.reading.Noted.{list_at, IsNotedAs, IsNotedIn}
+use Rattle.access_groups.specs.reading.Sites.{access_of, IsSiteBelow, IsSiteUpTo, IsWayOfSite}
+use Rattle.access_groups.specs.reading.Noted.{IsNotedIn}
 use Rattle.access_groups.specs.reading.Merging.{IsMerged, HasAlikeRacing, AreMerged, HasRacing}
 use Rattle.access_groups.specs.reading.Grouping.{AreGroupsOf}
 use Rattle.access_groups.proofs.Rising.{none, first, later, cases}
@@ -64,22 +64,24 @@ below_count (l ∷ lists) (suc n) x h = let lt = below_count lists n x h in omeg
 
 -- what is noted over a layout with the same abstract cells
 pub relaid : {A : Type 0} (ways : List (Vec Way A)) (laid other : LaidTree)
-    → laid.abstract_cells ≡ other.abstract_cells → (accesses : List Access) (object : ℕ) (e : ObjectAccess)
-    → IsNotedIn ways laid accesses object e → IsNotedIn ways other accesses object e
-relaid ways laid other same accesses object e h = record {
-  access = h.access;
+    → laid.abstract_cells ≡ other.abstract_cells → (sites : List Site) (object : ℕ) (e : ObjectAccess)
+    → IsNotedIn ways laid sites object e → IsNotedIn ways other sites object e
+relaid ways laid other same sites object e h = record {
+  one = h.one;
   has = h.has;
-  of = subst (λ cells. let a = get_or cells h.access.cell no_abstract_cell in object ≡ a.object) same h.of;
-  noted = h.noted;
+  is = (
+    subst (λ cells. let a = get_or cells h.one.access.cell no_abstract_cell in object ≡ a.object) same h.is.0,
+    h.is.1,
+  );
 }
 
 -- ## Ways
 
 module _ (p : ProgramBodies) (is : IsProgram p) (tables : ℕ → NodeTable State) where
-  abbrev way_in : ℕ → ℕ → Way
+  abbrev pub way_in : ℕ → ℕ → Way
   way_in t k = way_of_copy (body_at p t) k
 
-  task_is : (t k : ℕ) → t < length p.bodies → (way_in t k).task ≡ t
+  pub task_is : (t k : ℕ) → t < length p.bodies → (way_in t k).task ≡ t
   task_is t k lt = (is.each t lt).numbered.number
 
   priority_is : (t k : ℕ) → t < length p.bodies → (way_in t k).priority ≡ priority_at p t
@@ -94,7 +96,7 @@ module _ (p : ProgramBodies) (is : IsProgram p) (tables : ℕ → NodeTable Stat
     abbrev two : Way
     two = way_in u l
 
-    less : priority_at p t < priority_at p u → one.priority < two.priority
+    pub less : priority_at p t < priority_at p u → one.priority < two.priority
     less h =
         subst (λ n. n < two.priority) (sym (priority_is t k lt))
         (subst (λ n. priority_at p t < n) (sym (priority_is u l lu)) h)
@@ -115,7 +117,7 @@ module _ (p : ProgramBodies) (is : IsProgram p) (tables : ℕ → NodeTable Stat
         back = λ less'. h.back (less_back u l t k lu lt less');
       }
 
-  racing_of : (t k u l cell : ℕ) → IsAccess p tables t k cell → IsAccess p tables u l cell
+  unfoldable pub racing_of : (t k u l cell : ℕ) → IsAccess p tables t k cell → IsAccess p tables u l cell
       → Race (way_in t k) (way_in u l) → AreRacing p tables t k u l
   racing_of t k u l cell h j race =
       let lt = h.reached.body in
@@ -139,21 +141,69 @@ module _ (p : ProgramBodies) (is : IsProgram p) (tables : ℕ → NodeTable Stat
   pub placed : (t k cell : ℕ) → IsAccess p tables t k cell → (place : Place) × (place_of (operation_in p t k) ≡ Some place)
   placed t k cell h = let there = stands_at (body_at p t) k h.state cell h.target in (there.0, there.2)
 
-  access_of : (x : Access) (h : IsAccessUpTo p tables p.tasks x) → IsAccess p tables h.body h.gives.1.copy x.cell
-  access_of x h =
-      let g = h.gives.1 in
-      let lt = h.below in
-      let most = is.tasks in record {
-        task = lt;
-        state = g.state;
-        reached = record { body = omega (arith, lt, most); copy = g.below; state = g.reached };
-        target = g.gives.target;
-      }
+  -- ### From an access of a task to an access of an object
 
-  access_at : (t k cell : ℕ) (place : Place) (h : IsAccess p tables t k cell)
-      → place_of (operation_in p t k) ≡ Some place
-      → IsAccessUpTo p tables p.tasks (record { cell = cell; way = way_in t k; place = place })
-  access_at t k cell place h e = record {
+  module _ (x : Site) (h : IsSiteUpTo p tables p.tasks x) where
+    abbrev t : ℕ
+    t = h.body
+
+    abbrev below : IsSiteBelow (body_at p t) (tables t) (let b = body_at p t in length b.copies) x
+    below = h.gives.1
+
+    abbrev k : ℕ
+    k = below.copy
+
+    in_bodies : t < length p.bodies
+    in_bodies = let lt = h.below in let most = is.tasks in omega (arith, lt, most)
+
+    pub reaches : IsAccess p tables t k x.access.cell
+    reaches = record {
+      task = h.below;
+      state = below.state;
+      reached = record { body = in_bodies; copy = below.below; state = below.reached };
+      target = below.gives.access.target;
+    }
+
+    module _ (e : ObjectAccess) (same : AreAlike (access_of x) e) where
+      pub of_task : t ≡ e.task
+      of_task =
+          sym (task_is t k in_bodies) ∙ ap (λ (w : Way). w.task) (sym below.gives.access.way) ∙ same.task
+
+      pub like : IsAs e t k
+      like =
+          let stores : e.stores ≡ is_writing (operation_in p t k) =
+          sym same.stores ∙ ap (λ (w : Way). w.writes) below.gives.access.way in record {
+            placed = below.gives.access.placed ∙ ap Some same.place;
+            kind = (
+              λ s. writes (operation_in p t k) (sym stores ∙ s),
+              λ w. stores ∙ is_write (operation_in p t k) w,
+            );
+            holds = ap (λ (w : Way). w.held) (sym below.gives.access.way) ∙ same.held;
+          }
+
+      pub at_site : (object : ℕ) → object_in p x.access.cell ≡ object → IsAccessAt p tables object e k x.access.cell
+      at_site object of =
+          alikes.at_from p tables object e k x.access.cell
+          (subst (λ u. IsAccess p tables u k x.access.cell) of_task reaches) of
+          (subst (λ u. IsAs e u k) of_task like)
+
+      pub way_is : x.access.way ≡ way_in e.task k
+      way_is = below.gives.access.way ∙ ap (λ u. way_in u k) of_task
+
+      pub edge_is : (let c = copy_in p e.task k in c.edge ≡ x.edge)
+      edge_is = subst (λ u. let c = copy_in p u k in c.edge ≡ x.edge) of_task (sym below.gives.edge)
+
+  -- ### And back
+
+  abbrev pub site_at : ℕ → ℕ → ℕ → Place → Site
+  site_at t k cell place = record {
+    access = record { cell = cell; way = way_in t k; place = place };
+    edge = (copy_in p t k).edge;
+  }
+
+  pub site_up_to : (t k cell : ℕ) (place : Place) → IsAccess p tables t k cell
+      → place_of (operation_in p t k) ≡ Some place → IsSiteUpTo p tables p.tasks (site_at t k cell place)
+  site_up_to t k cell place h e = record {
     body = t;
     below = h.task;
     gives = (
@@ -163,54 +213,32 @@ module _ (p : ProgramBodies) (is : IsProgram p) (tables : ℕ → NodeTable Stat
         below = h.reached.copy;
         state = h.state;
         reached = h.reached.state;
-        gives = record { target = h.target; way = refl; placed = e };
+        gives = record { access = record { target = h.target; way = refl; placed = e }; edge = refl };
       },
     );
   }
 
-  -- the copy of an access that is noted
-  module _ {A : Type 0} (ways : List (Vec Way A)) (x : Access) (e : ObjectAccess) (noted : IsNotedAs ways x e)
-      (h : IsAccessUpTo p tables p.tasks x) where
-    abbrev t : ℕ
-    t = h.body
-
-    abbrev k : ℕ
-    k = h.gives.1.copy
-
-    in_bodies : t < length p.bodies
-    in_bodies = let lt = h.below in let most = is.tasks in omega (arith, lt, most)
-
-    pub of_task : t ≡ e.task
-    of_task =
-        sym (task_is t k in_bodies)
-        ∙ ap (λ (w : Way). w.task) (sym h.gives.1.gives.way) ∙ sym noted.task
-
-    pub as_noted : IsAs e t k
-    as_noted =
-        let stores : e.stores ≡ is_writing (operation_in p t k) =
-        noted.stores ∙ ap (λ (w : Way). w.writes) h.gives.1.gives.way in record {
-          placed = h.gives.1.gives.placed ∙ ap Some (sym noted.place);
-          kind = (
-            λ s. writes (operation_in p t k) (sym stores ∙ s),
-            λ w. stores ∙ is_write (operation_in p t k) w,
-          );
-          holds = sym (noted.held ∙ ap (λ (w : Way). w.held) h.gives.1.gives.way);
-        }
-
-    pub found_as : (let q = left_in p t k in q.found ≡ e.free)
-    found_as = sym (noted.free ∙ ap (λ (w : Way). w.found) h.gives.1.gives.way)
+  pub site_alike : (object : ℕ) (e : ObjectAccess) (k cell : ℕ) → IsAccessAt p tables object e k cell
+      → AreAlike (access_of (site_at e.task k cell e.place)) e
+  site_alike object e k cell h = record {
+    place = refl;
+    task = task_is e.task k h.access.reached.body;
+    stores = same_truth (is_writing (operation_in p e.task k)) e.stores
+        (λ w. h.kind.1 (writes (operation_in p e.task k) w))
+        (λ s. is_write (operation_in p e.task k) (h.kind.0 s));
+    held = h.holds;
+  }
 
   -- ## Lists
 
-  module _ {A B : Type 0} (accesses : List Access)
-      (are : (x : Access) → Contains accesses x ↔ IsAccessUpTo p tables p.tasks x) (ways : List (Vec Way A))
-      (ways-are : (c : ℕ) (w : Way) → Contains (list_at ways c) w ↔ IsWayTo accesses c w)
+  module _ {A B : Type 0} (sites : List Site) (are : (x : Site) → Contains sites x ↔ IsSiteUpTo p tables p.tasks x)
+      (ways : List (Vec Way A)) (ways-are : (c : ℕ) (w : Way) → Contains (list_at ways c) w ↔ IsWayOfSite sites c w)
       (lists : List (Vec ObjectAccess B))
-      (lists-are : (o : ℕ) (e : ObjectAccess) → Contains (list_at lists o) e ↔ IsNotedIn ways p.laid accesses o e) where
+      (lists-are : (o : ℕ) (e : ObjectAccess) → Contains (list_at lists o) e ↔ IsNotedIn ways p.laid sites o e) where
     -- what is noted of the access of a copy
     module _ (object : ℕ) (e : ObjectAccess) (k cell : ℕ) (h : IsAccessAt p tables object e k cell) where
-      abbrev access : Access
-      access = record { cell = cell; way = way_in e.task k; place = e.place }
+      abbrev site : Site
+      site = site_at e.task k cell e.place
 
       abbrev tells : Decision (list_at ways cell) (way_in e.task k)
       tells = decided (list_at ways cell) (way_in e.task k)
@@ -227,56 +255,54 @@ module _ (p : ProgramBodies) (is : IsProgram p) (tables : ℕ → NodeTable Stat
 
       has_note : Contains (list_at lists object) note
       has_note = (lists-are object note).1 (record {
-        access = access;
-        has = (are access).1 (access_at e.task k cell e.place h.access h.placed);
-        of = sym h.of;
-        noted = record {
-          place = refl;
-          task = refl;
-          stores = refl;
-          held = refl;
-          free = refl;
-          racing = tells.1;
-        };
+        one = site;
+        has = (are site).1 (site_up_to e.task k cell e.place h.access h.placed);
+        is = (
+          sym h.of,
+          record {
+            place = refl;
+            task = refl;
+            stores = refl;
+            held = refl;
+            free = refl;
+            racing = tells.1;
+          },
+        );
       })
 
       note_alike : sort_key note ≡ sort_key e
-      note_alike = keys_same note e (record {
-        place = refl;
-        task = task_is e.task k h.access.reached.body;
-        stores = same_truth (is_writing (operation_in p e.task k)) e.stores
-            (λ w. h.kind.1 (writes (operation_in p e.task k) w))
-            (λ s. is_write (operation_in p e.task k) (h.kind.0 s));
-        held = h.holds;
-      })
+      note_alike = keys_same (access_of site) e (site_alike object e k cell h)
 
     -- and back
     module _ (object : ℕ) (n : ObjectAccess) (c : Contains (list_at lists object) n) (e : ObjectAccess)
         (same : AreAlike n e) where
-      noted : IsNotedIn ways p.laid accesses object n
+      noted : IsNotedIn ways p.laid sites object n
       noted = (lists-are object n).0 c
 
-      up_to : IsAccessUpTo p tables p.tasks noted.access
-      up_to = (are noted.access).0 noted.has
+      up_to : IsSiteUpTo p tables p.tasks noted.one
+      up_to = (are noted.one).0 noted.has
 
       abbrev copy : ℕ
       copy = up_to.gives.1.copy
 
-      at_noted : IsAccessAt p tables object n copy noted.access.cell
-      at_noted =
-          let task-is = of_task ways noted.access n noted.noted up_to in
-          let like = as_noted ways noted.access n noted.noted up_to in
-          alikes.at_from p tables object n copy noted.access.cell
-          (subst (λ t. IsAccess p tables t copy noted.access.cell) task-is (access_of noted.access up_to))
-          (sym noted.of) (subst (λ t. IsAs n t copy) task-is like)
+      made : AreAlike (access_of noted.one) n
+      made =
+          let as-noted = noted.is.1 in record {
+            place = sym as-noted.place;
+            task = sym as-noted.task;
+            stores = sym as-noted.stores;
+            held = sym as-noted.held;
+          }
 
-      back_at : IsAccessAt p tables object e copy noted.access.cell
-      back_at = alikes.at_alike p tables object n e same copy noted.access.cell at_noted
+      back_at : IsAccessAt p tables object e copy noted.one.access.cell
+      back_at =
+          alikes.at_alike p tables object n e same copy noted.one.access.cell
+          (at_site noted.one up_to n made object (sym noted.is.0))
 
       back_found : (m : ℕ) → (let q = left_in p e.task copy in has q.found m ≡ true) → has n.free m ≡ true
       back_found m h =
-          let task-is = of_task ways noted.access n noted.noted up_to in
-          let found = found_as ways noted.access n noted.noted up_to in
+          let task-is = of_task noted.one up_to n made in
+          let found = sym (noted.is.1.free ∙ ap (λ (w : Way). w.found) up_to.gives.1.gives.access.way) in
           subst (λ f. has f m ≡ true) found
           (subst (λ t. let q = left_in p t copy in has q.found m ≡ true) (sym task-is)
           (subst (λ t. let q = left_in p t copy in has q.found m ≡ true) (sym same.task) h))
@@ -284,23 +310,22 @@ module _ (p : ProgramBodies) (is : IsProgram p) (tables : ℕ → NodeTable Stat
       back_racing : n.racing ≡ true → IsRacingThere p tables object e
       unfolding racing_of noted
       back_racing racing =
-          let x = noted.access in
-          let r = noted.noted.racing.0 racing in
-          let other = (ways-are x.cell r.other).0 r.has in
-          let y = other.access in
+          let x = noted.one in
+          let r = noted.is.1.racing.0 racing in
+          let other = (ways-are x.access.cell r.other).0 r.has in
+          let y = other.one in
           let there = (are y).0 other.has in
           let u = there.body in
           let l = there.gives.1.copy in
           let raced : do_race (way_in up_to.body copy) (way_in u l) ≡ true =
-          subst (λ w. do_race w (way_in u l) ≡ true) up_to.gives.1.gives.way
-          (subst (λ w. do_race x.way w ≡ true) (sym other.way ∙ there.gives.1.gives.way) r.races) in
+          subst (λ w. do_race w (way_in u l) ≡ true) up_to.gives.1.gives.access.way
+          (subst (λ w. do_race x.access.way w ≡ true) (other.is.1 ∙ there.gives.1.gives.access.way) r.races) in
           let race = race_from (way_in up_to.body copy) (way_in u l) raced in
-          let one = access_of x up_to in
-          let two = subst (λ cell. IsAccess p tables u l cell) other.cell (access_of y there) in
+          let one = reaches x up_to in
+          let two = subst (λ cell. IsAccess p tables u l cell) (sym other.is.0) (reaches y there) in
           alikes.racing_alike p tables object n e same
-          (alikes.racing_there p tables object n up_to.body (of_task ways x n noted.noted up_to) copy u l
-          (racing_of up_to.body copy u l x.cell one two race) (sym noted.of)
-          (as_noted ways x n noted.noted up_to))
+          (alikes.racing_there p tables object n up_to.body (of_task x up_to n made) copy u l
+          (racing_of up_to.body copy u l x.access.cell one two race) (sym noted.is.0) (like x up_to n made))
 
     -- a copy that races is noted so
     note_races : (object : ℕ) (e : ObjectAccess) (h : IsRacingThere p tables object e) → HasAlikeRacing (list_at lists object) e
@@ -310,12 +335,11 @@ module _ (p : ProgramBodies) (is : IsProgram p) (tables : ℕ → NodeTable Stat
         let u = h.other_task in
         let l = h.other_copy in
         let place = placed u l r.cell r.other in
-        let y : Access = record { cell = r.cell; way = way_in u l; place = place.0 } in
+        let y : Site = site_at u l r.cell place.0 in
         let in_ways : Contains (list_at ways r.cell) (way_in u l) = (ways-are r.cell (way_in u l)).1 (record {
-          access = y;
-          has = (are y).1 (access_at u l r.cell place.0 r.other place.1);
-          cell = refl;
-          way = refl;
+          one = y;
+          has = (are y).1 (site_up_to u l r.cell place.0 r.other place.1);
+          is = (refl, refl);
         }) in record {
           one = note object e k r.cell h.at;
           has_one = has_note object e k r.cell h.at;
@@ -336,7 +360,7 @@ module _ (p : ProgramBodies) (is : IsProgram p) (tables : ℕ → NodeTable Stat
         let same = alike one e h.alike.alike in record {
           accessed = record {
             copy = copy object one c e same;
-            cell = (noted object one c e same).access.cell;
+            cell = (noted object one c e same).one.access.cell;
             at = back_at object one c e same;
           };
           free = λ m. (
@@ -346,7 +370,7 @@ module _ (p : ProgramBodies) (is : IsProgram p) (tables : ℕ → NodeTable Stat
             λ all. (h.free m).1 (λ f in_list s.
                 let same = alike f e s in
                 back_found object f in_list e same m
-                (all (copy object f in_list e same) ((noted object f in_list e same).access.cell)
+                (all (copy object f in_list e same) ((noted object f in_list e same).one.access.cell)
                 (back_at object f in_list e same))),
           );
           racing = (

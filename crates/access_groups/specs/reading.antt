@@ -1,6 +1,6 @@
--- The accesses of copies (Copies), what is noted of them (Noted), how that is merged (Merging), and the groups of it
+-- The accesses of tasks (Sites), what is noted of them (Noted), how that is merged (Merging), and the groups of it
 -- (Grouping).
-pub mod Copies
+pub mod Sites
 pub mod Noted
 pub mod Merging
 pub mod Grouping

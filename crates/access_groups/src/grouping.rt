@@ -10,7 +10,7 @@ ghost use Rattle.access_groups.specs.reading.Grouping.{IsGrouped, AreGroupsOf};
 use crate::merging::{has_racing, merged};
 use crate::noting::noted_by_object;
 use crate::object_access::{AccessGroup, ObjectAccess};
-use crate::tasks::accesses_in;
+use crate::tasks::sites_in;
 use crate::ways::ways_by_cell;
 use interfere_set::Store;
 use mutex_configs::Program;
@@ -61,8 +61,8 @@ pub fn groups(
     ensures { IfOk result (λ groups. AreGroups (program_with program.now facts.now)
         (tables_of (lists_of tables.now)) groups.items) }
 {
-    let accesses = accesses_in(alloc, program, facts, tables, store)?;
-    let ways = ways_by_cell(alloc, &accesses)?;
-    let lists = noted_by_object(alloc, &program.laid, &ways, &accesses)?;
+    let sites = sites_in(alloc, program, facts, tables, store)?;
+    let ways = ways_by_cell(alloc, &sites)?;
+    let lists = noted_by_object(alloc, &program.laid, &ways, &sites)?;
     groups_of(alloc, &lists)
 }

@@ -14,10 +14,15 @@ mod laws;
 mod merging;
 mod noting;
 mod object_access;
+mod site;
 mod tasks;
 mod ways;
 
-pub use copies::{TaskParts, place_of_copy, way_of};
 pub use grouping::groups;
 pub use laws::{alarms_are_grouped, groups_are_one};
+pub use merging::is_alike;
+pub use noting::object_of;
 pub use object_access::{AccessGroup, ObjectAccess};
+pub use site::Site;
+pub use tasks::sites_in;
+pub use ways::ways_by_cell;

@@ -7,8 +7,8 @@ use crate::object_access::ObjectAccess;
 use std::alloc::Global;
 use tm_lattice::NoMemory;
 
-// Whether two stand at one place, and are of one task, of one kind and under the same mutexes.
-fn is_alike(one: ObjectAccess, other: ObjectAccess) -> bool
+/// Whether two stand at one place, and are of one task, of one kind and under the same mutexes.
+pub fn is_alike(one: ObjectAccess, other: ObjectAccess) -> bool
     ensures { IsTrue result ↔ (sort_key one ≡ sort_key other) }
 {
     one.place == other.place

@@ -1,18 +1,19 @@
 //! What is noted of accesses, object by object.
 ghost use Rattle.std.specs.Prelude.{◌≡◌, ◌≤◌, ◌^◌, ◌⊎◌, ◌↔◌, ℕ, length, Contains, IfOk, OnOk};
 ghost use Rattle.tm_laid.specs.Layouts.{laid_tree, abstract_at};
+ghost use Rattle.access_races.specs.reading.Ways.{list_at};
 ghost use Rattle.access_groups.specs.declared.object_access.ObjectAccess.{ObjectAccess as AnObjectAccess};
-ghost use Rattle.access_groups.specs.reading.Noted.{list_at, IsNotedAs, IsNotedIn};
+ghost use Rattle.access_groups.specs.reading.Noted.{IsNotedAs, IsNotedIn};
 
 use crate::object_access::ObjectAccess;
-use crate::ways::{is_racing, make_room};
-use access_races::{Access, Way};
+use crate::site::Site;
+use access_races::{Access, Way, is_racing, make_room};
 use std::alloc::Global;
 use tm_laid::Laid;
 use tm_lattice::NoMemory;
 
-// The object of an abstract cell.
-fn object_of(laid: &Laid, cell: u32) -> u32
+/// The object of an abstract cell.
+pub fn object_of(laid: &Laid, cell: u32) -> u32
     ensures { (let a = abstract_at (laid_tree laid.now) cell in result ≡ a.object) }
 {
     match laid.abstract_cells.get(cell as usize) {
@@ -57,16 +58,16 @@ pub(crate) fn noted_by_object(
     alloc: Global,
     laid: &Laid,
     ways: &[Vec<Way>],
-    accesses: &[Access],
+    sites: &[Site],
 ) -> Result<Vec<Vec<ObjectAccess>>, NoMemory>
     ensures small { IfOk result (λ lists. length lists.items ≤ 2 ^ 32) }
     ensures exact { IfOk result (λ lists. (o : ℕ) (e : AnObjectAccess) → Contains (list_at lists.items o) e
-        ↔ IsNotedIn ways.now (laid_tree laid.now) accesses.now o e) }
+        ↔ IsNotedIn ways.now (laid_tree laid.now) sites.now o e) }
 {
     let mut lists = Vec::new(alloc);
-    for access in accesses {
-        let object = object_of(laid, access.cell);
-        push_noted(alloc, &mut lists, object, noted(ways, *access))?;
+    for site in sites {
+        let object = object_of(laid, site.access.cell);
+        push_noted(alloc, &mut lists, object, noted(ways, site.access))?;
     }
     Ok(lists)
 }

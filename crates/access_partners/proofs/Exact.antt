@@ -1,6 +1,5 @@
 -- What is found of the accesses of an object is what the tables of the program tell.
-use Rattle.std.proofs.Common.{◌≡◌, ◌↔◌, ℕ, ◌<◌, refl, ap, sym, subst, ◌∙◌, inl, inr, true, List, length, get_or, Some}
-use Rattle.std.proofs.Common.{arith}
+use Rattle.std.proofs.Common.{◌≡◌, ◌↔◌, ℕ, ◌<◌, refl, ap, sym, subst, ◌∙◌, true, List, length, get_or}
 use Rattle.std.specs.Prelude.{Contains}
 use Rattle.std.specs.declared.vec.Vec.{Vec}
 use Rattle.std.specs.declared.alloc.Global.{Global}
@@ -10,160 +9,43 @@ use Rattle.post_recheck.specs.table_covers.Solutions.{NodeTable}
 use Rattle.post_recheck.specs.program_equations.Programs.{ProgramBodies, body_at, IsProgram}
 use Rattle.access_races.specs.declared.accesses.Way.{Way}
 use Rattle.access_races.specs.Races.{do_race}
-use Rattle.access_races.proofs.Decided.{Race, race_from, race_is}
-use Rattle.access_races.proofs.Joins.{either}
-use Rattle.access_groups.specs.program_reports.Reports.{IsAccess, AreRacing, operation_in, copy_in, priority_at}
-use Rattle.access_groups.specs.program_reports.reading.Found.{way_of_copy, is_writing}
+use Rattle.access_races.proofs.Decided.{race_from, race_is}
+use Rattle.access_groups.specs.program_reports.Reports.{copy_in}
+use Rattle.access_groups.specs.program_reports.reading.Found.{way_of_copy}
 use Rattle.access_groups.specs.declared.object_access.ObjectAccess.{ObjectAccess}
 use Rattle.access_groups.specs.declared.object_access.AccessGroup.{AccessGroup}
 use Rattle.access_groups.specs.Order.{sort_key}
 use Rattle.access_groups.specs.Groups.{object_in, IsAccessAt, AreObjectAccesses, AreGroups}
-use Rattle.access_groups.specs.reading.Noted.{list_at}
-use Rattle.access_groups.proofs.Alike as alikes
-use Rattle.access_groups.proofs.Exact.{race_of}
-use Rattle.access_groups.proofs.Noted.{same_truth}
+use Rattle.access_races.specs.reading.Ways.{list_at}
+use Rattle.access_groups.proofs.Exact.{racing_of, race_of, at_site, way_is, edge_is, site_at, site_up_to, site_alike}
 use Rattle.access_groups.proofs.Sorting.{AreAlike, alike, keys_same}
-use Rattle.access_groups.proofs.Targets.{writes, is_write}
 use Rattle.access_partners.specs.declared.details.AccessDetails.{AccessDetails}
 use Rattle.access_partners.specs.declared.partners.Partners.{Partners}
 use Rattle.access_partners.specs.declared.points.Point.{Point}
-use Rattle.access_partners.specs.declared.site.Site.{Site}
+use Rattle.access_groups.specs.declared.site.Site.{Site}
 use Rattle.access_partners.specs.Lists.{AreEach}
 use Rattle.access_partners.specs.Partners.{Reaches, DoCopiesRace, ArePartners, RacesAt, RacesAlong}
 use Rattle.access_partners.specs.Partners.{AreDetails, AreDetailsOf, AreAllDetails}
-use Rattle.access_partners.specs.reading.Accesses.{nothing, access_of, access_at, IsSiteTo, IsSiteFor, IsWayOfSite}
+use Rattle.access_groups.specs.reading.Sites.{access_of, IsWayOfSite}
+use Rattle.access_partners.specs.reading.Accesses.{nothing, access_at, IsSiteTo, IsSiteFor}
 use Rattle.access_partners.specs.reading.Accesses.{IsCellOf, IsRacingAmong, IsRacingCell, IsRacingEdge}
-use Rattle.access_partners.specs.reading.Sites.{IsSiteBelow, IsSiteUpTo}
+use Rattle.access_groups.specs.reading.Sites.{IsSiteUpTo}
 use Rattle.access_partners.specs.reading.Points.{point_of, way_at, ArePointsOf, DoMeet}
 use Rattle.access_partners.specs.reading.Pairs.{kept_by, ArePair}
 use Rattle.access_partners.specs.reading.Found.{AreFound, AreFoundOf}
 use Rattle.access_partners.proofs.Lists.{relisted, those_from, each_from, each_map}
 
--- ## One access of a task
+-- ## The accesses of copies
 
 module _ (p : ProgramBodies) (is : IsProgram p) (tables : ℕ → NodeTable State) where
   abbrev way_in : ℕ → ℕ → Way
   way_in t k = way_of_copy (body_at p t) k
 
-  task_is : (t k : ℕ) → t < length p.bodies → (way_in t k).task ≡ t
-  task_is t k lt = (is.each t lt).numbered.number
-
-  priority_is : (t k : ℕ) → t < length p.bodies → (way_in t k).priority ≡ priority_at p t
-  priority_is t k lt =
-      ap (λ ps. get_or ps (body_at p t).task 0) (is.each t lt).numbered.priorities
-      ∙ ap (λ n. get_or p.priorities n 0) (is.each t lt).numbered.number
-
-  -- two copies race where their ways do
-  racing_of : (t k u l cell : ℕ) → IsAccess p tables t k cell → IsAccess p tables u l cell
-      → Race (way_in t k) (way_in u l) → AreRacing p tables t k u l
-  racing_of t k u l cell h j race =
-      let lt = h.reached.body in
-      let lu = j.reached.body in
-      let one = way_in t k in
-      let two = way_in u l in record {
-        tasks = λ same. race.tasks (task_is t k lt ∙ same ∙ sym (task_is u l lu));
-        cell = cell;
-        one = h;
-        other = j;
-        writes = either (λ w. inl (writes (operation_in p t k) w)) (λ w. inr (writes (operation_in p u l) w))
-            race.writes;
-        apart = race.apart;
-        forth = λ less. race.forth (subst (λ n. n < two.priority) (sym (priority_is t k lt))
-            (subst (λ n. priority_at p t < n) (sym (priority_is u l lu)) less));
-        back = λ less. race.back (subst (λ n. n < one.priority) (sym (priority_is u l lu))
-            (subst (λ n. priority_at p u < n) (sym (priority_is t k lt)) less));
-      }
+  -- the access of a copy
+  abbrev site_of : ObjectAccess → ℕ → ℕ → Site
+  site_of e k cell = site_at p is tables e.task k cell e.place
 
   module _ (object : ℕ) where
-    -- ## From an access of a task to an access of the object
-
-    module _ (x : Site) (h : IsSiteUpTo p tables p.tasks x) (e : ObjectAccess) (same : AreAlike (access_of x) e) where
-      abbrev t : ℕ
-      t = h.body
-
-      abbrev below : IsSiteBelow (body_at p t) (tables t) (let b = body_at p t in length b.copies) x
-      below = h.gives.1
-
-      abbrev k : ℕ
-      k = below.copy
-
-      in_bodies : t < length p.bodies
-      in_bodies = let lt = h.below in let most = is.tasks in omega (arith, lt, most)
-
-      of_task : t ≡ e.task
-      of_task =
-          sym (task_is t k in_bodies) ∙ ap (λ (w : Way). w.task) (sym below.gives.access.way) ∙ same.task
-
-      reaches : IsAccess p tables t k x.access.cell
-      reaches = record {
-        task = h.below;
-        state = below.state;
-        reached = record { body = in_bodies; copy = below.below; state = below.reached };
-        target = below.gives.access.target;
-      }
-
-      like : alikes.IsAs p tables e t k
-      like =
-          let stores : e.stores ≡ is_writing (operation_in p t k) =
-          sym same.stores ∙ ap (λ (w : Way). w.writes) below.gives.access.way in record {
-            placed = below.gives.access.placed ∙ ap Some same.place;
-            kind = (
-              λ s. writes (operation_in p t k) (sym stores ∙ s),
-              λ w. stores ∙ is_write (operation_in p t k) w,
-            );
-            holds = ap (λ (w : Way). w.held) (sym below.gives.access.way) ∙ same.held;
-          }
-
-      at_site : object_in p x.access.cell ≡ object → IsAccessAt p tables object e k x.access.cell
-      at_site of =
-          alikes.at_from p tables object e k x.access.cell
-          (subst (λ u. IsAccess p tables u k x.access.cell) of_task reaches) of
-          (subst (λ u. alikes.IsAs p tables e u k) of_task like)
-
-      way_is : x.access.way ≡ way_in e.task k
-      way_is = below.gives.access.way ∙ ap (λ u. way_in u k) of_task
-
-      edge_is : (let c = copy_in p e.task k in c.edge ≡ x.edge)
-      edge_is = subst (λ u. let c = copy_in p u k in c.edge ≡ x.edge) of_task (sym below.gives.edge)
-
-    -- ## And back
-
-    module _ (e : ObjectAccess) (k cell : ℕ) (h : IsAccessAt p tables object e k cell) where
-      abbrev site_at : Site
-      site_at = record {
-        access = record { cell = cell; way = way_in e.task k; place = e.place };
-        edge = (copy_in p e.task k).edge;
-      }
-
-      site_up_to : IsSiteUpTo p tables p.tasks site_at
-      site_up_to = record {
-        body = e.task;
-        below = h.access.task;
-        gives = (
-          h.access.task,
-          record {
-            copy = k;
-            below = h.access.reached.copy;
-            state = h.access.state;
-            reached = h.access.reached.state;
-            gives = record {
-              access = record { target = h.access.target; way = refl; placed = h.placed };
-              edge = refl;
-            };
-          },
-        );
-      }
-
-      site_alike : AreAlike (access_of site_at) e
-      site_alike = record {
-        place = refl;
-        task = task_is e.task k h.access.reached.body;
-        stores = same_truth (is_writing (operation_in p e.task k)) e.stores
-            (λ w. h.kind.1 (writes (operation_in p e.task k) w))
-            (λ s. is_write (operation_in p e.task k) (h.kind.0 s));
-        held = h.holds;
-      }
-
     -- ## Races of copies
 
     do_copies_race : (e f : ObjectAccess) (k l cell : ℕ) → IsAccessAt p tables object e k cell
@@ -171,7 +53,7 @@ module _ (p : ProgramBodies) (is : IsProgram p) (tables : ℕ → NodeTable Stat
         → DoCopiesRace p tables object e k f l cell
     unfolding racing_of
     do_copies_race e f k l cell one other race = record {
-      races = racing_of e.task k f.task l cell one.access other.access
+      races = racing_of p is tables e.task k f.task l cell one.access other.access
           (race_from (way_in e.task k) (way_in f.task l) race);
       cell = refl;
       one = one;
@@ -231,11 +113,11 @@ module _ (p : ProgramBodies) (is : IsProgram p) (tables : ℕ → NodeTable Stat
 
     module _ (object : ℕ) (accesses : List ObjectAccess) (groups-are : AreObjectAccesses p tables object accesses) where
       makes_at : (e : ObjectAccess) (k cell : ℕ) (h : IsAccessAt p tables object e k cell)
-          → Makes object e (site_at object e k cell h)
+          → Makes object e (site_of e k cell)
       makes_at e k cell h = record {
-        has = (are (site_at object e k cell h)).1 (site_up_to object e k cell h);
+        has = (are (site_of e k cell)).1 (site_up_to p is tables e.task k cell e.place h.access h.placed);
         of = h.of;
-        same = site_alike object e k cell h;
+        same = site_alike p is tables object e k cell h;
       }
 
       module _ (e : ObjectAccess) (x : Site) (m : Makes object e x) where
@@ -246,13 +128,13 @@ module _ (p : ProgramBodies) (is : IsProgram p) (tables : ℕ → NodeTable Stat
         copy_of = up_to.gives.1.copy
 
         there : IsAccessAt p tables object e copy_of x.access.cell
-        there = at_site object x up_to e m.same m.of
+        there = at_site p is tables x up_to e m.same object m.of
 
         way_there : x.access.way ≡ way_in e.task copy_of
-        way_there = way_is object x up_to e m.same
+        way_there = way_is p is tables x up_to e m.same
 
         edge_there : (let c = copy_in p e.task copy_of in c.edge ≡ x.edge)
-        edge_there = edge_is object x up_to e m.same
+        edge_there = edge_is p is tables x up_to e m.same
 
       -- ### What races with it
 
@@ -285,11 +167,11 @@ module _ (p : ProgramBodies) (is : IsProgram p) (tables : ℕ → NodeTable Stat
           }
 
       race_seen : (e f : ObjectAccess) (k l cell : ℕ) (h : DoCopiesRace p tables object e k f l cell)
-          → IsRacingAmong ways (site_at object e k cell h.one)
+          → IsRacingAmong ways (site_of e k cell)
       race_seen e f k l cell h = record {
         other = way_in f.task l;
         has = (ways-are cell (way_in f.task l)).1 (record {
-          one = site_at object f l cell h.other;
+          one = site_of f l cell;
           has = (makes_at f l cell h.other).has;
           is = (refl, refl);
         });
@@ -306,8 +188,8 @@ module _ (p : ProgramBodies) (is : IsProgram p) (tables : ℕ → NodeTable Stat
             at = subst (λ n. IsAccessAt p tables object e (copy_of e h.one m) n) (sym h.is) (there e h.one m);
           },
           λ r. record {
-            one = site_at object e r.copy c r.at;
-            has = (owns (site_at object e r.copy c r.at)).1 (makes_at e r.copy c r.at);
+            one = site_of e r.copy c;
+            has = (owns (site_of e r.copy c)).1 (makes_at e r.copy c r.at);
             is = refl;
           },
         )
@@ -328,7 +210,7 @@ module _ (p : ProgramBodies) (is : IsProgram p) (tables : ℕ → NodeTable Stat
               },
           λ r.
               let h = r.race in
-              let x = site_at object e h.copy c h.race.one in record {
+              let x = site_of e h.copy c in record {
                 one = x;
                 has = (owns x).1 (makes_at e h.copy c h.race.one);
                 is = (race_seen e r.partner h.copy h.other_copy c h.race, refl);
@@ -349,7 +231,7 @@ module _ (p : ProgramBodies) (is : IsProgram p) (tables : ℕ → NodeTable Stat
                 of_edge = edge_there e h.one m ∙ sym h.is.1;
               },
           λ r.
-              let x = site_at object e r.copy r.cell r.race.one in record {
+              let x = site_of e r.copy r.cell in record {
                 one = x;
                 has = (owns x).1 (makes_at e r.copy r.cell r.race.one);
                 is = (race_seen e r.partner r.copy r.other_copy r.cell r.race, sym r.of_edge);
@@ -401,8 +283,8 @@ module _ (p : ProgramBodies) (is : IsProgram p) (tables : ℕ → NodeTable Stat
             let k = r.race.copy in
             let l = r.race.other_copy in
             let h = r.race.race in
-            let x = site_at object e k c h.one in
-            let y = site_at object f l c h.other in
+            let x = site_of e k c in
+            let y = site_of f l c in
             let m = makes_at e k c h.one in
             let n = makes_at f l c h.other in
             let race = subst (λ w. do_race w (way_at f (point_of y)) ≡ true) (sym (way_back e x m.same))

@@ -13,36 +13,19 @@ use Rattle.std.proofs.lemmas.List.Filters.{dedup_is}
 use Rattle.std.proofs.lemmas.List.Kept.{Contains-dedup_nat, Contains-from_dedup}
 use Rattle.std.proofs.lemmas.List.Sorted.{Contains-permutation, IsPermutation-sym}
 use Rattle.std.proofs.lemmas.Map.Keys.{IsStrictlyIncreasing-dedup}
-use Rattle.access_races.proofs.Joins.{either, grown, front_more}
-use Rattle.access_groups.specs.reading.Noted.{list_at}
+use Rattle.access_races.proofs.Joins.{either, grown}
+use Rattle.access_races.specs.reading.Ways.{list_at}
 use Rattle.access_groups.proofs.Rising.{none, first, later}
-use Rattle.access_groups.proofs.Noted.{pushed}
+use Rattle.access_groups.proofs.Noted.{pushed, one_more}
 use Rattle.access_partners.specs.Lists.{AreListed, AreThose, AreEach}
 use Rattle.access_partners.specs.Lists.AreThose.{none as no_more, kept, left_out}
-use Rattle.access_partners.specs.reading.Accesses.{HasOne}
+use Rattle.access_groups.specs.reading.Sites.{HasOne}
 use Rattle.access_partners.specs.reading.Pairs.{kept_by}
 
 -- ## One more
 
 pub has_at : {X : Type 0} (xs : List X) (i : ℕ) (d : X) → i < length xs → Contains xs (get_or xs i d)
 has_at xs i d lt = (i, lt, get_or_default xs i (get_or xs i d) d lt)
-
-pub one_more : {X : Type 0} (Is : X → Type 0) (xs : List X) (i : ℕ) (d : X) → i < length xs
-    → HasOne Is (take (i + 1) xs) ↔ (HasOne Is (take i xs) ⊎ Is (get_or xs i d))
-one_more {X} Is xs i d lt = (
-  λ h. either (λ before. inl (record { one = h.one; has = before; is = h.is }))
-      (λ same. inr (subst Is (sym same) h.is)) ((front_more xs i d lt h.one).0 h.has),
-  λ h. either (λ (o : HasOne Is (take i xs)). record {
-    one = o.one;
-    has = (front_more xs i d lt o.one).1 (inl o.has);
-    is = o.is;
-  })
-      (λ here. record {
-        one = get_or xs i d;
-        has = (front_more xs i d lt (get_or xs i d)).1 (inr refl);
-        is = here;
-      }) h,
-)
 
 -- the same where one of two facts is said otherwise
 pub under_same : {S F P Q R : Type 0} → (S ↔ (F ⊎ (P × R))) → (Q → P) → (P → Q) → (S ↔ (F ⊎ (Q × R)))

@@ -23,7 +23,7 @@ use Rattle.access_races.proofs.Decided.{race_from, race_is}
 use Rattle.access_races.proofs.Joins.{either}
 use Rattle.access_groups.specs.declared.object_access.ObjectAccess.{ObjectAccess}
 use Rattle.access_partners.specs.declared.points.Point.{Point}
-use Rattle.access_partners.specs.declared.site.Site.{Site}
+use Rattle.access_groups.specs.declared.site.Site.{Site}
 use Rattle.access_partners.specs.contracts.points.PointOrd.TheImpl.{cmp-value}
 use Rattle.access_partners.specs.contracts.points.PointOrd.TheImpl.Laws.{total-law, matches_eq-law}
 use Rattle.access_partners.specs.contracts.points.PointPartialEq.TheImpl.{eq-value}

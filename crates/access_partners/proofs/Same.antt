@@ -6,7 +6,7 @@ use Rattle.std.specs.declared.vec.Vec.{Vec}
 use Rattle.access_races.specs.declared.accesses.Way.{Way}
 use Rattle.access_races.specs.Races.{do_race}
 use Rattle.access_groups.specs.declared.object_access.ObjectAccess.{ObjectAccess}
-use Rattle.access_groups.specs.reading.Noted.{list_at}
+use Rattle.access_races.specs.reading.Ways.{list_at}
 use Rattle.access_partners.specs.declared.partners.Partners.{Partners}
 use Rattle.access_partners.specs.declared.points.Point.{Point}
 use Rattle.access_partners.specs.reading.Accesses.{access_at}

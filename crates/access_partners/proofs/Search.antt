@@ -8,13 +8,15 @@ use Rattle.std.proofs.lemmas.Bool.{ltb-true, lt-ltb, eqb-true, eq-eqb}
 use Rattle.access_races.proofs.Joins.{either, grown}
 use Rattle.access_groups.specs.declared.object_access.ObjectAccess.{ObjectAccess}
 use Rattle.access_groups.specs.Order.{sort_key, AreBefore, IsBefore, AreRising}
-use Rattle.access_groups.specs.reading.Noted.{list_at}
+use Rattle.access_races.specs.reading.Ways.{list_at}
 use Rattle.access_groups.proofs.Rising.{none}
 use Rattle.access_groups.proofs.Sorting.{is_before_trans, not_alike}
-use Rattle.access_partners.specs.declared.site.Site.{Site}
-use Rattle.access_partners.specs.reading.Accesses.{no_site, nothing, access_of, access_at, AreSitesBy}
+use Rattle.access_groups.specs.declared.site.Site.{Site}
+use Rattle.access_groups.specs.reading.Sites.{no_site, access_of}
+use Rattle.access_partners.specs.reading.Accesses.{nothing, access_at, AreSitesBy}
 use Rattle.access_partners.specs.reading.Search.{is_before, IsFirstNotBefore, IsIndex, HasNoIndex, AreEmpty, IsSiteAdded}
-use Rattle.access_partners.proofs.Lists.{has_at, one_more}
+use Rattle.access_groups.proofs.Noted.{one_more}
+use Rattle.access_partners.proofs.Lists.{has_at}
 
 -- ## The order
 

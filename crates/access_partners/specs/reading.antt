@@ -1,6 +1,5 @@
--- The accesses of tasks with their edges (Sites), what they tell of an object's accesses (Accesses), how that is found
--- (Search, Points), what is found of partners (Pairs), and all that is found of groups (Found).
-pub mod Sites
+-- What the accesses of tasks tell of an object's accesses (Accesses), how that is found (Search, Points), what is found
+-- of partners (Pairs), and all that is found of groups (Found).
 pub mod Accesses
 pub mod Search
 pub mod Points

@@ -1,11 +1,11 @@
 //! What makes each access of an object.
-ghost use Rattle.std.specs.Prelude.{◌≡◌, ◌↔◌, ◌<◌, length, IfOk, OnOk, IfSome, IfNone, IsTrue};
-ghost use Rattle.access_groups.specs.Order.{sort_key, IsBefore, AreRising};
-ghost use Rattle.access_partners.specs.reading.Accesses.{access_of, AreSitesBy};
+ghost use Rattle.std.specs.Prelude.{◌≡◌, ◌<◌, length, IfOk, OnOk, IfSome, IfNone};
+ghost use Rattle.access_groups.specs.Order.{IsBefore, AreRising};
+ghost use Rattle.access_groups.specs.reading.Sites.{access_of};
+ghost use Rattle.access_partners.specs.reading.Accesses.{AreSitesBy};
 ghost use Rattle.access_partners.specs.reading.Search.{before_by_kind, is_before, IsFirstNotBefore, IsIndex, HasNoIndex, AreEmpty, IsSiteAdded};
 
-use crate::site::Site;
-use access_groups::ObjectAccess;
+use access_groups::{ObjectAccess, Site, is_alike};
 use std::alloc::Global;
 use tm_lattice::NoMemory;
 
@@ -41,16 +41,6 @@ fn is_before(one: ObjectAccess, other: ObjectAccess) -> bool
                 || one.place.col == other.place.col
                     && (one.task < other.task
                         || one.task == other.task && is_before_by_kind(one, other)))
-}
-
-// Whether two stand at one place, and are of one task, of one kind and under the same mutexes.
-fn is_alike(one: ObjectAccess, other: ObjectAccess) -> bool
-    ensures { IsTrue result ↔ (sort_key one ≡ sort_key other) }
-{
-    one.place == other.place
-        && one.task == other.task
-        && one.stores == other.stores
-        && one.held == other.held
 }
 
 // How many come before it, by halving.

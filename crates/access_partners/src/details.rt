@@ -4,9 +4,8 @@ ghost use Rattle.access_partners.specs.reading.Accesses.{AreSiteDetails};
 
 use crate::numbers::{cells_of, edges_of};
 use crate::partners::Partners;
-use crate::site::Site;
 use crate::ways::racing_sites;
-use access_groups::ObjectAccess;
+use access_groups::{ObjectAccess, Site};
 use access_races::Way;
 use std::alloc::Global;
 use tm_lattice::NoMemory;

@@ -9,7 +9,6 @@
 #![tactic(auto)]
 
 mod access_sites;
-mod copies;
 mod details;
 mod groups;
 mod laws;
@@ -19,9 +18,7 @@ mod objects;
 mod pairs;
 mod partners;
 mod points;
-mod site;
 mod tables;
-mod tasks;
 mod ways;
 
 pub use details::AccessDetails;

@@ -3,9 +3,8 @@ ghost use Rattle.std.specs.Prelude.{◌≡◌, ◌↔◌, IsTrue};
 ghost use Rattle.access_partners.specs.reading.Points.{way_at, AreByCells, IsFirstFrom, Meets, DoMeet, may_race};
 
 use crate::points::Point;
-use crate::ways::do_race;
 use access_groups::ObjectAccess;
-use access_races::Way;
+use access_races::{Way, do_race};
 
 // The way in which an access reaches a point.
 fn way_at(access: ObjectAccess, point: Point) -> Way

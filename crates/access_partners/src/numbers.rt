@@ -3,7 +3,7 @@ ghost use Rattle.std.specs.Prelude.{◌↔◌, ℕ, Contains, IfOk};
 ghost use Rattle.access_partners.specs.Lists.{AreListed};
 ghost use Rattle.access_partners.specs.reading.Accesses.{IsCellOf, IsEdgeOf};
 
-use crate::site::Site;
+use access_groups::Site;
 use std::alloc::Global;
 use tm_lattice::NoMemory;
 

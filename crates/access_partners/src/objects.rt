@@ -1,25 +1,15 @@
 //! The accesses to each object.
 ghost use Rattle.std.specs.Prelude.{◌≡◌, ◌≤◌, ◌^◌, ◌⊎◌, ◌↔◌, ℕ, length, Contains, IfOk, OnOk};
-ghost use Rattle.tm_laid.specs.Layouts.{laid_tree, abstract_at};
-ghost use Rattle.access_groups.specs.reading.Noted.{list_at};
-ghost use Rattle.access_partners.specs.declared.site.Site.{Site as ASite};
+ghost use Rattle.tm_laid.specs.Layouts.{laid_tree};
+ghost use Rattle.access_races.specs.reading.Ways.{list_at};
+ghost use Rattle.access_groups.specs.declared.site.Site.{Site as ASite};
 ghost use Rattle.access_partners.specs.reading.Accesses.{IsSiteTo};
 
-use crate::site::Site;
-use crate::ways::make_room;
+use access_groups::{Site, object_of};
+use access_races::make_room;
 use std::alloc::Global;
 use tm_laid::Laid;
 use tm_lattice::NoMemory;
-
-// The object of an abstract cell.
-fn object_of(laid: &Laid, cell: u32) -> u32
-    ensures { (let a = abstract_at (laid_tree laid.now) cell in result ≡ a.object) }
-{
-    match laid.abstract_cells.get(cell as usize) {
-        Some(found) => found.object,
-        None => 0,
-    }
-}
 
 // Puts an access behind those to an object.
 fn push_site(

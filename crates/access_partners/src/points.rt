@@ -3,7 +3,7 @@ ghost use Rattle.std.specs.Prelude.{◌≡◌, ◌↔◌, Contains, IfOk};
 ghost use Rattle.access_partners.specs.reading.Points.{point_of, IsPointOf, ArePointsOf, ArePointsBy};
 ghost use Rattle.access_partners.specs.declared.points.Point.{Point as APoint};
 
-use crate::site::Site;
+use access_groups::Site;
 use std::alloc::Global;
 use tm_lattice::NoMemory;
 

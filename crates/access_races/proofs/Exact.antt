@@ -1,10 +1,9 @@
 -- The report is exactly the alarms and those of accesses that race.
-use Rattle.std.proofs.Common.{◌≡◌, ◌↔◌, ◌⊎◌, ℕ, refl, ap, sym, subst, ◌∙◌, inl, inr, true, List}
+use Rattle.std.proofs.Common.{◌≡◌, ◌↔◌, ◌⊎◌, ℕ, refl, ap, sym, subst, inl, inr, true, List}
 use Rattle.std.specs.Prelude.{Contains, IfOk}
 use Rattle.std.specs.declared.result.Result.{Result}
 use Rattle.std.specs.declared.result.Result.TheVariants.{Ok, Err}
 use Rattle.std.specs.declared.vec.Vec.{Vec}
-use Rattle.tm_cint.specs.declared.Class.{Class}
 use Rattle.tm_cint.specs.declared.Class.TheVariants.{Race}
 use Rattle.tm_terms.specs.declared.alarms.Alarm.{Alarm}
 use Rattle.tm_terms.specs.declared.places.Place.{Place}
@@ -12,7 +11,7 @@ use Rattle.tm_terms.specs.Alarms.{IsStrictlySorted}
 use Rattle.access_races.specs.declared.accesses.Way.{Way}
 use Rattle.access_races.specs.declared.accesses.Access.{Access}
 use Rattle.access_races.specs.Races.{do_race, IsRaceAlarm, IsReportOf}
-use Rattle.access_races.specs.reading.Ways.{ways_at, IsWayTo, IsRacingIn, IsAlarmIn}
+use Rattle.access_races.specs.reading.Ways.{list_at, IsWayTo, IsAlarmIn}
 use Rattle.access_races.proofs.Joins.{either}
 
 -- two facts of an answer
@@ -25,7 +24,7 @@ alarm_of : (a : Alarm) (at : Place) → a.class ≡ Race → at ≡ a.place → 
 alarm_of a at class place = λ i. record { place = (sym place) i; class = class i }
 
 module _ {A : Type 0} (accesses : List Access) (ways : List (Vec Way A))
-    (are : (c : ℕ) (w : Way) → Contains (ways_at ways c) w ↔ IsWayTo accesses c w) where
+    (are : (c : ℕ) (w : Way) → Contains (list_at ways c) w ↔ IsWayTo accesses c w) where
   raced : (a : Alarm) → IsAlarmIn ways accesses a → IsRaceAlarm accesses a
   raced a h =
       let other = (are h.access.cell h.races.other).0 h.races.has in record {

@@ -6,7 +6,7 @@ use Rattle.tm_cint.specs.declared.Class.TheVariants.{Race}
 use Rattle.tm_terms.specs.declared.alarms.Alarm.{Alarm}
 use Rattle.access_races.specs.declared.accesses.Way.{Way}
 use Rattle.access_races.specs.declared.accesses.Access.{Access}
-use Rattle.access_races.specs.reading.Ways.{no_access, ways_at, IsWayTo, IsRacingIn, IsAlarmIn}
+use Rattle.access_races.specs.reading.Ways.{no_access, list_at, IsWayTo, IsRacingIn, IsAlarmIn}
 use Rattle.access_races.proofs.Joins.{either, front_more}
 
 module _ (xs : List Access) (i : ℕ) (lt : i < length xs) where
@@ -42,7 +42,7 @@ module _ (xs : List Access) (i : ℕ) (lt : i < length xs) where
       is = o.is;
     }
 
-    pub alarms_more : IsRacingIn (ways_at ways this.cell) this.way → IsAlarmIn ways (take (i + 1) xs) a
+    pub alarms_more : IsRacingIn (list_at ways this.cell) this.way → IsAlarmIn ways (take (i + 1) xs) a
         ↔ (IsAlarmIn ways (take i xs) a ⊎ (a ≡ record { place = this.place; class = Race }))
     alarms_more races = (
       λ h. either (λ before. inl (record { access = h.access; has = before; races = h.races; is = h.is }))
@@ -57,12 +57,12 @@ module _ (xs : List Access) (i : ℕ) (lt : i < length xs) where
           }) h,
     )
 
-    pub alarms_same : (IsRacingIn (ways_at ways this.cell) this.way → ⊥) → IsAlarmIn ways (take (i + 1) xs) a
+    pub alarms_same : (IsRacingIn (list_at ways this.cell) this.way → ⊥) → IsAlarmIn ways (take (i + 1) xs) a
         ↔ IsAlarmIn ways (take i xs) a
     alarms_same not_racing = (
       λ h. either (λ before. record { access = h.access; has = before; races = h.races; is = h.is })
           (λ e. absurd (not_racing
-          (subst (λ (z : Access). IsRacingIn (ways_at ways z.cell) z.way) (sym e) h.races)))
+          (subst (λ (z : Access). IsRacingIn (list_at ways z.cell) z.way) (sym e) h.races)))
           ((front_more xs i no_access lt h.access).0 h.has),
       earlier,
     )

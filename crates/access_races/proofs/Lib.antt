@@ -1,5 +1,5 @@
 pub mod Joins
-mod Cells
+pub mod Cells
 mod Fronts
 mod Exact
 pub mod Sorting

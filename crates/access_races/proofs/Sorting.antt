@@ -1,6 +1,6 @@
 -- Alarms that are sorted and of which repeats are dropped.
-use Rattle.std.proofs.Common.{◌≡◌, ◌↔◌, ℕ, ◌<◌, ◌==◌, refl, ap, sym, subst, ◌∙◌, Bool, true, false, ◌&&◌, List, [], ◌∷◌}
-use Rattle.std.proofs.Common.{arith, ◌⊎◌, inl, inr}
+use Rattle.std.proofs.Common.{◌≡◌, ◌↔◌, ◌<◌, ◌==◌, refl, sym, subst, Bool, true, false, ◌&&◌, List, [], ◌∷◌}
+use Rattle.std.proofs.Common.{arith, inl, inr}
 use Rattle.std.specs.Prelude.{Contains}
 use Rattle.std.specs.List.{dedup}
 use Rattle.std.specs.List.Sorted.{IsStrictlySortedBy, IsSorted, IsPermutation}
@@ -19,7 +19,6 @@ use Rattle.tm_cint.specs.declared.Class.TheVariants.{Overflow, Div, Shift, Index
 use Rattle.tm_cint.specs.contracts.ClassOrd.TheImpl as class_ord
 use Rattle.tm_cint.specs.contracts.ClassPartialEq.TheImpl as class_eq
 use Rattle.tm_terms.specs.declared.alarms.Alarm.{Alarm}
-use Rattle.tm_terms.specs.declared.places.Place.{Place}
 use Rattle.tm_terms.specs.contracts.alarms.AlarmOrd.TheImpl.{cmp-value}
 use Rattle.tm_terms.specs.contracts.alarms.AlarmOrd.TheImpl.Laws.{total-law, matches_eq-law}
 use Rattle.tm_terms.specs.contracts.alarms.AlarmPartialEq.TheImpl.{eq-value}

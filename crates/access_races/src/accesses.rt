@@ -45,8 +45,9 @@ fn is_unhindered(one: Way, other: Way) -> bool
     one.priority >= other.priority || one.held & other.found == 0
 }
 
-// Whether accesses to one cell race.
-pub(crate) fn do_race(one: Way, other: Way) -> bool
+/// Whether accesses to one cell race: two tasks make them, one of them writes, no mutex is held at both, and the more
+/// urgent task has found none free that the other one holds.
+pub fn do_race(one: Way, other: Way) -> bool
     ensures { result ≡ do_race one other }
 {
     one.task != other.task

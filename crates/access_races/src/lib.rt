@@ -9,5 +9,6 @@ mod accesses;
 mod reports;
 mod ways;
 
-pub use accesses::{Access, Way, push_access};
+pub use accesses::{Access, Way, do_race, push_access};
 pub use reports::{push_alarm, report_of};
+pub use ways::{add_way, is_racing, make_room};

@@ -1,8 +1,7 @@
 //! The ways in which cells are accessed.
-ghost use Rattle.std.specs.Prelude.{◌≡◌, ◌<◌, ◌⊎◌, ◌↔◌, ℕ, [], length, get_or, Contains, IfOk, OnOk, IsTrue};
-ghost use Rattle.access_races.specs.declared.accesses.Access.{Access as AnAccess};
+ghost use Rattle.std.specs.Prelude.{◌≡◌, ◌<◌, ◌≤◌, ◌^◌, ◌⊎◌, ◌↔◌, ℕ, length, Contains, IfOk, OnOk, IsTrue};
 ghost use Rattle.access_races.specs.declared.accesses.Way.{Way as AWay};
-ghost use Rattle.access_races.specs.reading.Ways.{ways_at, IsWayTo, IsRacingIn};
+ghost use Rattle.access_races.specs.reading.Ways.{list_at, IsWayTo, IsRacingIn};
 
 use crate::accesses::{Access, Way, do_race};
 use std::alloc::Global;
@@ -19,21 +18,26 @@ fn add_to(list: &mut Vec<Way>, way: Way) -> Result<(), NoMemory>
     Ok(())
 }
 
-// Empty lists up to that of a cell.
-fn make_room(alloc: Global, ways: &mut Vec<Vec<Way>>, cell: u32) -> Result<(), NoMemory>
-    ensures room { OnOk result (cell < length ways.new.items) }
-    ensures same { OnOk result ((c : ℕ) → ways_at ways.new.items c ≡ ways_at ways.old.items c) }
+/// Puts empty lists behind these, up to that with a number.
+pub fn make_room<T: Drop>(
+    alloc: Global,
+    lists: &mut Vec<Vec<T>>,
+    number: u32,
+) -> Result<(), NoMemory>
+    ensures room { OnOk result (number < length lists.new.items) }
+    ensures small { OnOk result (length lists.old.items ≤ 2 ^ 32 → length lists.new.items ≤ 2 ^ 32) }
+    ensures same { OnOk result ((n : ℕ) → list_at lists.new.items n ≡ list_at lists.old.items n) }
 {
-    for _ in ways.len()..cell as usize + 1 {
-        ways.push(Vec::new(alloc))?;
+    for _ in lists.len()..number as usize + 1 {
+        lists.push(Vec::new(alloc))?;
     }
     Ok(())
 }
 
-// Adds the way of an access to those of its cell.
-fn add_way(alloc: Global, ways: &mut Vec<Vec<Way>>, access: Access) -> Result<(), NoMemory>
-    ensures { OnOk result ((c : ℕ) (w : AWay) → Contains (ways_at ways.new.items c) w
-        ↔ (Contains (ways_at ways.old.items c) w ⊎ ((c ≡ access.cell) × (w ≡ access.way)))) }
+/// Adds the way of an access to those of its cell.
+pub fn add_way(alloc: Global, ways: &mut Vec<Vec<Way>>, access: Access) -> Result<(), NoMemory>
+    ensures { OnOk result ((c : ℕ) (w : AWay) → Contains (list_at ways.new.items c) w
+        ↔ (Contains (list_at ways.old.items c) w ⊎ ((c ≡ access.cell) × (w ≡ access.way)))) }
 {
     make_room(alloc, ways, access.cell)?;
     add_to(&mut ways[access.cell as usize], access.way)
@@ -41,7 +45,7 @@ fn add_way(alloc: Global, ways: &mut Vec<Vec<Way>>, access: Access) -> Result<()
 
 /// The ways in which each cell is accessed, by the number of the cell.
 pub(crate) fn ways_by_cell(alloc: Global, accesses: &[Access]) -> Result<Vec<Vec<Way>>, NoMemory>
-    ensures { IfOk result (λ ways. (c : ℕ) (w : AWay) → Contains (ways_at ways.items c) w
+    ensures { IfOk result (λ ways. (c : ℕ) (w : AWay) → Contains (list_at ways.items c) w
         ↔ IsWayTo accesses.now c w) }
 {
     let mut ways = Vec::new(alloc);
@@ -64,8 +68,8 @@ fn races_with(way: Way, ways: &[Way]) -> bool
 }
 
 /// Whether an access races, where these are the ways in which each cell is accessed.
-pub(crate) fn is_racing(ways: &[Vec<Way>], access: Access) -> bool
-    ensures { IsTrue result ↔ IsRacingIn (ways_at ways.now access.cell) access.way }
+pub fn is_racing(ways: &[Vec<Way>], access: Access) -> bool
+    ensures { IsTrue result ↔ IsRacingIn (list_at ways.now access.cell) access.way }
 {
     match ways.get(access.cell as usize) {
         Some(list) => races_with(access.way, list),

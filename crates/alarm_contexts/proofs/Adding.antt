@@ -1,29 +1,22 @@
--- Contexts with one more class, one more copy and one more body.
-use Rattle.std.proofs.Common.{◌≡◌, ◌↔◌, ◌⊎◌, ℕ, ◌+◌, ap, sym, subst, ◌∙◌, inl, inr, Bool, true, false, not}
-use Rattle.std.proofs.Common.{Option, Some, None, IsTrue, arith}
+-- What a copy gives.
+use Rattle.std.proofs.Common.{◌≡◌, ◌↔◌, ◌⊎◌, ℕ, ap, sym, ◌∙◌, inl, Bool, true, false, not}
+use Rattle.std.proofs.Common.{Option, Some, None, IsTrue}
 use Rattle.std.specs.Prelude.{is_some}
-use Rattle.std.proofs.lemmas.Bool.{cases_eq}
 use Rattle.tm_terms.specs.declared.places.Place.{Place}
 use Rattle.transfer_int.specs.Outcomes.{notes}
 use Rattle.interfere_set.specs.Stores.{Interferences}
 use Rattle.program_reports.specs.post_recheck.transfer_rows.StateForms.{State}
 use Rattle.program_reports.specs.post_recheck.edge_effects.declared.views.After.{After}
 use Rattle.program_reports.specs.post_recheck.edge_effects.Effects.{IsAfter}
-use Rattle.program_reports.specs.post_recheck.table_covers.Solutions.{NodeTable}
 use Rattle.program_reports.specs.post_recheck.task_equations.Bodies.{Body, copy_at}
 use Rattle.program_reports.specs.post_recheck.task_equations.Equations.{action_along, around_along}
-use Rattle.program_reports.specs.post_recheck.program_equations.Programs.{ProgramBodies}
 use Rattle.access_races.proofs.Joins.{either}
 use Rattle.program_reports.specs.Reports.{place_of}
 use Rattle.program_reports.specs.reading.Found.{operation_at}
-use Rattle.program_reports.proofs.Steps.{Below, below_more, below_same}
 use Rattle.program_reports.proofs.Tables.{alarm_given}
 use Rattle.alarm_contexts.specs.declared.exits.Exit.{Exit}
 use Rattle.alarm_contexts.specs.declared.exits.Context.{Context}
-use Rattle.alarm_contexts.specs.reading.Found.{context_at, exit_with, exit_at, GivesContext, IsContextBelow}
-use Rattle.alarm_contexts.specs.reading.Found.{IsContextIn, IsContextUpTo}
-
--- ## Copies
+use Rattle.alarm_contexts.specs.reading.Found.{context_at, exit_with, exit_at, GivesContext}
 
 none_is_some : (place : Place) → None ≡ Some place → ⊥
 none_is_some place e = cc
@@ -64,59 +57,3 @@ module _ (b : Body) (store : Interferences) (k : ℕ) (s : State) where
               a.1,
             ),
       )
-
--- ## More copies
-
-module _ (b : Body) (store : Interferences) (table : NodeTable State) (x : Context) where
-  abbrev reach : ℕ → Option State
-  reach k = (let c = copy_at b k in table c.from)
-
-  abbrev Gives : ℕ → State → Type 0
-  Gives k s = GivesContext b store k s x
-
-  inward : (n : ℕ) → IsContextBelow b store table n x → Below reach Gives n
-  inward n h = (h.copy, h.below, h.state, h.reached, h.gives)
-
-  outward : (n : ℕ) → Below reach Gives n → IsContextBelow b store table n x
-  outward n h = record { copy = h.0; below = h.1; state = h.2; reached = h.3; gives = h.4 }
-
-  pub contexts_none : IsContextBelow b store table 0 x → ⊥
-  contexts_none h = absurd (let lt = h.below in omega (arith, lt))
-
-  pub contexts_more : (k : ℕ) (s : State) → reach k ≡ Some s
-      → IsContextBelow b store table (k + 1) x ↔ (IsContextBelow b store table k x ⊎ GivesContext b store k s x)
-  contexts_more k s e = (
-    λ h. either (λ o. inl (outward k o)) (λ g. inr g) ((below_more reach Gives k s e).0 (inward (k + 1) h)),
-    λ h. outward (k + 1) ((below_more reach Gives k s e).1 (either (λ o. inl (inward k o)) (λ g. inr g) h)),
-  )
-
-  pub contexts_same : (k : ℕ) → reach k ≡ None
-      → IsContextBelow b store table (k + 1) x ↔ IsContextBelow b store table k x
-  contexts_same k e = (
-    λ h. outward k ((below_same reach Gives k e).0 (inward (k + 1) h)),
-    λ h. outward (k + 1) ((below_same reach Gives k e).1 (inward k h)),
-  )
-
--- ## Bodies
-
-module _ (p : ProgramBodies) (store : Interferences) (tables : ℕ → NodeTable State) (n : ℕ) (x : Context) where
-  pub bodies_none : IsContextUpTo p store tables 0 x → ⊥
-  bodies_none h = absurd (let lt = h.below in omega (arith, lt))
-
-  pub bodies_more : IsContextUpTo p store tables (n + 1) x
-      ↔ (IsContextUpTo p store tables n x ⊎ IsContextIn p store tables n x)
-  bodies_more = (
-    λ h. elim (cases_eq h.body n) [
-      | inl same ↦ inr (subst (λ t. IsContextIn p store tables t x) same h.gives)
-      | inr other ↦ inl (record {
-        body = h.body;
-        below = (let lt = h.below in omega (arith, lt, other));
-        gives = h.gives;
-      })
-    ],
-    λ h. either (λ (o : IsContextUpTo p store tables n x). record {
-      body = o.body;
-      below = (let lt = o.below in omega (arith, lt));
-      gives = o.gives;
-    }) (λ g. record { body = n; below = omega arith; gives = g }) h,
-  )

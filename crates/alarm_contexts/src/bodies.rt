@@ -14,7 +14,7 @@ use crate::copies::add_copy;
 use crate::exits::Context;
 use interfere_set::Store;
 use mutex_configs::Program;
-use program_reports::{BodyParts, BodyState, ProgramFacts, Table, body_over_store};
+use program_reports::{BodyParts, BodyState, ProgramFacts, Table, body_over_store, body_parts};
 use std::alloc::Global;
 use tm_lattice::NoMemory;
 
@@ -59,16 +59,7 @@ fn add_body<'a>(
         (tables_of (lists_of tables.now)) number x)) }
 {
     let body = body_over_store(program, facts, number, None, store);
-    let configured = &program.configured[number as usize];
-    let parts = BodyParts {
-        body: &body,
-        edges: &program.graphs.graphs[number as usize].edges,
-        nodes: configured.nodes.as_slice(),
-        copies: &configured.copies,
-        number,
-        priority: facts.priorities()[number as usize],
-        is_task: (number as usize) < program.laid.file.tasks.len(),
-    };
+    let parts = body_parts(program, facts, &body, number);
     add_copies(alloc, parts, &tables[number as usize], contexts)
 }
 

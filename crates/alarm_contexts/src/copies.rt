@@ -4,16 +4,14 @@ ghost use Rattle.transfer_int.specs.Outcomes.{notes};
 ghost use Rattle.program_reports.specs.post_recheck.task_equations.Bodies.{copy_at};
 ghost use Rattle.program_reports.specs.post_recheck.program_equations.Systems.{FitsBody};
 ghost use Rattle.program_reports.specs.post_recheck.body_systems.Systems.{body_of};
-ghost use Rattle.program_reports.specs.reading.Found.{operation_at};
 ghost use Rattle.program_reports.specs.reading.Parts.{ArePartsOf};
 ghost use Rattle.alarm_contexts.specs.declared.exits.Context.{Context as AContext};
 ghost use Rattle.alarm_contexts.specs.reading.Found.{context_at, exit_with, IsClassAt, GivesContext};
 
 use crate::exits::{Context, Exit};
 use cell_env::State;
-use flow_graph::Operation;
 use pointer_dom::AbsValue;
-use program_reports::{BodyParts, place_of};
+use program_reports::{BodyParts, operation_of, place_of};
 use std::alloc::Global;
 use tm_cint::Class;
 use tm_lattice::NoMemory;
@@ -56,15 +54,6 @@ fn add_classes(
     add_class(contexts, place, exit, Class::Pointer, classes.pointer)?;
     add_class(contexts, place, exit, Class::Deref, classes.deref)?;
     add_class(contexts, place, exit, Class::Lock, classes.lock)
-}
-
-/// The operation of a copy.
-pub(crate) fn operation_of(parts: BodyParts<'_>, copy: usize) -> Operation
-    requires parts { ArePartsOf (body_of parts.body.now) parts }
-    requires copy { copy < length parts.copies.now }
-    ensures { result ≡ operation_at (body_of parts.entry.body.now) copy }
-{
-    parts.edges[parts.copies[copy].edge].op
 }
 
 // A copy, behind which control goes on or does not.

@@ -21,7 +21,6 @@ ghost use Rattle.alarm_contexts.specs.declared.flaws.ObjectFlaw.{ObjectFlaw as A
 ghost use Rattle.alarm_contexts.specs.Flaws.{HasFlaw};
 ghost use Rattle.alarm_contexts.specs.reading.Operands.{operands_at, operands_of, IsFlawed, AreJoined};
 
-use crate::copies::operation_of;
 use crate::exits::Context;
 use crate::flaws::ObjectFlaw;
 use crate::pointers::flaws_of;
@@ -31,7 +30,9 @@ use graph_facts::{UsedTemporaries, used};
 use interfere_set::Store;
 use mutex_configs::Program;
 use pointer_dom::AbsValue;
-use program_reports::{BodyParts, BodyState, ProgramFacts, Table, body_over_store};
+use program_reports::{
+    BodyParts, BodyState, ProgramFacts, Table, body_over_store, body_parts, operation_of,
+};
 use std::alloc::Global;
 use strided_dom::Strided;
 use tm_laid::Laid;
@@ -139,16 +140,7 @@ pub(crate) fn used_of<'a>(
 {
     let number = context.exit.body;
     let body = body_over_store(program, facts, number, None, store);
-    let configured = &program.configured[number as usize];
-    let parts = BodyParts {
-        body: &body,
-        edges: &program.graphs.graphs[number as usize].edges,
-        nodes: configured.nodes.as_slice(),
-        copies: &configured.copies,
-        number,
-        priority: facts.priorities()[number as usize],
-        is_task: (number as usize) < program.laid.file.tasks.len(),
-    };
+    let parts = body_parts(program, facts, &body, number);
     used_at(
         alloc,
         &program.laid,

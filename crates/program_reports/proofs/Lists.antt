@@ -1,9 +1,9 @@
 -- Lists of alarms that are strictly sorted are equal where they have the same alarms.
-use Rattle.std.proofs.Common.{◌≡◌, ◌↔◌, ◌⊎◌, ℕ, zero, suc, ◌<◌, refl, ap, sym, subst, ◌∙◌, inl, inr, List, [], ◌∷◌}
-use Rattle.std.proofs.Common.{length, get_or, arith}
+use Rattle.std.proofs.Common.{◌≡◌, ◌⊎◌, zero, suc, refl, sym, subst, ◌∙◌, inl, inr, List, [], ◌∷◌}
+use Rattle.std.proofs.Common.{arith}
 use Rattle.std.specs.Prelude.{Contains}
 use Rattle.tm_terms.specs.declared.alarms.Alarm.{Alarm}
-use Rattle.tm_terms.specs.Alarms.{class_number, AlarmBefore, IsStrictlySorted}
+use Rattle.tm_terms.specs.Alarms.{AlarmBefore, IsStrictlySorted}
 
 either : {A B C : Type 0} → (A → C) → (B → C) → A ⊎ B → C
 either f g (inl a) = f a

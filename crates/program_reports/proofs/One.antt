@@ -1,13 +1,12 @@
 -- Tables that agree have one report.
-use Rattle.std.proofs.Common.{◌≡◌, ◌↔◌, ℕ, ◌<◌, sym, ◌∙◌, List, length}
-use Rattle.std.specs.Prelude.{Contains}
+use Rattle.std.proofs.Common.{◌≡◌, ℕ, sym, ◌∙◌, List}
 use Rattle.tm_cint.specs.declared.Class.{Class}
 use Rattle.tm_terms.specs.declared.alarms.Alarm.{Alarm}
 use Rattle.tm_terms.specs.declared.places.Place.{Place}
 use Rattle.post_recheck.specs.transfer_rows.StateForms.{State}
 use Rattle.post_recheck.specs.table_covers.Solutions.{NodeTable}
-use Rattle.post_recheck.specs.program_equations.Programs.{ProgramBodies, body_at, IsProgram}
-use Rattle.program_reports.specs.Reports.{IsReachedIn, IsFaulty, IsAccess, AreRacing, IsRacing, IsAlarm, IsReport}
+use Rattle.post_recheck.specs.program_equations.Programs.{ProgramBodies, IsProgram}
+use Rattle.program_reports.specs.Reports.{IsReachedIn, IsFaulty, IsAccess, IsRacing, IsAlarm, IsReport}
 use Rattle.program_reports.specs.Reports.IsAlarm.{faulty, racing}
 use Rattle.program_reports.specs.Laws.{Agree}
 use Rattle.program_reports.proofs.Lists.{equal_lists}

@@ -1,7 +1,8 @@
 //! What a body gives to a report.
-ghost use Rattle.std.specs.Prelude.{◌≡◌, ◌<◌, ◌⊎◌, ◌↔◌, true, length, Contains, OnOk};
+ghost use Rattle.std.specs.Prelude.{◌≡◌, ◌<◌, ◌⊎◌, ◌↔◌, true, nat_lt, length, Contains, OnOk};
 ghost use Rattle.tm_terms.specs.declared.alarms.Alarm.{Alarm as AnAlarm};
 ghost use Rattle.post_recheck.specs.table_covers.Solutions.{at};
+ghost use Rattle.post_recheck.specs.program_equations.Programs.{body_at};
 ghost use Rattle.post_recheck.specs.program_equations.Solutions.{tables_of};
 ghost use Rattle.post_recheck.specs.body_systems.Systems.{body_of};
 ghost use Rattle.post_recheck.specs.program_systems.Analysable.{IsAnalysable};
@@ -15,7 +16,7 @@ ghost use Rattle.program_reports.specs.reading.Bodies.{IsAlarmOf, IsAccessOf};
 use crate::copies::{BodyParts, Found, add_copy};
 use interfere_set::Store;
 use mutex_configs::Program;
-use post_recheck::{BodyState, ProgramFacts, Table, body_over_store};
+use post_recheck::{BodyOverStore, BodyState, ProgramFacts, Table, body_over_store};
 use std::alloc::Global;
 use tm_lattice::NoMemory;
 
@@ -44,6 +45,33 @@ fn add_copies(
     Ok(())
 }
 
+/// What is read of the body with this number, where these are its equations over a store.
+pub fn body_parts<'a>(
+    program: &'a Program,
+    facts: &'a ProgramFacts,
+    body: &'a BodyOverStore<'a>,
+    number: u32,
+) -> BodyParts<'a>
+    requires analysable { IsAnalysable program.now }
+    requires facts { AreProgramFacts program.now facts.now }
+    requires number { number < length (program_with program.now facts.now).bodies }
+    requires body { body_of body.now ≡ body_at (program_with program.now facts.now) number }
+    ensures body { result.body.now ≡ body.now }
+    ensures parts { ArePartsOf (body_of result.body.now) result }
+    ensures is_task { result.is_task ≡ nat_lt number (program_with program.now facts.now).tasks }
+{
+    let configured = &program.configured[number as usize];
+    BodyParts {
+        body,
+        edges: &program.graphs.graphs[number as usize].edges,
+        nodes: configured.nodes.as_slice(),
+        copies: &configured.copies,
+        number,
+        priority: facts.priorities()[number as usize],
+        is_task: (number as usize) < program.laid.file.tasks.len(),
+    }
+}
+
 // Adds what the body with this number gives.
 pub(crate) fn add_body<'a>(
     alloc: Global,
@@ -66,15 +94,6 @@ pub(crate) fn add_body<'a>(
         ⊎ IsAccessOf (program_with program.now facts.now) (tables_of (lists_of tables.now)) number x)) }
 {
     let body = body_over_store(program, facts, number, None, store);
-    let configured = &program.configured[number as usize];
-    let parts = BodyParts {
-        body: &body,
-        edges: &program.graphs.graphs[number as usize].edges,
-        nodes: configured.nodes.as_slice(),
-        copies: &configured.copies,
-        number,
-        priority: facts.priorities()[number as usize],
-        is_task: (number as usize) < program.laid.file.tasks.len(),
-    };
+    let parts = body_parts(program, facts, &body, number);
     add_copies(alloc, parts, &tables[number as usize], found)
 }

@@ -7,7 +7,6 @@ ghost use Rattle.access_races.specs.declared.accesses.Access.{Access as AnAccess
 ghost use Rattle.post_recheck.specs.task_equations.Bodies.{copy_at};
 ghost use Rattle.post_recheck.specs.program_equations.Systems.{FitsBody};
 ghost use Rattle.post_recheck.specs.body_systems.Systems.{body_of};
-ghost use Rattle.program_reports.specs.Reports.{place_of};
 ghost use Rattle.program_reports.specs.reading.Found.{operation_at, way_of_copy, IsClassIn, IsTargetIn};
 ghost use Rattle.program_reports.specs.reading.Found.{GivesAlarm, GivesAccess};
 ghost use Rattle.program_reports.specs.reading.Parts.{ArePartsOf};
@@ -15,7 +14,7 @@ ghost use Rattle.program_reports.specs.reading.Parts.{ArePartsOf};
 use crate::places::{is_writing, place_of};
 use access_races::{Access, Way, push_access, push_alarm};
 use cell_env::State;
-use flow_graph::Edge;
+use flow_graph::{Edge, Operation};
 use mutex_configs::{ConfiguredNode, EdgeCopy};
 use pointer_dom::AbsValue;
 use post_recheck::BodyOverStore;
@@ -96,8 +95,17 @@ fn add_targets(
     Ok(())
 }
 
-// The way in which a copy reaches cells.
-fn way_of(parts: BodyParts<'_>, copy: usize) -> Way
+/// The operation of a copy.
+pub fn operation_of(parts: BodyParts<'_>, copy: usize) -> Operation
+    requires parts { ArePartsOf (body_of parts.body.now) parts }
+    requires copy { copy < length parts.copies.now }
+    ensures { result ≡ operation_at (body_of parts.entry.body.now) copy }
+{
+    parts.edges[parts.copies[copy].edge].op
+}
+
+/// The way in which a copy reaches cells.
+pub fn way_of(parts: BodyParts<'_>, copy: usize) -> Way
     requires parts { ArePartsOf (body_of parts.body.now) parts }
     requires copy { copy < length parts.copies.now }
     ensures { result ≡ way_of_copy (body_of parts.entry.body.now) copy }
@@ -111,15 +119,6 @@ fn way_of(parts: BodyParts<'_>, copy: usize) -> Way
         found: node.found,
         writes: is_writing(parts.edges[copy.edge].op),
     }
-}
-
-// Where the operation of a copy stands.
-fn place_of_copy(parts: BodyParts<'_>, copy: usize) -> Option<Place>
-    requires parts { ArePartsOf (body_of parts.body.now) parts }
-    requires copy { copy < length parts.copies.now }
-    ensures { result ≡ place_of (operation_at (body_of parts.entry.body.now) copy) }
-{
-    place_of(parts.edges[parts.copies[copy].edge].op)
 }
 
 // Adds what a copy gives in a state of the node that it leaves.
@@ -139,7 +138,7 @@ pub(crate) fn add_copy(
         ↔ (Contains found.old.accesses.items x
         ⊎ ((parts.entry.is_task ≡ true) × GivesAccess (body_of parts.entry.body.now) copy state.now x))) }
 {
-    let Some(place) = place_of_copy(parts, copy) else {
+    let Some(place) = place_of(operation_of(parts, copy)) else {
         return Ok(());
     };
     let after = parts.body.applied(alloc, copy, state)?;

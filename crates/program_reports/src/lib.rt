@@ -11,7 +11,8 @@ mod judging;
 mod laws;
 mod places;
 
-pub use copies::BodyParts;
+pub use bodies::body_parts;
+pub use copies::{BodyParts, operation_of, way_of};
 pub use judging::judge;
 pub use laws::reports_are_one;
 pub use places::place_of;

@@ -1,10 +1,10 @@
 -- The groups of what is noted of objects.
 use Rattle.std.specs.Prelude.{◌≡◌, ℕ, ◌<◌, List, [], ◌∷◌, ◌++◌, Contains}
 use Rattle.std.specs.declared.vec.Vec.{Vec}
+use Rattle.access_races.specs.reading.Ways.{list_at}
 use Rattle.access_groups.specs.declared.object_access.ObjectAccess.{ObjectAccess}
 use Rattle.access_groups.specs.declared.object_access.AccessGroup.{AccessGroup}
 use Rattle.access_groups.specs.Order.{AreRising}
-use Rattle.access_groups.specs.reading.Noted.{list_at}
 use Rattle.access_groups.specs.reading.Merging.{AreMerged, HasRacing}
 
 -- an object gets a group exactly where one of its accesses races

@@ -1,15 +1,13 @@
 -- What is noted of accesses, object by object.
-use Rattle.std.specs.Prelude.{◌≡◌, ◌↔◌, ℕ, true, List, [], map, get_or, Contains}
+use Rattle.std.specs.Prelude.{◌≡◌, ◌↔◌, ℕ, true, List}
 use Rattle.std.specs.declared.vec.Vec.{Vec}
 use Rattle.tm_laid.specs.Layouts.{LaidTree, abstract_at}
 use Rattle.access_races.specs.declared.accesses.Way.{Way}
 use Rattle.access_races.specs.declared.accesses.Access.{Access}
-use Rattle.access_races.specs.reading.Ways.{IsRacingIn}
+use Rattle.access_races.specs.reading.Ways.{list_at, IsRacingIn}
 use Rattle.access_groups.specs.declared.object_access.ObjectAccess.{ObjectAccess}
-
--- the list with a number, empty where there is none
-abbrev pub list_at : {X A : Type 0} → List (Vec X A) → ℕ → List X
-list_at lists n = get_or (map (λ list. list.items) lists) n []
+use Rattle.access_groups.specs.declared.site.Site.{Site}
+use Rattle.access_groups.specs.reading.Sites.{HasOne}
 
 module _ {A : Type 0} (ways : List (Vec Way A)) where
   -- what is noted of an access
@@ -21,9 +19,7 @@ module _ {A : Type 0} (ways : List (Vec Way A)) where
     pub free : (let w = x.way in e.free ≡ w.found)
     pub racing : (e.racing ≡ true) ↔ IsRacingIn (list_at ways x.cell) x.way
 
-  -- it is noted of an access to a cell of the object
-  pub record IsNotedIn (laid : LaidTree) (accesses : List Access) (object : ℕ) (e : ObjectAccess) : Type 0 where
-    pub access : Access
-    pub has : Contains accesses access
-    pub of : (let a = abstract_at laid access.cell in object ≡ a.object)
-    pub noted : IsNotedAs access e
+  -- it is noted of one of these, which reaches a cell of the object
+  abbrev pub IsNotedIn : LaidTree → List Site → ℕ → ObjectAccess → Type 0
+  IsNotedIn laid sites object e =
+      HasOne (λ (x : Site). (let a = abstract_at laid x.access.cell in object ≡ a.object) × IsNotedAs x.access e) sites

@@ -3,17 +3,13 @@ use Rattle.std.specs.Prelude.{◌≡◌, ◌↔◌, ℕ, ◌<◌, false, List, l
 use Rattle.std.specs.declared.vec.Vec.{Vec}
 use Rattle.tm_laid.specs.Layouts.{LaidTree, abstract_at}
 use Rattle.access_races.specs.declared.accesses.Way.{Way}
-use Rattle.access_races.specs.reading.Ways.{no_access, IsRacingIn}
+use Rattle.access_races.specs.reading.Ways.{list_at, IsRacingIn}
 use Rattle.access_groups.specs.declared.object_access.ObjectAccess.{ObjectAccess}
+use Rattle.access_groups.specs.declared.site.Site.{Site}
 use Rattle.access_groups.specs.Order.{sort_key}
-use Rattle.access_groups.specs.reading.Noted.{list_at}
-use Rattle.access_partners.specs.declared.site.Site.{Site}
+use Rattle.access_groups.specs.reading.Sites.{access_of, HasOne}
 use Rattle.access_partners.specs.declared.details.AccessDetails.{AccessDetails}
 use Rattle.access_partners.specs.Lists.{AreListed}
-
--- what stands in place of one that there is not
-abbrev pub no_site : Site
-no_site = record { access = no_access; edge = 0 }
 
 -- what stands in place of an access of an object that there is not
 abbrev pub nothing : ObjectAccess
@@ -26,23 +22,6 @@ nothing = record {
   racing = false;
 }
 
--- the access of an object that it makes
-abbrev pub access_of : Site → ObjectAccess
-access_of x = record {
-  place = x.access.place;
-  task = x.access.way.task;
-  stores = x.access.way.writes;
-  held = x.access.way.held;
-  free = x.access.way.found;
-  racing = false;
-}
-
--- one of them is so
-pub record HasOne {X : Type 0} (Is : X → Type 0) (xs : List X) : Type 0 where
-  pub one : X
-  pub has : Contains xs one
-  pub is : Is one
-
 -- ## Accesses of tasks
 
 module _ (sites : List Site) where
@@ -54,10 +33,6 @@ module _ (sites : List Site) where
   -- it is one of them, and makes the access of the object
   abbrev pub IsSiteFor : ObjectAccess → Site → Type 0
   IsSiteFor e x = HasOne (λ (y : Site). (x ≡ y) × (sort_key (access_of y) ≡ sort_key e)) sites
-
-  -- one of them reaches the cell in this way
-  abbrev pub IsWayOfSite : ℕ → Way → Type 0
-  IsWayOfSite cell w = HasOne (λ (x : Site). (cell ≡ x.access.cell) × (w ≡ x.access.way)) sites
 
   -- one of them reaches the cell
   abbrev pub IsCellOf : ℕ → Type 0

@@ -5,11 +5,11 @@ use Rattle.std.specs.declared.alloc.Global.{Global}
 use Rattle.access_races.specs.declared.accesses.Way.{Way}
 use Rattle.access_groups.specs.declared.object_access.ObjectAccess.{ObjectAccess}
 use Rattle.access_groups.specs.declared.object_access.AccessGroup.{AccessGroup}
-use Rattle.access_groups.specs.reading.Noted.{list_at}
+use Rattle.access_races.specs.reading.Ways.{list_at}
 use Rattle.access_partners.specs.declared.details.AccessDetails.{AccessDetails}
 use Rattle.access_partners.specs.declared.partners.Partners.{Partners}
 use Rattle.access_partners.specs.declared.points.Point.{Point}
-use Rattle.access_partners.specs.declared.site.Site.{Site}
+use Rattle.access_groups.specs.declared.site.Site.{Site}
 use Rattle.access_partners.specs.reading.Accesses.{AreSiteDetails, AreSitesBy}
 use Rattle.access_partners.specs.reading.Points.{ArePointsBy}
 use Rattle.access_partners.specs.reading.Pairs.{ArePartnersBy}

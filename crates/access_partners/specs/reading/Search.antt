@@ -3,9 +3,10 @@ use Rattle.std.specs.Prelude.{◌≡◌, ◌⊎◌, ◌↔◌, ℕ, ◌<◌, ◌
 use Rattle.std.specs.declared.vec.Vec.{Vec}
 use Rattle.access_groups.specs.declared.object_access.ObjectAccess.{ObjectAccess}
 use Rattle.access_groups.specs.Order.{sort_key, IsBefore}
-use Rattle.access_groups.specs.reading.Noted.{list_at}
-use Rattle.access_partners.specs.declared.site.Site.{Site}
-use Rattle.access_partners.specs.reading.Accesses.{access_of, access_at}
+use Rattle.access_races.specs.reading.Ways.{list_at}
+use Rattle.access_groups.specs.declared.site.Site.{Site}
+use Rattle.access_groups.specs.reading.Sites.{access_of}
+use Rattle.access_partners.specs.reading.Accesses.{access_at}
 
 -- one comes before the other: by their kinds and the mutexes, where all else is the same
 abbrev pub before_by_kind : ObjectAccess → ObjectAccess → Bool

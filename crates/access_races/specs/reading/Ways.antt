@@ -15,9 +15,9 @@ no_access = record {
   place = record { line = 0; col = 0 };
 }
 
--- those of a cell
-abbrev pub ways_at : {A : Type 0} → List (Vec Way A) → ℕ → List Way
-ways_at ways cell = get_or (map (λ list. list.items) ways) cell []
+-- the list with a number, empty where there is none
+abbrev pub list_at : {X A : Type 0} → List (Vec X A) → ℕ → List X
+list_at lists n = get_or (map (λ list. list.items) lists) n []
 
 -- the cell is accessed in this way
 pub record IsWayTo (accesses : List Access) (to : ℕ) (by : Way) : Type 0 where
@@ -36,5 +36,5 @@ pub record IsRacingIn (ways : List Way) (way : Way) : Type 0 where
 pub record IsAlarmIn {A : Type 0} (ways : List (Vec Way A)) (accesses : List Access) (a : Alarm) : Type 0 where
   pub access : Access
   pub has : Contains accesses access
-  pub races : IsRacingIn (ways_at ways access.cell) access.way
+  pub races : IsRacingIn (list_at ways access.cell) access.way
   pub is : a ≡ record { place = access.place; class = Race }

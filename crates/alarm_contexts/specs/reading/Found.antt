@@ -1,5 +1,5 @@
 -- What the copies of edges give.
-use Rattle.std.specs.Prelude.{◌≡◌, ℕ, ◌<◌, Bool, true, length, not, is_some, Some}
+use Rattle.std.specs.Prelude.{◌≡◌, ℕ, Bool, true, length, not, is_some}
 use Rattle.tm_cint.specs.declared.Class.{Class}
 use Rattle.tm_terms.specs.declared.places.Place.{Place}
 use Rattle.interfere_set.specs.Stores.{Interferences}
@@ -9,7 +9,8 @@ use Rattle.program_reports.specs.post_recheck.table_covers.Solutions.{NodeTable}
 use Rattle.program_reports.specs.post_recheck.task_equations.Bodies.{Body, copy_at}
 use Rattle.program_reports.specs.post_recheck.task_equations.Equations.{action_along, around_along}
 use Rattle.program_reports.specs.post_recheck.program_equations.Programs.{ProgramBodies, body_at}
-use Rattle.program_reports.specs.reading.Found.{GivesAlarm}
+use Rattle.program_reports.specs.reading.Found.{GivesAlarm, IsGivenBelow}
+use Rattle.program_reports.specs.reading.Bodies.{IsGivenUpTo}
 use Rattle.alarm_contexts.specs.declared.exits.Exit.{Exit}
 use Rattle.alarm_contexts.specs.declared.exits.Context.{Context}
 
@@ -38,12 +39,8 @@ module _ (b : Body) (store : Interferences) where
     pub exit : x.exit ≡ exit_at k s
 
   -- one of the first copies, from a node with a state
-  pub record IsContextBelow (table : NodeTable State) (n : ℕ) (x : Context) : Type 0 where
-    pub copy : ℕ
-    pub below : copy < n
-    pub state : State
-    pub reached : (let c = copy_at b copy in table c.from ≡ Some state)
-    pub gives : GivesContext copy state x
+  abbrev pub IsContextBelow : NodeTable State → ℕ → Context → Type 0
+  IsContextBelow table n x = IsGivenBelow b table (λ k s. GivesContext k s x) n
 
 module _ (p : ProgramBodies) (store : Interferences) (tables : ℕ → NodeTable State) where
   -- of a body
@@ -51,7 +48,5 @@ module _ (p : ProgramBodies) (store : Interferences) (tables : ℕ → NodeTable
   IsContextIn t x = (let b = body_at p t in IsContextBelow b store (tables t) (length b.copies) x)
 
   -- of one of the first bodies
-  pub record IsContextUpTo (n : ℕ) (x : Context) : Type 0 where
-    pub body : ℕ
-    pub below : body < n
-    pub gives : IsContextIn body x
+  abbrev pub IsContextUpTo : ℕ → Context → Type 0
+  IsContextUpTo n x = IsGivenUpTo (λ t. IsContextIn t x) n

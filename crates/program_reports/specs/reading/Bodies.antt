@@ -7,6 +7,12 @@ use Rattle.post_recheck.specs.program_equations.Programs.{ProgramBodies, body_at
 use Rattle.access_races.specs.declared.accesses.Access.{Access}
 use Rattle.program_reports.specs.reading.Found.{IsAlarmBelow, IsAccessBelow}
 
+-- one of the first bodies gives it
+pub record IsGivenUpTo (Gives : ℕ → Type 0) (n : ℕ) : Type 0 where
+  pub body : ℕ
+  pub below : body < n
+  pub gives : Gives body
+
 module _ (p : ProgramBodies) (tables : ℕ → NodeTable State) where
   -- a body gives the alarm
   abbrev pub IsAlarmOf : ℕ → Alarm → Type 0
@@ -16,13 +22,8 @@ module _ (p : ProgramBodies) (tables : ℕ → NodeTable State) where
   abbrev pub IsAccessOf : ℕ → Access → Type 0
   IsAccessOf t x = (t < p.tasks) × (let b = body_at p t in IsAccessBelow b (tables t) (length b.copies) x)
 
-  -- one of the first bodies does
-  pub record IsAlarmUpTo (n : ℕ) (a : Alarm) : Type 0 where
-    pub body : ℕ
-    pub below : body < n
-    pub gives : IsAlarmOf body a
+  abbrev pub IsAlarmUpTo : ℕ → Alarm → Type 0
+  IsAlarmUpTo n a = IsGivenUpTo (λ t. IsAlarmOf t a) n
 
-  pub record IsAccessUpTo (n : ℕ) (x : Access) : Type 0 where
-    pub body : ℕ
-    pub below : body < n
-    pub gives : IsAccessOf body x
+  abbrev pub IsAccessUpTo : ℕ → Access → Type 0
+  IsAccessUpTo n x = IsGivenUpTo (λ t. IsAccessOf t x) n

@@ -56,17 +56,16 @@ module _ (b : Body) where
     pub placed : place_of (operation_at k) ≡ Some x.place
 
   module _ (table : NodeTable State) where
-    -- one of the first copies, from a node with a state, gives the alarm
-    pub record IsAlarmBelow (n : ℕ) (a : Alarm) : Type 0 where
+    -- one of the first copies, from a node with a state, gives it
+    pub record IsGivenBelow (Gives : ℕ → State → Type 0) (n : ℕ) : Type 0 where
       pub copy : ℕ
       pub below : copy < n
       pub state : State
       pub reached : (let c = copy_at b copy in table c.from ≡ Some state)
-      pub gives : GivesAlarm copy state a
+      pub gives : Gives copy state
 
-    pub record IsAccessBelow (n : ℕ) (x : Access) : Type 0 where
-      pub copy : ℕ
-      pub below : copy < n
-      pub state : State
-      pub reached : (let c = copy_at b copy in table c.from ≡ Some state)
-      pub gives : GivesAccess copy state x
+    abbrev pub IsAlarmBelow : ℕ → Alarm → Type 0
+    IsAlarmBelow n a = IsGivenBelow (λ k s. GivesAlarm k s a) n
+
+    abbrev pub IsAccessBelow : ℕ → Access → Type 0
+    IsAccessBelow n x = IsGivenBelow (λ k s. GivesAccess k s x) n

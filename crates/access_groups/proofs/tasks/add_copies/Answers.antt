@@ -3,11 +3,11 @@ use Rattle.std.specs.Prelude.{Contains}
 use Rattle.std.specs.declared.alloc.Global.{Global}
 use Rattle.program_reports.specs.post_recheck.table_covers.Solutions.{at}
 use Rattle.program_reports.specs.post_recheck.body_systems.Systems.{body_of}
-use Rattle.access_races.specs.declared.accesses.Access.{Access}
 use Rattle.access_races.proofs.Joins.{joined, unchanged}
-use Rattle.program_reports.specs.reading.Found.{IsAccessBelow}
-use Rattle.access_groups.proofs.Adding.{accesses_more, accesses_same}
-use Rattle.access_groups.proofs.Targets.{reached, fits_there}
+use Rattle.program_reports.proofs.Steps.{copies_more, copies_same}
+use Rattle.program_reports.proofs.Tables.{reached, fits_there}
+use Rattle.access_groups.specs.declared.site.Site.{Site}
+use Rattle.access_groups.specs.reading.Sites.{GivesSite, IsSiteBelow}
 use Rattle.access_groups.proofs.tasks.add_copies.Goals as goal
 use Rattle.access_groups.proofs.tasks.add_copies.Goals.{in-Some+in_ok-add_copy-in-Some, in-None}
 
@@ -24,18 +24,20 @@ loop-copy-preserved c =
     let k = c.loop-copy.copy in
     let there = reached b c.args.parts c.requires.parts table c.requires.table k c.loop-copy-test.true
     c.index-table-parts.result c.index-table-parts.is in
-    let Accesses = λ (v : Vec Access Global). (x : Access) → Contains v.items x
-    ↔ (Contains c.args.accesses.now.items x ⊎ IsAccessBelow b (at table) (k + 1) x) in
+    let Sites = λ (v : Vec Site Global). (x : Site) → Contains v.items x
+    ↔ (Contains c.args.sites.now.items x ⊎ IsSiteBelow b (at table) (k + 1) x) in
     elim c.match-table-parts.branch [
-      | in-Some+in_ok-add_copy-in-Some w ↦ subst Accesses (sym w.accesses-is) (λ x.
+      | in-Some+in_ok-add_copy-in-Some w ↦ subst Sites (sym w.sites-is) (λ x.
           joined (w.in_ok-add_copy-in-Some.ensures x) (c.loop-copy.invariant x)
-          (accesses_more b (at table) x k w.state.result.now (there ∙ w.in-Some.is ∙ ap Some (sym w.state.ensures))))
-      | in-None w ↦ subst Accesses (sym w.accesses-is) (λ x.
-          unchanged (c.loop-copy.invariant x) (accesses_same b (at table) x k (there ∙ w.in-None.is)))
+          (copies_more b (at table) (λ n s. GivesSite b n s x) k w.state.result.now
+          (there ∙ w.in-Some.is ∙ ap Some (sym w.state.ensures))))
+      | in-None w ↦ subst Sites (sym w.sites-is) (λ x.
+          unchanged (c.loop-copy.invariant x)
+          (copies_same b (at table) (λ n s. GivesSite b n s x) k (there ∙ w.in-None.is)))
     ]
 
 pub returns : goal.returns
 returns c = λ x.
     let end : c.loop-copy.copy ≡ length c.args.parts.copies.now = omega arith in
-    subst (λ n. Contains c.loop-copy.accesses.items x ↔ (Contains c.args.accesses.now.items x
-    ⊎ IsAccessBelow (body_of c.args.parts.body.now) (at c.args.table.now) n x)) end (c.loop-copy.invariant x)
+    subst (λ n. Contains c.loop-copy.sites.items x ↔ (Contains c.args.sites.now.items x
+    ⊎ IsSiteBelow (body_of c.args.parts.body.now) (at c.args.table.now) n x)) end (c.loop-copy.invariant x)

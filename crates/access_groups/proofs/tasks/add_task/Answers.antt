@@ -1,58 +1,55 @@
-use Rattle.std.proofs.Common.{length, get_or, refl, ap, sym, ◌∙◌}
+use Rattle.std.proofs.Common.{◌↔◌, ◌⊎◌, ◌∙◌, ap, length}
+use Rattle.std.specs.Prelude.{Contains}
 use Rattle.std.proofs.lemmas.Result.{on_ok_weaker}
+use Rattle.program_reports.specs.post_recheck.table_covers.Solutions.{at}
+use Rattle.program_reports.specs.post_recheck.program_equations.Solutions.{tables_of}
 use Rattle.program_reports.specs.post_recheck.body_systems.Systems.{body_of}
-use Rattle.program_reports.specs.post_recheck.Pairs.{pair_of}
-use Rattle.program_reports.proofs.low.post_recheck.Found.{table_read, tables_counted}
-use Rattle.access_groups.proofs.Adding.{in_bodies, in_tables, parts_are}
-use Rattle.access_groups.proofs.Adding.{copies_count, table_fits, access_of}
+use Rattle.program_reports.specs.post_recheck.program_systems.ProgramFacts.{program_with}
+use Rattle.program_reports.specs.post_recheck.Pairs.{lists_of}
+use Rattle.program_reports.proofs.Numbered.{table_is, table_fits, of_same}
+use Rattle.access_groups.specs.reading.Sites.{IsSiteBelow}
+use Rattle.access_groups.proofs.Adding.{in_bodies, of_task}
 use Rattle.access_groups.proofs.tasks.add_task.Goals as goal
 
 pub body_over_store-body-requires-clause-number : goal.body_over_store-body-requires-clause-number
 body_over_store-body-requires-clause-number c =
-    in_bodies c.args.program.now c.args.facts.now c.requires.analysable c.requires.facts
-    (pair_of c.args.tables.now c.args.store.now) c.requires.fits c.args.number c.requires.number
+    in_bodies c.args.program.now c.args.facts.now c.requires.analysable c.requires.facts c.args.number c.requires.number
 
-pub add_copies-requires-clause-parts : goal.add_copies-requires-clause-parts
-add_copies-requires-clause-parts c =
-    let program = c.args.program.now in
-    let facts = c.args.facts.now in
-    let pair = pair_of c.args.tables.now c.args.store.now in
-    let number = c.args.number in
-    let over = c.body_over_store-body.result in
-    parts_are program facts c.requires.analysable c.requires.facts pair c.requires.fits number c.requires.number
-    (body_of over) c.body_over_store-body.ensures.body _ c.index.result.now c.index-configured.result.now
-    c.index.ensures c.index-configured.ensures c.deref.ensures.value c.as_slice.ensures.keys c.deref-2.ensures.value
-    refl (ap (λ ps. get_or ps number 0) c.priorities.ensures)
+pub body_parts-parts-requires-clause-number : goal.body_parts-parts-requires-clause-number
+body_parts-parts-requires-clause-number c =
+    in_bodies c.args.program.now c.args.facts.now c.requires.analysable c.requires.facts c.args.number c.requires.number
 
 pub add_copies-requires-clause-table : goal.add_copies-requires-clause-table
 add_copies-requires-clause-table c =
     let program = c.args.program.now in
     let facts = c.args.facts.now in
-    let pair = pair_of c.args.tables.now c.args.store.now in
     let number = c.args.number in
-    let over = c.body_over_store-body.result in
-    let counted = tables_counted c.args.tables.now number
-    (in_tables program facts c.requires.analysable c.requires.facts pair c.requires.fits number c.requires.number) in
-    let table = table_read c.args.tables.now number c.index-tables-number.result counted
-    ∙ ap (λ v. v.items) (sym c.index-tables-number.is) ∙ sym c.deref-3.ensures.value in
-    table_fits program facts c.requires.analysable c.requires.facts pair c.requires.fits number c.requires.number
-    (body_of over) c.body_over_store-body.ensures.body c.deref-3.result.now (sym table)
+    let tables = c.args.tables.now in
+    let store = c.args.store.now in
+    let parts = c.body_parts-parts.result in
+    let below = in_bodies program facts c.requires.analysable c.requires.facts number c.requires.number in
+    let body-is = ap body_of c.body_parts-parts.ensures.body ∙ c.body_over_store-body.ensures.body in
+    let table-is = table_is program facts c.requires.analysable c.requires.facts number below tables store
+    c.requires.fits c.index-tables-number.result c.index-tables-number.is c.deref.result.now c.deref.ensures.value in
+    table_fits program facts c.requires.analysable c.requires.facts number below tables store c.requires.fits
+    (body_of parts.body.now) body-is c.deref.result.now table-is
 
 pub returns : goal.returns
 returns c =
     let program = c.args.program.now in
     let facts = c.args.facts.now in
-    let pair = pair_of c.args.tables.now c.args.store.now in
     let number = c.args.number in
-    let over = c.body_over_store-body.result in
-    let counted = tables_counted c.args.tables.now number
-    (in_tables program facts c.requires.analysable c.requires.facts pair c.requires.fits number c.requires.number) in
-    let table = table_read c.args.tables.now number c.index-tables-number.result counted
-    ∙ ap (λ v. v.items) (sym c.index-tables-number.is) ∙ sym c.deref-3.ensures.value in
-    let count = copies_count program facts c.requires.analysable c.requires.facts pair c.requires.fits number
-    c.requires.number (body_of over) c.body_over_store-body.ensures.body c.index-configured.result.now
-    c.index-configured.ensures c.index.result.now c.deref-2.result.now c.deref-2.ensures.value in
+    let tables = c.args.tables.now in
+    let store = c.args.store.now in
+    let parts = c.body_parts-parts.result in
+    let below = in_bodies program facts c.requires.analysable c.requires.facts number c.requires.number in
+    let body-is = ap body_of c.body_parts-parts.ensures.body ∙ c.body_over_store-body.ensures.body in
+    let table-is = table_is program facts c.requires.analysable c.requires.facts number below tables store
+    c.requires.fits c.index-tables-number.result c.index-tables-number.is c.deref.result.now c.deref.ensures.value in
     on_ok_weaker c.add_copies.result
-    (λ h x. access_of program facts c.requires.analysable c.requires.facts pair c.requires.fits number c.requires.number
-    (body_of over) c.body_over_store-body.ensures.body c.deref-3.result.now (sym table) (length c.deref-2.result.now)
-    count x (h x)) c.add_copies.ensures
+    (λ h x. of_task (program_with program facts) (tables_of (lists_of tables)) number c.requires.number x
+    (of_same program facts c.requires.analysable c.requires.facts number below tables store c.requires.fits
+    (body_of parts.body.now) body-is c.deref.result.now table-is (length parts.copies.now)
+    (ap length c.body_parts-parts.ensures.parts.copies)
+    (λ b ts n. Contains c.add_copies.new.sites.items x ↔ (Contains c.args.sites.now.items x ⊎ IsSiteBelow b (at ts) n x))
+    (h x))) c.add_copies.ensures

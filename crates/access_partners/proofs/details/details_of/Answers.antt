@@ -1,5 +1,5 @@
 use Rattle.std.proofs.Common.{subst}
-use Rattle.access_partners.specs.declared.site.Site.{Site}
+use Rattle.access_groups.specs.declared.site.Site.{Site}
 use Rattle.access_partners.specs.Lists.{AreListed}
 use Rattle.access_partners.specs.reading.Accesses.{IsCellOf, IsEdgeOf, IsRacingAmong, IsRacingCell, IsRacingEdge}
 use Rattle.access_partners.proofs.Lists.{relisted, through}

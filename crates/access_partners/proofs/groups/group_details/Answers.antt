@@ -1,6 +1,6 @@
 use Rattle.std.proofs.Common.{◌≤◌, ◌∙◌, length, sym, subst, arith}
 use Rattle.std.proofs.lemmas.Result.{IfOk-weaker}
-use Rattle.access_groups.specs.reading.Noted.{list_at}
+use Rattle.access_races.specs.reading.Ways.{list_at}
 use Rattle.access_partners.specs.reading.Found.{AreFound}
 use Rattle.access_partners.proofs.Lists.{list_of, past_lists}
 use Rattle.access_partners.proofs.groups.group_details.Goals as goal

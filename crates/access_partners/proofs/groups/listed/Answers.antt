@@ -1,6 +1,6 @@
 use Rattle.std.proofs.Common.{◌≡◌, ◌<◌, ◌∙◌, length, get_or, ap, sym, subst, arith}
 use Rattle.std.proofs.lemmas.List.{get_or_read}
-use Rattle.access_groups.specs.reading.Noted.{list_at}
+use Rattle.access_races.specs.reading.Ways.{list_at}
 use Rattle.access_partners.specs.declared.details.AccessDetails.{AccessDetails}
 use Rattle.access_partners.specs.declared.partners.Partners.{Partners}
 use Rattle.access_partners.specs.reading.Accesses.{AreSiteDetails}

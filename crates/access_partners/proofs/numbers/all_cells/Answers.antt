@@ -1,8 +1,9 @@
 use Rattle.std.proofs.Common.{◌↔◌, ◌≤◌, length, subst, arith}
 use Rattle.std.specs.Prelude.{Contains}
 use Rattle.std.proofs.lemmas.List.{take_all}
-use Rattle.access_partners.specs.declared.site.Site.{Site}
-use Rattle.access_partners.specs.reading.Accesses.{no_site, IsCellOf}
+use Rattle.access_groups.specs.declared.site.Site.{Site}
+use Rattle.access_groups.specs.reading.Sites.{no_site}
+use Rattle.access_partners.specs.reading.Accesses.{IsCellOf}
 use Rattle.access_partners.proofs.Lists.{listed_more}
 use Rattle.access_partners.proofs.numbers.all_cells.Goals as goal
 

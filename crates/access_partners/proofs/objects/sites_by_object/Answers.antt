@@ -3,10 +3,12 @@ use Rattle.std.specs.Prelude.{Contains}
 use Rattle.std.proofs.lemmas.List.{take_all}
 use Rattle.tm_laid.specs.Layouts.{laid_tree, abstract_at}
 use Rattle.access_races.proofs.Joins.{grown}
-use Rattle.access_groups.specs.reading.Noted.{list_at}
-use Rattle.access_partners.specs.declared.site.Site.{Site}
-use Rattle.access_partners.specs.reading.Accesses.{no_site, IsSiteTo}
-use Rattle.access_partners.proofs.Lists.{one_more, under_same}
+use Rattle.access_races.specs.reading.Ways.{list_at}
+use Rattle.access_groups.specs.declared.site.Site.{Site}
+use Rattle.access_groups.specs.reading.Sites.{no_site}
+use Rattle.access_partners.specs.reading.Accesses.{IsSiteTo}
+use Rattle.access_groups.proofs.Noted.{one_more}
+use Rattle.access_partners.proofs.Lists.{under_same}
 use Rattle.access_partners.proofs.objects.sites_by_object.Goals as goal
 
 pub loop-site-preserved : goal.loop-site-preserved

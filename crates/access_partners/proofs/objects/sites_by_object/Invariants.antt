@@ -1,8 +1,8 @@
 use Rattle.std.proofs.Common.{◌≤◌, ◌^◌, ◌↔◌, ℕ, length, take}
 use Rattle.std.specs.Prelude.{Contains}
 use Rattle.tm_laid.specs.Layouts.{laid_tree}
-use Rattle.access_groups.specs.reading.Noted.{list_at}
-use Rattle.access_partners.specs.declared.site.Site.{Site as ASite}
+use Rattle.access_races.specs.reading.Ways.{list_at}
+use Rattle.access_groups.specs.declared.site.Site.{Site as ASite}
 use Rattle.access_partners.specs.reading.Accesses.{IsSiteTo}
 use Rattle.access_partners.proofs.objects.sites_by_object.Given as goal
 

@@ -1,5 +1,5 @@
 use Rattle.std.proofs.Common.{◌∙◌, ◌<◌, length, subst, arith}
-use Rattle.access_groups.specs.reading.Noted.{list_at}
+use Rattle.access_races.specs.reading.Ways.{list_at}
 use Rattle.access_partners.specs.reading.Accesses.{access_at}
 use Rattle.access_partners.specs.reading.Pairs.{IsSame}
 use Rattle.access_partners.proofs.Lists.{list_of}

@@ -1,7 +1,7 @@
 use Rattle.std.proofs.Common.{◌↔◌, ◌≤◌, ◌∙◌, ◌++◌, ◌∷◌, [], ap, length, subst, arith}
 use Rattle.std.specs.Prelude.{Contains}
 use Rattle.std.proofs.lemmas.List.{take_all}
-use Rattle.access_partners.specs.reading.Accesses.{no_site}
+use Rattle.access_groups.specs.reading.Sites.{no_site}
 use Rattle.access_partners.specs.reading.Points.{point_of, IsPointOf}
 use Rattle.access_partners.proofs.Lists.{listed_more}
 use Rattle.access_partners.proofs.points.all_points.Goals as goal

@@ -1,5 +1,5 @@
 use Rattle.std.proofs.Common.{◌≡◌, ℕ, List, length, sym, subst, ◌∙◌, arith}
-use Rattle.access_groups.specs.reading.Noted.{list_at}
+use Rattle.access_races.specs.reading.Ways.{list_at}
 use Rattle.access_partners.specs.declared.points.Point.{Point}
 use Rattle.access_partners.specs.reading.Points.{ArePointsOf}
 use Rattle.access_partners.proofs.Lists.{list_of, lists_more, push_count}

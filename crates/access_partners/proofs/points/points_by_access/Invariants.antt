@@ -1,5 +1,5 @@
 use Rattle.std.proofs.Common.{◌≡◌, ◌<◌, ℕ, length}
-use Rattle.access_groups.specs.reading.Noted.{list_at}
+use Rattle.access_races.specs.reading.Ways.{list_at}
 use Rattle.access_partners.specs.reading.Points.{ArePointsOf}
 use Rattle.access_partners.proofs.points.points_by_access.Given as goal
 

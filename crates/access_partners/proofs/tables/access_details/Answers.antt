@@ -8,10 +8,11 @@ use Rattle.post_recheck.specs.program_systems.ProgramFacts.{program_with}
 use Rattle.post_recheck.proofs.low.program_systems.Bodies.{is_program}
 use Rattle.post_recheck.specs.Pairs.{lists_of}
 use Rattle.access_races.specs.declared.accesses.Way.{Way}
-use Rattle.access_groups.specs.reading.Noted.{list_at}
-use Rattle.access_partners.specs.declared.site.Site.{Site}
+use Rattle.access_races.specs.reading.Ways.{list_at}
+use Rattle.access_groups.specs.declared.site.Site.{Site}
 use Rattle.access_partners.specs.Lists.{AreEach}
-use Rattle.access_partners.specs.reading.Accesses.{IsSiteTo, IsWayOfSite}
+use Rattle.access_groups.specs.reading.Sites.{IsWayOfSite}
+use Rattle.access_partners.specs.reading.Accesses.{IsSiteTo}
 use Rattle.access_partners.specs.reading.Found.{AreFoundOf}
 use Rattle.access_partners.proofs.Lists.{has_at}
 use Rattle.access_partners.proofs.Exact.{all_details_are}

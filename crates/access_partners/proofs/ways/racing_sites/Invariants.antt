@@ -1,6 +1,6 @@
 use Rattle.std.proofs.Common.{◌↔◌, take}
 use Rattle.std.specs.Prelude.{Contains}
-use Rattle.access_partners.specs.declared.site.Site.{Site as ASite}
+use Rattle.access_groups.specs.declared.site.Site.{Site as ASite}
 use Rattle.access_partners.specs.reading.Accesses.{IsRacingSite}
 use Rattle.access_partners.proofs.ways.racing_sites.Given as goal
 

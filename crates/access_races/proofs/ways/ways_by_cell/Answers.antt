@@ -1,7 +1,7 @@
-use Rattle.std.proofs.Common.{◌≤◌, ◌↔◌, length, subst, take, arith}
+use Rattle.std.proofs.Common.{◌≤◌, ◌↔◌, length, subst, arith}
 use Rattle.std.specs.Prelude.{Contains}
 use Rattle.std.proofs.lemmas.List.{take_all}
-use Rattle.access_races.specs.reading.Ways.{ways_at, IsWayTo}
+use Rattle.access_races.specs.reading.Ways.{list_at, IsWayTo}
 use Rattle.access_races.proofs.Joins.{grown}
 use Rattle.access_races.proofs.Fronts.{ways_more}
 use Rattle.access_races.proofs.ways.ways_by_cell.Goals as goal
@@ -14,5 +14,5 @@ loop-access-preserved c = λ cell w.
 pub returns : goal.returns
 returns c = λ cell w.
     let end : length c.args.accesses.now ≤ c.loop-access.access-index = omega arith in
-    subst (λ xs. Contains (ways_at c.loop-access.ways.items cell) w ↔ IsWayTo xs cell w)
+    subst (λ xs. Contains (list_at c.loop-access.ways.items cell) w ↔ IsWayTo xs cell w)
     (take_all c.loop-access.access-index c.args.accesses.now end) (c.loop-access.invariant cell w)

@@ -4,10 +4,10 @@ use Rattle.std.specs.declared.alloc.Global.{Global}
 use Rattle.program_reports.specs.post_recheck.table_covers.Solutions.{at}
 use Rattle.program_reports.specs.post_recheck.body_systems.Systems.{body_of}
 use Rattle.access_races.proofs.Joins.{joined, unchanged}
+use Rattle.program_reports.proofs.Steps.{copies_more, copies_same}
 use Rattle.program_reports.proofs.Tables.{reached, fits_there}
 use Rattle.alarm_contexts.specs.declared.exits.Context.{Context}
-use Rattle.alarm_contexts.specs.reading.Found.{IsContextBelow}
-use Rattle.alarm_contexts.proofs.Adding.{contexts_more, contexts_same}
+use Rattle.alarm_contexts.specs.reading.Found.{GivesContext, IsContextBelow}
 use Rattle.alarm_contexts.proofs.bodies.add_copies.Goals as goal
 use Rattle.alarm_contexts.proofs.bodies.add_copies.Goals.{in-Some+in_ok-add_copy-in-Some, in-None}
 
@@ -30,10 +30,11 @@ loop-copy-preserved c =
     elim c.match-table-parts.branch [
       | in-Some+in_ok-add_copy-in-Some w ↦ subst Found (sym w.contexts-is) (λ x.
           joined (w.in_ok-add_copy-in-Some.ensures x) (c.loop-copy.invariant x)
-          (contexts_more b store (at table) x k w.state.result.now
+          (copies_more b (at table) (λ n s. GivesContext b store n s x) k w.state.result.now
           (there ∙ w.in-Some.is ∙ ap Some (sym w.state.ensures))))
       | in-None w ↦ subst Found (sym w.contexts-is) (λ x.
-          unchanged (c.loop-copy.invariant x) (contexts_same b store (at table) x k (there ∙ w.in-None.is)))
+          unchanged (c.loop-copy.invariant x)
+          (copies_same b (at table) (λ n s. GivesContext b store n s x) k (there ∙ w.in-None.is)))
     ]
 
 pub returns : goal.returns

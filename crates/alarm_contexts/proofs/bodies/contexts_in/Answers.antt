@@ -6,8 +6,8 @@ use Rattle.program_reports.specs.post_recheck.program_systems.ProgramFacts.{prog
 use Rattle.program_reports.specs.post_recheck.Pairs.{lists_of}
 use Rattle.program_reports.proofs.low.post_recheck.Given.{bodies_small}
 use Rattle.access_races.proofs.Joins.{grown}
-use Rattle.alarm_contexts.specs.reading.Found.{IsContextUpTo}
-use Rattle.alarm_contexts.proofs.Adding.{bodies_more}
+use Rattle.program_reports.proofs.Steps.{bodies_more}
+use Rattle.alarm_contexts.specs.reading.Found.{IsContextIn, IsContextUpTo}
 use Rattle.alarm_contexts.proofs.bodies.contexts_in.Goals as goal
 
 pub overflow_cast-number : goal.overflow_cast-number
@@ -19,9 +19,9 @@ overflow_cast-number c =
 
 pub loop-number-preserved : goal.loop-number-preserved
 loop-number-preserved c = λ x.
+    let p = program_with c.args.program.now c.args.facts.now in
     grown (c.in_ok-add_body.ensures x) (c.loop-number.invariant x)
-    (bodies_more (program_with c.args.program.now c.args.facts.now) c.args.store.now
-    (tables_of (lists_of c.args.tables.now)) c.loop-number.number x)
+    (bodies_more (λ t. IsContextIn p c.args.store.now (tables_of (lists_of c.args.tables.now)) t x) c.loop-number.number)
 
 pub returns : goal.returns
 returns c = λ x.

@@ -2,7 +2,7 @@ use Rattle.std.proofs.Common.{sym, ap, ◌∙◌}
 use Rattle.std.proofs.lemmas.Result.{on_ok_weaker}
 use Rattle.program_reports.specs.post_recheck.body_systems.Systems.{body_of}
 use Rattle.program_reports.specs.Reports.{place_of}
-use Rattle.alarm_contexts.proofs.Noted.{relabelled}
+use Rattle.program_reports.proofs.Tables.{relabelled}
 use Rattle.alarm_contexts.proofs.Adding.{nothing_given, exit_is, context_given}
 use Rattle.alarm_contexts.proofs.copies.add_copy.Goals as goal
 

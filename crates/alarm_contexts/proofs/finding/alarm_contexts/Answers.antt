@@ -6,6 +6,9 @@ use Rattle.program_reports.proofs.low.program_systems.Bodies.{is_program}
 use Rattle.alarm_contexts.proofs.Exact.{contexts_are}
 use Rattle.alarm_contexts.proofs.finding.alarm_contexts.Goals as goal
 
+pub merged-requires-clause-found : goal.merged-requires-clause-found
+merged-requires-clause-found c = λ x within. (c.in_ok-contexts.ensures x).0 within
+
 pub returns : goal.returns
 returns c =
     let p = program_with c.args.program.now c.args.facts.now in

@@ -7,7 +7,6 @@ use Rattle.post_recheck.specs.program_systems.ProgramFacts.{program_with}
 use Rattle.post_recheck.specs.Pairs.{pair_of}
 use Rattle.post_recheck.proofs.low.program_systems.Bodies.{is_program, body_count}
 use Rattle.post_recheck.proofs.Found.{table_read, tables_counted}
-use Rattle.program_reports.proofs.Numbered.{in_tables}
 use Rattle.text_choices.specs.Choices.{Adds}
 use Rattle.operand_orders.specs.Reached.{SolvedBody}
 use Rattle.operand_orders.specs.reading.Views.{AreCopiesBy}
@@ -52,7 +51,7 @@ add_in_body-requires-clause-indexed c =
     c.index-graph.ensures c.index-configured.result.now in
     let copies = c.deref-copies.ensures.value ∙ copies_read program facts analysable computed t lt
     c.index-graph.result.now c.index-configured.result.now c.index-configured.ensures in
-    let counted = tables_counted c.args.tables.now t (in_tables program facts analysable computed pair fits t lt) in
+    let counted = tables_counted c.args.tables.now t (subst (λ n. t < n) (sym fits.count) lt) in
     let table = sym (table_read c.args.tables.now t c.index-tables-number.result counted
     ∙ ap (λ v. v.items) (sym c.index-tables-number.is) ∙ sym c.deref-table.ensures.value) in
     let same = same_body p is pair fits t lt laid store origins c.deref-edges.result.now c.deref-copies.result.now
@@ -83,7 +82,7 @@ add_in_body-requires-clause-counted c =
     c.index-graph.ensures c.index-configured.result.now in
     let copies = c.deref-copies.ensures.value ∙ copies_read program facts analysable computed t lt
     c.index-graph.result.now c.index-configured.result.now c.index-configured.ensures in
-    let counted = tables_counted c.args.tables.now t (in_tables program facts analysable computed pair fits t lt) in
+    let counted = tables_counted c.args.tables.now t (subst (λ n. t < n) (sym fits.count) lt) in
     let table = sym (table_read c.args.tables.now t c.index-tables-number.result counted
     ∙ ap (λ v. v.items) (sym c.index-tables-number.is) ∙ sym c.deref-table.ensures.value) in
     let same = same_body p is pair fits t lt laid store origins c.deref-edges.result.now c.deref-copies.result.now
@@ -109,7 +108,7 @@ returns c =
     c.index-graph.ensures c.index-configured.result.now in
     let copies = c.deref-copies.ensures.value ∙ copies_read program facts analysable computed t lt
     c.index-graph.result.now c.index-configured.result.now c.index-configured.ensures in
-    let counted = tables_counted c.args.tables.now t (in_tables program facts analysable computed pair fits t lt) in
+    let counted = tables_counted c.args.tables.now t (subst (λ n. t < n) (sym fits.count) lt) in
     let table = sym (table_read c.args.tables.now t c.index-tables-number.result counted
     ∙ ap (λ v. v.items) (sym c.index-tables-number.is) ∙ sym c.deref-table.ensures.value) in
     let same = same_body p is pair fits t lt laid store origins c.deref-edges.result.now c.deref-copies.result.now

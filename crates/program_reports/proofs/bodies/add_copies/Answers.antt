@@ -6,8 +6,8 @@ use Rattle.post_recheck.specs.body_systems.Systems.{body_of}
 use Rattle.access_races.specs.declared.accesses.Access.{Access}
 use Rattle.access_races.proofs.Joins.{joined, unchanged}
 use Rattle.program_reports.specs.declared.copies.Found.{Found}
-use Rattle.program_reports.specs.reading.Found.{IsAlarmBelow, IsAccessBelow}
-use Rattle.program_reports.proofs.Steps.{alarms_more, alarms_same, accesses_more, accesses_same}
+use Rattle.program_reports.specs.reading.Found.{GivesAlarm, GivesAccess, IsAlarmBelow, IsAccessBelow}
+use Rattle.program_reports.proofs.Steps.{copies_more, copies_same, beside, beside_same}
 use Rattle.program_reports.proofs.Tables.{reached, fits_there}
 use Rattle.program_reports.proofs.bodies.add_copies.Goals as goal
 use Rattle.program_reports.proofs.bodies.add_copies.Goals.{in-Some+in_ok-add_copy-in-Some, in-None}
@@ -34,18 +34,20 @@ loop-copy-preserved c =
       alarms = elim c.match-table-parts.branch [
         | in-Some+in_ok-add_copy-in-Some w ↦ subst Alarms (sym w.found-is) (λ a.
             joined (w.in_ok-add_copy-in-Some.ensures.alarms a) (c.loop-copy.invariant.alarms a)
-            (alarms_more b (at table) a k w.state.result.now (there ∙ w.in-Some.is ∙ ap Some (sym w.state.ensures))))
+            (copies_more b (at table) (λ n s. GivesAlarm b n s a) k w.state.result.now
+            (there ∙ w.in-Some.is ∙ ap Some (sym w.state.ensures))))
         | in-None w ↦ subst Alarms (sym w.found-is) (λ a.
-            unchanged (c.loop-copy.invariant.alarms a) (alarms_same b (at table) a k (there ∙ w.in-None.is)))
+            unchanged (c.loop-copy.invariant.alarms a)
+            (copies_same b (at table) (λ n s. GivesAlarm b n s a) k (there ∙ w.in-None.is)))
       ];
       accesses = elim c.match-table-parts.branch [
         | in-Some+in_ok-add_copy-in-Some w ↦ subst Accesses (sym w.found-is) (λ x.
             joined (w.in_ok-add_copy-in-Some.ensures.accesses x) (c.loop-copy.invariant.accesses x)
-            (accesses_more b (at table) c.args.parts.is_task x k w.state.result.now
-            (there ∙ w.in-Some.is ∙ ap Some (sym w.state.ensures))))
+            (beside (copies_more b (at table) (λ n s. GivesAccess b n s x) k w.state.result.now
+            (there ∙ w.in-Some.is ∙ ap Some (sym w.state.ensures)))))
         | in-None w ↦ subst Accesses (sym w.found-is) (λ x.
             unchanged (c.loop-copy.invariant.accesses x)
-            (accesses_same b (at table) c.args.parts.is_task x k (there ∙ w.in-None.is)))
+            (beside_same (copies_same b (at table) (λ n s. GivesAccess b n s x) k (there ∙ w.in-None.is))))
       ];
     }
 

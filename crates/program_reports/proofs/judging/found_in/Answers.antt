@@ -6,8 +6,8 @@ use Rattle.post_recheck.specs.program_systems.ProgramFacts.{program_with}
 use Rattle.post_recheck.specs.Pairs.{lists_of}
 use Rattle.post_recheck.proofs.Given.{bodies_small}
 use Rattle.access_races.proofs.Joins.{grown}
-use Rattle.program_reports.specs.reading.Bodies.{IsAlarmUpTo, IsAccessUpTo}
-use Rattle.program_reports.proofs.Steps.{bodies_more, tasks_more}
+use Rattle.program_reports.specs.reading.Bodies.{IsAlarmOf, IsAccessOf, IsAlarmUpTo, IsAccessUpTo}
+use Rattle.program_reports.proofs.Steps.{bodies_more}
 use Rattle.program_reports.proofs.judging.found_in.Goals as goal
 
 pub overflow_cast-number : goal.overflow_cast-number
@@ -23,9 +23,9 @@ loop-number-preserved c =
     let tables = tables_of (lists_of c.args.tables.now) in
     record {
       alarms = λ a. grown (c.in_ok-add_body.ensures.alarms a) (c.loop-number.invariant.alarms a)
-          (bodies_more p tables c.loop-number.number a);
+          (bodies_more (λ t. IsAlarmOf p tables t a) c.loop-number.number);
       accesses = λ x. grown (c.in_ok-add_body.ensures.accesses x) (c.loop-number.invariant.accesses x)
-          (tasks_more p tables c.loop-number.number x);
+          (bodies_more (λ t. IsAccessOf p tables t x) c.loop-number.number);
     }
 
 pub returns-clause-alarms : goal.returns-clause-alarms

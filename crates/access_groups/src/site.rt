@@ -3,7 +3,7 @@ use access_races::Access;
 
 /// An access of a task to a cell, and the number of the edge of the task's graph that makes it.
 #[derive(Clone, Copy, PartialEq, Eq)]
-pub(crate) struct Site {
-    pub(crate) access: Access,
-    pub(crate) edge: usize,
+pub struct Site {
+    pub access: Access,
+    pub edge: usize,
 }
