@@ -1,5 +1,5 @@
 //! The typing of expressions: parts before the whole, and parts from left to right.
-ghost use Rattle.std.specs.Prelude.{◌≡◌, suc, ◌+◌, OnOk};
+ghost use Rattle.std.specs.Prelude.{◌≡◌, suc, ◌+◌, true, OnOk};
 ghost use Rattle.tm_terms.specs.ExprTrees.{tree_of, as_arguments};
 ghost use Rattle.tm_typed.specs.TypedTrees.{operand_tree};
 ghost use Rattle.tm_typed.specs.Refusals.{then_with, row, Gives};
@@ -10,6 +10,7 @@ ghost use Rattle.tm_typed.specs.Rules.{conditional_rules};
 ghost use Rattle.tm_typed.specs.Typing.{typing, typing_all, calls, argument_calls};
 ghost use Rattle.tm_typed.specs.TypeNames.{type_of_name};
 ghost use Rattle.c_expr_typing.specs.Values.{rated_items};
+ghost use Rattle.c_expr_typing.specs.reading.Forms.{begins_with_operand};
 
 use c_expr_rules::{
     bound, call, callee, cast, character, conditional, infix, input, integer, islocked, member,
@@ -152,6 +153,75 @@ fn called(
     }
 }
 
+// An expression that goes on behind the operand with which it begins.
+#[cycle(expression)]
+#[tactic(auto, using(crate::proofs::Frame::passes, crate::proofs::Frame::goes_on))]
+fn continued(alloc: Global, expr: &Expr, scope: &Scope, site: &mut u32) -> Result<Operand, Fail>
+    requires form { begins_with_operand (tree_of expr.now) ≡ true }
+    ensures value { Gives operand_tree result (typing type_of_name scope.now site.old (tree_of expr.now)) }
+    ensures sites { OnOk result (site.new ≡ site.old + calls (tree_of expr.now)) }
+{
+    match expr {
+        Expr::Infix {
+            left,
+            operator,
+            right,
+            place,
+        } => match typed_expr_at(alloc, left, scope, site) {
+            Ok(left) => match typed_expr_at(alloc, right, scope, site) {
+                Ok(right) => infix(alloc, scope, *operator, *place, left, right),
+                Err(fail) => Err(fail),
+            },
+            Err(fail) => Err(fail),
+        },
+        Expr::Conditional {
+            condition,
+            first,
+            second,
+            place,
+        } => match typed_expr_at(alloc, condition, scope, site) {
+            Ok(condition) => match typed_expr_at(alloc, first, scope, site) {
+                Ok(first) => match typed_expr_at(alloc, second, scope, site) {
+                    Ok(second) => chosen(alloc, scope, *place, condition, first, second),
+                    Err(fail) => Err(fail),
+                },
+                Err(fail) => Err(fail),
+            },
+            Err(fail) => Err(fail),
+        },
+        Expr::Subscript {
+            array,
+            index,
+            place,
+        } => match typed_expr_at(alloc, array, scope, site) {
+            Ok(array) => match typed_expr_at(alloc, index, scope, site) {
+                Ok(index) => subscripted(alloc, scope, *place, array, index),
+                Err(fail) => Err(fail),
+            },
+            Err(fail) => Err(fail),
+        },
+        Expr::Member {
+            object,
+            access,
+            member: it,
+            member_place,
+            place,
+        } => match typed_expr_at(alloc, object, scope, site) {
+            Ok(object) => member(alloc, scope, *access, *place, object, *it, *member_place),
+            Err(fail) => Err(fail),
+        },
+        Expr::Postfix {
+            operand,
+            operator,
+            place,
+        } => match typed_expr_at(alloc, operand, scope, site) {
+            Ok(operand) => postfix(alloc, scope, *operator, *place, operand),
+            Err(fail) => Err(fail),
+        },
+        _ => unreachable!(),
+    }
+}
+
 /// An expression in a body whose calls so far are `site`, which goes on by the calls of the expression.
 #[cycle(expression)]
 #[tactic(auto, using(crate::proofs::Frame::passes, crate::proofs::Frame::goes_on))]
@@ -223,70 +293,19 @@ pub fn typed_expr_at(
             },
             Err(fail) => Err(fail),
         },
-        Expr::Infix {
-            left,
-            operator,
-            right,
-            place,
-        } => match typed_expr_at(alloc, left, scope, site) {
-            Ok(left) => match typed_expr_at(alloc, right, scope, site) {
-                Ok(right) => infix(alloc, scope, *operator, *place, left, right),
-                Err(fail) => Err(fail),
-            },
-            Err(fail) => Err(fail),
-        },
-        Expr::Conditional {
-            condition,
-            first,
-            second,
-            place,
-        } => match typed_expr_at(alloc, condition, scope, site) {
-            Ok(condition) => match typed_expr_at(alloc, first, scope, site) {
-                Ok(first) => match typed_expr_at(alloc, second, scope, site) {
-                    Ok(second) => chosen(alloc, scope, *place, condition, first, second),
-                    Err(fail) => Err(fail),
-                },
-                Err(fail) => Err(fail),
-            },
-            Err(fail) => Err(fail),
-        },
-        Expr::Subscript {
-            array,
-            index,
-            place,
-        } => match typed_expr_at(alloc, array, scope, site) {
-            Ok(array) => match typed_expr_at(alloc, index, scope, site) {
-                Ok(index) => subscripted(alloc, scope, *place, array, index),
-                Err(fail) => Err(fail),
-            },
-            Err(fail) => Err(fail),
-        },
-        Expr::Member {
-            object,
-            access,
-            member: it,
-            member_place,
-            place,
-        } => match typed_expr_at(alloc, object, scope, site) {
-            Ok(object) => member(alloc, scope, *access, *place, object, *it, *member_place),
-            Err(fail) => Err(fail),
-        },
-        Expr::Postfix {
-            operand,
-            operator,
-            place,
-        } => match typed_expr_at(alloc, operand, scope, site) {
-            Ok(operand) => postfix(alloc, scope, *operator, *place, operand),
-            Err(fail) => Err(fail),
-        },
+        Expr::Infix { .. }
+        | Expr::Conditional { .. }
+        | Expr::Subscript { .. }
+        | Expr::Member { .. }
+        | Expr::Postfix { .. } => continued(alloc, expr, scope, site),
     }
 }
 
 /// An expression, in a scope that is prepared for its type names: its typed form, or the first construct that meets a
 /// row of the rules, parts before the whole and parts from left to right.
 ///
-/// For an expression by itself, whose calls are numbered from 0: a call of the public surface, which the typing of whole
-/// files, with `typed_expr_at`, does not need.
+/// A public call of its own, for users of the crate who have an expression by itself, whose calls are numbered from 0;
+/// the typing of whole files takes `typed_expr_at`.
 pub fn typed_expr(alloc: Global, expr: &Expr, scope: &Scope) -> Result<Operand, Fail>
     ensures { Gives operand_tree result (typing type_of_name scope.now 0 (tree_of expr.now)) }
 {

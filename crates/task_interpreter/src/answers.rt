@@ -1,14 +1,13 @@
 //! Actions and their answers.
 ghost use Rattle.std.specs.Prelude.{◌≡◌};
 ghost use Rattle.tm_laid.specs.Layouts.{laid_tree};
-ghost use Rattle.task_interpreter.specs.reading.Direct.{act_ran, last_at, left_at, calculated, stored, changed};
-ghost use Rattle.task_interpreter.specs.reading.Direct.{stepped, fell};
+ghost use Rattle.task_interpreter.specs.reading.Direct.{act_ran, last_at, left_at, calculated, fell};
 
-use concrete_values::{Answer, Next, Value, answer_of, nothing, store_at};
+use concrete_values::{Answer, Next, Value, answer_of, nothing};
 use tm_cint::Class;
 use tm_laid::Laid;
 use tm_terms::Place;
-use tm_typed::{CType, Scalar, Step};
+use tm_typed::CType;
 
 /// A value, and how many answers are used then.
 #[derive(Clone, Copy)]
@@ -80,60 +79,6 @@ pub(crate) fn calculated(
         Ok(value) => Ok(Gave { value, at }),
         Err(class) => Err(last(answers, Next::Fault { class, place }, at)),
     }
-}
-
-/// A store, whose value is what is stored.
-#[tactic(auto, using(crate::proofs::Steps::run_ok, crate::proofs::Steps::run_err), unfolding(crate::specs::reading::Direct::stored))]
-pub(crate) fn stored(
-    laid: &Laid,
-    answers: &[Answer],
-    address: Value,
-    scalar: Scalar,
-    value: Value,
-    place: Place,
-    at: usize,
-) -> Result<Gave, Next>
-    ensures { result ≡ stored (laid_tree laid.now) answers.now address scalar value place at }
-{
-    let done = given!(acted(laid, answers, store_at(address, scalar, value, place), at));
-    Ok(Gave { value, at: done.at })
-}
-
-/// The store of what an operator gives, or its error.
-#[tactic(auto, unfolding(crate::specs::reading::Direct::changed))]
-pub(crate) fn changed(
-    laid: &Laid,
-    answers: &[Answer],
-    address: Value,
-    scalar: Scalar,
-    found: Result<Value, Class>,
-    place: Place,
-    at: usize,
-) -> Result<Gave, Next>
-    ensures { result ≡ changed (laid_tree laid.now) answers.now address scalar found place at }
-{
-    match found {
-        Ok(value) => stored(laid, answers, address, scalar, value, place, at),
-        Err(class) => Err(last(answers, Next::Fault { class, place }, at)),
-    }
-}
-
-/// The store of `++` or `--`, and its value: before its operand the new one, behind it the old one.
-#[tactic(auto, using(crate::proofs::Steps::run_ok, crate::proofs::Steps::run_err), unfolding(crate::specs::reading::Direct::stepped))]
-pub(crate) fn stepped(
-    laid: &Laid,
-    answers: &[Answer],
-    step: Step,
-    held: Held,
-    scalar: Scalar,
-    found: Result<Value, Class>,
-    place: Place,
-) -> Result<Gave, Next>
-    ensures { result ≡ stepped (laid_tree laid.now) answers.now step held scalar found place }
-{
-    let new = given!(changed(laid, answers, held.address, scalar, found, place, held.at));
-    let value = if step.postfix { held.value } else { new.value };
-    Ok(Gave { value, at: new.at })
 }
 
 /// The end of a body without `return`: any value of an integer result.

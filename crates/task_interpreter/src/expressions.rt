@@ -4,19 +4,22 @@ ghost use Rattle.tm_typed.specs.TypedTrees.{rvalue_tree, lvalue_tree, lvalue_pla
 ghost use Rattle.tm_laid.specs.Layouts.{laid_tree};
 ghost use Rattle.task_interpreter.specs.Runnable.{IsRunnable};
 ghost use Rattle.task_interpreter.specs.reading.Direct.{truth_ran, loaded, value_ran, branch_ran, address_ran};
+ghost use Rattle.task_interpreter.specs.reading.Direct.{stored, changed, stepped};
 ghost use Rattle.task_interpreter.specs.reading.Lists.{is_operation, is_choice, is_change};
 ghost use Rattle.task_interpreter.specs.reading.Seats.{seat_of};
 
-use crate::answers::{Gave, Held, calculated, changed, stepped, stored};
+use crate::answers::{Gave, Held, calculated, last};
 use crate::forms::{form_of, tried};
 use crate::interpreter::Here;
 use crate::objects::object_of;
 use crate::operations::{arrow, comparison, compound_result, pointed, subscripted, unit_step};
 use concrete_values::{
     Next, Pointer, Value, base, binary, converted, element, is_true, load_at, moved, nothing, part,
-    truth_value, unary,
+    store_at, truth_value, unary,
 };
-use tm_typed::{Lvalue, Rvalue, Scalar};
+use tm_cint::Class;
+use tm_terms::Place;
+use tm_typed::{Lvalue, Rvalue, Scalar, Step};
 
 impl Here<'_> {
     // The value of an expression.
@@ -121,12 +124,8 @@ impl Here<'_> {
             } => {
                 let x = given!(self.value(left, at));
                 let y = given!(self.value(right, x.at));
-                calculated(
-                    self.answers,
-                    binary(*operator, *of, x.value, y.value),
-                    *place,
-                    y.at,
-                )
+                let found = binary(*operator, *of, x.value, y.value);
+                calculated(self.answers, found, *place, y.at)
             }
             Rvalue::Pointers {
                 equal,
@@ -136,12 +135,8 @@ impl Here<'_> {
             } => {
                 let x = given!(self.value(left, at));
                 let y = given!(self.value(right, x.at));
-                calculated(
-                    self.answers,
-                    comparison(*equal, x.value, y.value),
-                    *place,
-                    y.at,
-                )
+                let found = comparison(*equal, x.value, y.value);
+                calculated(self.answers, found, *place, y.at)
             }
             Rvalue::Move {
                 minus,
@@ -284,6 +279,57 @@ impl Here<'_> {
         })
     }
 
+    // A store, whose value is what is stored.
+    #[tactic(auto, using(crate::proofs::Steps::run_ok, crate::proofs::Steps::run_err), unfolding(crate::specs::reading::Direct::stored))]
+    fn stored(
+        self,
+        address: Value,
+        scalar: Scalar,
+        value: Value,
+        place: Place,
+        at: usize,
+    ) -> Result<Gave, Next>
+        ensures { result ≡ stored (laid_tree self.entry.laid.now) self.entry.answers.now address scalar value place at }
+    {
+        let done = given!(self.act(store_at(address, scalar, value, place), at));
+        Ok(Gave { value, at: done.at })
+    }
+
+    // The store of what an operator gives, or its error.
+    #[tactic(auto, unfolding(crate::specs::reading::Direct::changed))]
+    fn changed(
+        self,
+        address: Value,
+        scalar: Scalar,
+        found: Result<Value, Class>,
+        place: Place,
+        at: usize,
+    ) -> Result<Gave, Next>
+        ensures { result ≡ changed (laid_tree self.entry.laid.now) self.entry.answers.now address scalar found place at }
+    {
+        match found {
+            Ok(value) => self.stored(address, scalar, value, place, at),
+            Err(class) => Err(last(self.answers, Next::Fault { class, place }, at)),
+        }
+    }
+
+    // The store of `++` or `--`, and its value: before its operand the new one, behind it the old one.
+    #[tactic(auto, using(crate::proofs::Steps::run_ok, crate::proofs::Steps::run_err), unfolding(crate::specs::reading::Direct::stepped))]
+    fn stepped(
+        self,
+        step: Step,
+        held: Held,
+        scalar: Scalar,
+        found: Result<Value, Class>,
+        place: Place,
+    ) -> Result<Gave, Next>
+        ensures { result ≡ stepped (laid_tree self.entry.laid.now) self.entry.answers.now step held scalar found place }
+    {
+        let new = given!(self.changed(held.address, scalar, found, place, held.at));
+        let value = if step.postfix { held.value } else { new.value };
+        Ok(Gave { value, at: new.at })
+    }
+
     // The value of an expression that stores.
     #[cycle(next)]
     #[tactic(auto, using(crate::proofs::Steps::run_ok, crate::proofs::Steps::run_err, crate::proofs::Steps::held_ok, crate::proofs::Steps::held_err))]
@@ -301,15 +347,7 @@ impl Here<'_> {
             } => {
                 let a = given!(self.address(target, at));
                 let v = given!(self.value(value, a.at));
-                stored(
-                    self.laid,
-                    self.answers,
-                    a.value,
-                    *scalar,
-                    v.value,
-                    *place,
-                    v.at,
-                )
+                self.stored(a.value, *scalar, v.value, *place, v.at)
             }
             Rvalue::Compound {
                 operator,
@@ -324,15 +362,7 @@ impl Here<'_> {
                 let y = given!(self.value(value, held.at));
                 let found = compound_result(*operator, *cell, *of, held.value, y.value);
                 let scalar = Scalar::Int(*cell);
-                changed(
-                    self.laid,
-                    self.answers,
-                    held.address,
-                    scalar,
-                    found,
-                    *place,
-                    y.at,
-                )
+                self.changed(held.address, scalar, found, *place, y.at)
             }
             Rvalue::CompoundMove {
                 minus,
@@ -346,15 +376,7 @@ impl Here<'_> {
                 let y = given!(self.value(value, held.at));
                 let found = moved(self.laid, *minus, *cells, held.value, y.value);
                 let scalar = Scalar::Pointer(*class);
-                changed(
-                    self.laid,
-                    self.answers,
-                    held.address,
-                    scalar,
-                    found,
-                    *place,
-                    y.at,
-                )
+                self.changed(held.address, scalar, found, *place, y.at)
             }
             Rvalue::Step {
                 step,
@@ -366,15 +388,7 @@ impl Here<'_> {
             } => {
                 let held = given!(self.loaded(target, Scalar::Int(*cell), *volatile, at));
                 let found = unit_step(*step, *cell, *of, held.value);
-                stepped(
-                    self.laid,
-                    self.answers,
-                    *step,
-                    held,
-                    Scalar::Int(*cell),
-                    found,
-                    *place,
-                )
+                self.stepped(*step, held, Scalar::Int(*cell), found, *place)
             }
             Rvalue::StepMove {
                 step,
@@ -385,15 +399,7 @@ impl Here<'_> {
             } => {
                 let held = given!(self.loaded(target, Scalar::Pointer(*class), false, at));
                 let found = moved(self.laid, step.minus, *cells, held.value, Value::Number(1));
-                stepped(
-                    self.laid,
-                    self.answers,
-                    *step,
-                    held,
-                    Scalar::Pointer(*class),
-                    found,
-                    *place,
-                )
+                self.stepped(*step, held, Scalar::Pointer(*class), found, *place)
             }
             _ => unreachable!(),
         }

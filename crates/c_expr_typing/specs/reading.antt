@@ -1,0 +1,2 @@
+-- Which forms the code tells apart: no clause of a public call names it.
+pub mod Forms

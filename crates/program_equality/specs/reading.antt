@@ -1,0 +1,2 @@
+-- What the code tells apart: no clause of a public call names it.
+pub mod Families
