@@ -22,6 +22,9 @@ use Rattle.source_findings.specs.Certificates.{HasCertificate, IsRefusedBy, Exce
 use Rattle.source_findings.specs.declared.findings.Finding.{Finding}
 use Rattle.source_findings.proofs.Solved.{solved_by}
 use Rattle.program_streams.specs.Statuses.{IsWhole}
+use Rattle.analyser.specs.declared.replies.Asked.{Asked}
+use Rattle.analyser.specs.declared.replies.Asked.TheVariants.{Report, Replay, Solution, Certificate}
+use Rattle.analyser.specs.reading.Asked.{AskedGives}
 use Rattle.analyser.specs.reading.Replies.{TellsAlarms}
 use Rattle.analyser.specs.reading.Streams.{Says, SaysNoMore}
 use Rattle.program_streams.specs.Streams.{TakesFrontOf}
@@ -70,7 +73,7 @@ refusal_summarised source refusal h status text e f = subst (λ s. HasSummary so
 
 -- ---- an answer comes with a whole text
 
-pub answer_is_whole : (w : AnalyseWords) (bytes : List ℕ) (status : Status) (text : List ℕ) → HasAnswer w bytes status text → IsWhole status
+answer_is_whole : (w : AnalyseWords) (bytes : List ℕ) (status : Status) (text : List ℕ) → HasAnswer w bytes status text → IsWhole status
 answer_is_whole w bytes NoAlarm text h = tt
 answer_is_whole w bytes Alarms text h = tt
 answer_is_whole w bytes Refused text h = tt
@@ -113,7 +116,7 @@ not_longer w bytes report text long h =
     omega (arith, long, short)
 
 -- a source that is too long has its answer already where only its front is known
-pub longer_answered : (w : AnalyseWords) (bytes more : List ℕ) → longest_source < length bytes → (status : Status) (text : List ℕ) → HasAnswer w bytes status text → HasAnswer w (bytes ++ more) status text
+longer_answered : (w : AnalyseWords) (bytes more : List ℕ) → longest_source < length bytes → (status : Status) (text : List ℕ) → HasAnswer w bytes status text → HasAnswer w (bytes ++ more) status text
 longer_answered w bytes more long NoAlarm text h = absurd (not_longer w bytes [] text long h)
 longer_answered w bytes more long Alarms text h = absurd (not_longer w bytes h.0 text long h.2)
 longer_answered w bytes more long Refused text h = (h.0, longer_refused bytes more h.0 long h.1, h.2)
@@ -123,7 +126,7 @@ longer_answered w bytes more long WriteFault text h = absurd h
 longer_answered w bytes more long NoMemory text h = absurd h
 
 -- the same of a replay
-pub longer_replayed : (bytes more : List ℕ) → longest_source < length bytes → (status : Status) (text : List ℕ)
+longer_replayed : (bytes more : List ℕ) → longest_source < length bytes → (status : Status) (text : List ℕ)
     → IsReplayed bytes status text → IsReplayed (bytes ++ more) status text
 longer_replayed bytes more long status text h =
     record { outcome = h.outcome; comes = h.comes; has = long_ones_are_alike bytes more h.outcome text long h.has }
@@ -136,7 +139,7 @@ not_solved bytes long s =
     let short : length bytes ≤ longest_source = source.short in
     omega (arith, long, short)
 
-pub longer_found : (f : Finding) (bytes more : List ℕ) → longest_source < length bytes → (status : Status) (text : List ℕ)
+longer_found : (f : Finding) (bytes more : List ℕ) → longest_source < length bytes → (status : Status) (text : List ℕ)
     → HasFinding f bytes status text → HasFinding f (bytes ++ more) status text
 longer_found f bytes more long NoAlarm text h = absurd (not_solved bytes long (solved_by f bytes NoAlarm text h))
 longer_found f bytes more long Alarms text h = absurd (not_solved bytes long (solved_by f bytes Alarms text h))
@@ -147,7 +150,7 @@ longer_found f bytes more long WriteFault text h = absurd h
 longer_found f bytes more long NoMemory text h = absurd h
 
 -- each comes with a whole text
-pub finding_is_whole : (f : Finding) (bytes : List ℕ) (status : Status) (text : List ℕ) → HasFinding f bytes status text
+finding_is_whole : (f : Finding) (bytes : List ℕ) (status : Status) (text : List ℕ) → HasFinding f bytes status text
     → IsWhole status
 finding_is_whole f bytes NoAlarm text h = tt
 finding_is_whole f bytes Alarms text h = tt
@@ -157,7 +160,7 @@ finding_is_whole f bytes ReadFault text h = absurd h
 finding_is_whole f bytes WriteFault text h = absurd h
 finding_is_whole f bytes NoMemory text h = absurd h
 
-pub replay_is_whole : (bytes : List ℕ) (status : Status) (text : List ℕ) → IsReplayed bytes status text → IsWhole status
+replay_is_whole : (bytes : List ℕ) (status : Status) (text : List ℕ) → IsReplayed bytes status text → IsWhole status
 replay_is_whole bytes status text h = subst IsWhole (sym h.comes) (whole h.outcome)
   where
     whole : (outcome : Outcome) → IsWhole (replay_status outcome)
@@ -173,7 +176,7 @@ longer_certified_by bytes more long text (inl h) =
     inl (record { refusal = h.refusal; refused = longer_refused bytes more h.refusal long h.refused; is = h.is })
 longer_certified_by bytes more long text (inr h) = absurd (not_solved bytes long h.solves)
 
-pub longer_certified : (bytes more : List ℕ) → longest_source < length bytes → (status : Status) (text : List ℕ)
+longer_certified : (bytes more : List ℕ) → longest_source < length bytes → (status : Status) (text : List ℕ)
     → HasCertificate bytes status text → HasCertificate (bytes ++ more) status text
 longer_certified bytes more long NoAlarm text h = absurd (not_solved bytes long h.solves)
 longer_certified bytes more long Alarms text h = absurd h
@@ -183,7 +186,7 @@ longer_certified bytes more long ReadFault text h = absurd h
 longer_certified bytes more long WriteFault text h = absurd h
 longer_certified bytes more long NoMemory text h = absurd h
 
-pub certificate_is_whole : (bytes : List ℕ) (status : Status) (text : List ℕ) → HasCertificate bytes status text
+certificate_is_whole : (bytes : List ℕ) (status : Status) (text : List ℕ) → HasCertificate bytes status text
     → IsWhole status
 certificate_is_whole bytes NoAlarm text h = tt
 certificate_is_whole bytes Alarms text h = tt
@@ -192,6 +195,22 @@ certificate_is_whole bytes Usage text h = absurd h
 certificate_is_whole bytes ReadFault text h = absurd h
 certificate_is_whole bytes WriteFault text h = absurd h
 certificate_is_whole bytes NoMemory text h = absurd h
+
+-- ---- the same of whatever is asked about bytes
+
+pub longer_asked : (a : Asked) (bytes more : List ℕ) → longest_source < length bytes → (status : Status) (text : List ℕ)
+    → AskedGives a bytes status text → AskedGives a (bytes ++ more) status text
+longer_asked (Report words) bytes more long status text h = longer_answered words bytes more long status text h
+longer_asked Replay bytes more long status text h = longer_replayed bytes more long status text h
+longer_asked (Solution finding) bytes more long status text h = longer_found finding bytes more long status text h
+longer_asked Certificate bytes more long status text h = longer_certified bytes more long status text h
+
+pub asked_is_whole : (a : Asked) (bytes : List ℕ) (status : Status) (text : List ℕ) → AskedGives a bytes status text
+    → IsWhole status
+asked_is_whole (Report words) bytes status text h = answer_is_whole words bytes status text h
+asked_is_whole Replay bytes status text h = replay_is_whole bytes status text h
+asked_is_whole (Solution finding) bytes status text h = finding_is_whole finding bytes status text h
+asked_is_whole Certificate bytes status text h = certificate_is_whole bytes status text h
 
 -- ---- what is answered whatever the bytes are
 

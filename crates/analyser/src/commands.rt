@@ -4,22 +4,21 @@ ghost use Rattle.std.specs.Prelude.{◌≡◌, ◌≢◌, false};
 ghost use Rattle.tm_io.specs.Faults.{Rose};
 ghost use Rattle.cmd_words.specs.Words.{command_of, texts_of};
 ghost use Rattle.big_source.specs.GeneratedSources.{source_text};
-ghost use Rattle.analyser.specs.Headline.{CommandGives, HasAnswer, HasSummary, IsGenerated};
-ghost use Rattle.analyser.specs.Headline.{IsReplayed, MayGive, Reads, SaysUsage, longest_of};
+ghost use Rattle.analyser.specs.Headline.{CommandGives, HasSummary, IsGenerated};
+ghost use Rattle.analyser.specs.Headline.{MayGive, Reads, SaysUsage, longest_of};
 ghost use Rattle.source_replays.specs.source_programs.LaidSources.{longest_source};
-ghost use Rattle.source_findings.specs.Findings.{HasFinding};
-ghost use Rattle.source_findings.specs.Certificates.{HasCertificate};
 ghost use Rattle.program_streams.specs.Statuses.{IsWhole};
 ghost use Rattle.program_streams.specs.Streams.{IsReadOut};
 ghost use Rattle.program_streams.specs.Taken.{Answers, TakesNoMore};
+ghost use Rattle.analyser.specs.reading.Asked.{AskedGives, IsAnswerable};
 ghost use Rattle.analyser.specs.reading.Manners.{IsServed};
 ghost use Rattle.analyser.specs.reading.Streams.{Says, SaysNoMore};
 
-use crate::replies::{answer_to, generated, replayed, summarised};
+use crate::replies::{Asked, answer_to, generated, summarised};
 use crate::solvers::Solver;
-use cmd_words::{AnalyseWords, Command, DemoWords, read_words};
+use cmd_words::{Command, DemoWords, read_words};
 use program_streams::{InputError, Status, read_whole, send};
-use source_findings::{Finding, certificate_of, check_source, finding_of};
+use source_findings::{Finding, check_source};
 use std::alloc::Global as Heap;
 use tm_io::{Sink, Source};
 use tm_lattice::NoMemory;
@@ -75,18 +74,18 @@ fn send_summary<V: Solver, K: Sink>(
     }
 }
 
-/// The command `analyse`: reads the source to its end, or past the limit, and writes its report or its refusal.
-fn analyse_source<V: Solver, S: Source, K: Sink>(
+/// Reads the source to its end, or past the limit, and writes the answer to what is asked about it.
+fn answer_source<V: Solver, S: Source, K: Sink>(
     solver: &V,
     alloc: Heap,
-    asked: &AnalyseWords,
+    asked: &Asked,
     source: &mut S,
     out: &mut K,
 ) -> Status
-    requires { V.serves solver.now asked.now.workers asked.now.history }
+    requires { IsAnswerable (V.serves solver.now) asked.now }
     ensures whole { IsWhole result →
-        Answers (HasAnswer asked.now) (S.left source.old) (K.taken out.old) (K.taken out.new) result }
-    ensures front { TakesNoMore (HasAnswer asked.now) (S.left source.old) (K.taken out.old) (K.taken out.new) }
+        Answers (AskedGives asked.now) (S.left source.old) (K.taken out.old) (K.taken out.new) result }
+    ensures front { TakesNoMore (AskedGives asked.now) (S.left source.old) (K.taken out.old) (K.taken out.new) }
     ensures all { IsWhole result → IsReadOut longest_source (S.left source.old) (S.left source.new) }
     ensures read { result ≡ Status.ReadFault →
         Rose (S.faults source.old) (S.faults source.new) × (K.taken out.new ≡ K.taken out.old) }
@@ -101,85 +100,6 @@ fn analyse_source<V: Solver, S: Source, K: Sink>(
         Err(InputError::NoMemory) => return Status::NoMemory,
     }
     match answer_to(solver, alloc, asked, &bytes) {
-        Ok(reply) => send(out, reply.text.as_bytes(), reply.status),
-        Err(NoMemory) => Status::NoMemory,
-    }
-}
-
-/// The command `replay`: reads the source to its end, or past the limit, and writes how its run goes, or its refusal.
-fn replay_source<S: Source, K: Sink>(alloc: Heap, source: &mut S, out: &mut K) -> Status
-    ensures whole { IsWhole result →
-        Answers IsReplayed (S.left source.old) (K.taken out.old) (K.taken out.new) result }
-    ensures front { TakesNoMore IsReplayed (S.left source.old) (K.taken out.old) (K.taken out.new) }
-    ensures all { IsWhole result → IsReadOut longest_source (S.left source.old) (S.left source.new) }
-    ensures read { result ≡ Status.ReadFault →
-        Rose (S.faults source.old) (S.faults source.new) × (K.taken out.new ≡ K.taken out.old) }
-    ensures write { result ≡ Status.WriteFault → Rose (K.faults out.old) (K.faults out.new) }
-    ensures source_faults { result ≢ Status.ReadFault → S.faults source.new ≡ S.faults source.old }
-    ensures sink_faults { result ≢ Status.WriteFault → K.faults out.new ≡ K.faults out.old }
-{
-    let mut bytes = Vec::new(alloc);
-    match read_whole(source, &mut bytes, MOST) {
-        Ok(()) => {}
-        Err(InputError::Failed) => return Status::ReadFault,
-        Err(InputError::NoMemory) => return Status::NoMemory,
-    }
-    match replayed(alloc, &bytes) {
-        Ok(reply) => send(out, reply.text.as_bytes(), reply.status),
-        Err(NoMemory) => Status::NoMemory,
-    }
-}
-
-/// The commands `waits` and `ranges`: reads the source to its end, or past the limit, and writes what its least
-/// solution tells, or its refusal.
-fn solve_source<S: Source, K: Sink>(
-    alloc: Heap,
-    finding: Finding,
-    source: &mut S,
-    out: &mut K,
-) -> Status
-    ensures whole { IsWhole result →
-        Answers (HasFinding finding) (S.left source.old) (K.taken out.old) (K.taken out.new) result }
-    ensures front { TakesNoMore (HasFinding finding) (S.left source.old) (K.taken out.old) (K.taken out.new) }
-    ensures all { IsWhole result → IsReadOut longest_source (S.left source.old) (S.left source.new) }
-    ensures read { result ≡ Status.ReadFault →
-        Rose (S.faults source.old) (S.faults source.new) × (K.taken out.new ≡ K.taken out.old) }
-    ensures write { result ≡ Status.WriteFault → Rose (K.faults out.old) (K.faults out.new) }
-    ensures source_faults { result ≢ Status.ReadFault → S.faults source.new ≡ S.faults source.old }
-    ensures sink_faults { result ≢ Status.WriteFault → K.faults out.new ≡ K.faults out.old }
-{
-    let mut bytes = Vec::new(alloc);
-    match read_whole(source, &mut bytes, MOST) {
-        Ok(()) => {}
-        Err(InputError::Failed) => return Status::ReadFault,
-        Err(InputError::NoMemory) => return Status::NoMemory,
-    }
-    match finding_of(alloc, finding, &bytes) {
-        Ok(reply) => send(out, &reply.text, reply.status),
-        Err(NoMemory) => Status::NoMemory,
-    }
-}
-
-/// The command `certify`: reads the source to its end, or past the limit, and writes it with its least solution, or why
-/// there is no such text.
-fn certify_source<S: Source, K: Sink>(alloc: Heap, source: &mut S, out: &mut K) -> Status
-    ensures whole { IsWhole result →
-        Answers HasCertificate (S.left source.old) (K.taken out.old) (K.taken out.new) result }
-    ensures front { TakesNoMore HasCertificate (S.left source.old) (K.taken out.old) (K.taken out.new) }
-    ensures all { IsWhole result → IsReadOut longest_source (S.left source.old) (S.left source.new) }
-    ensures read { result ≡ Status.ReadFault →
-        Rose (S.faults source.old) (S.faults source.new) × (K.taken out.new ≡ K.taken out.old) }
-    ensures write { result ≡ Status.WriteFault → Rose (K.faults out.old) (K.faults out.new) }
-    ensures source_faults { result ≢ Status.ReadFault → S.faults source.new ≡ S.faults source.old }
-    ensures sink_faults { result ≢ Status.WriteFault → K.faults out.new ≡ K.faults out.old }
-{
-    let mut bytes = Vec::new(alloc);
-    match read_whole(source, &mut bytes, MOST) {
-        Ok(()) => {}
-        Err(InputError::Failed) => return Status::ReadFault,
-        Err(InputError::NoMemory) => return Status::NoMemory,
-    }
-    match certificate_of(alloc, &bytes) {
         Ok(reply) => send(out, &reply.text, reply.status),
         Err(NoMemory) => Status::NoMemory,
     }
@@ -208,13 +128,25 @@ fn answer_command<V: Solver, S: Source, K: Sink>(
 {
     match command {
         None => send_usage(out),
-        Some(Command::Analyse(asked)) => analyse_source(solver, alloc, &asked, source, out),
-        Some(Command::Replay) => replay_source(alloc, source, out),
+        Some(Command::Analyse(asked)) => {
+            answer_source(solver, alloc, &Asked::Report(asked), source, out)
+        }
+        Some(Command::Replay) => answer_source(solver, alloc, &Asked::Replay, source, out),
         Some(Command::Generate(count)) => send_source(alloc, count, out),
         Some(Command::Demo(asked)) => send_summary(solver, alloc, asked, out),
-        Some(Command::Waits) => solve_source(alloc, Finding::Waits, source, out),
-        Some(Command::Ranges) => solve_source(alloc, Finding::Ranges, source, out),
-        Some(Command::Certify) => certify_source(alloc, source, out),
+        Some(Command::Waits) => {
+            answer_source(solver, alloc, &Asked::Solution(Finding::Waits), source, out)
+        }
+        Some(Command::Ranges) => {
+            answer_source(
+                solver,
+                alloc,
+                &Asked::Solution(Finding::Ranges),
+                source,
+                out,
+            )
+        }
+        Some(Command::Certify) => answer_source(solver, alloc, &Asked::Certificate, source, out),
         Some(Command::Check) => check_source(alloc, source, out),
     }
 }

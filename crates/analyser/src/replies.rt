@@ -5,6 +5,7 @@ ghost use Rattle.big_source.specs.GeneratedSources.{source_text, summary_text};
 ghost use Rattle.tm_terms.specs.Texts.{refusal_text};
 ghost use Rattle.analyser.specs.Headline.{HasAnswer, HasSummary, IsGenerated, IsReplayed, replay_status};
 ghost use Rattle.analyser.specs.Headline.{report_lines};
+ghost use Rattle.analyser.specs.reading.Asked.{AskedGives, IsAnswerable};
 ghost use Rattle.analyser.specs.reading.Replies.{IsFound, TellsAlarms};
 
 use crate::solvers::{Manner, Solved, Solver};
@@ -12,6 +13,7 @@ use big_source::{big_source, summary};
 use cmd_words::{AnalyseWords, DemoWords};
 use program_streams::Status;
 use report_json::report_json;
+use source_findings::{Finding, FindingReply, certificate_of, finding_of};
 use source_replays::{Outcome, replay, source_program};
 use std::alloc::Global as Heap;
 use tm_lattice::NoMemory;
@@ -23,6 +25,19 @@ use worker_solutions::Analysis;
 pub struct Reply {
     pub status: Status,
     pub text: String,
+}
+
+/// What a command asks about the bytes of a source.
+#[derive(Drop)]
+pub enum Asked {
+    /// The report of its least solution.
+    Report(AnalyseWords),
+    /// How its run goes by the choices behind it.
+    Replay,
+    /// What its least solution tells.
+    Solution(Finding),
+    /// Itself with its least solution.
+    Certificate,
 }
 
 /// What is found of the bytes of a source.
@@ -124,7 +139,7 @@ fn summary_reply(alloc: Heap, source: &[u8], report: &Report) -> Result<Reply, N
 }
 
 /// The answer of `analyse` to the bytes of a source.
-pub fn answer_to<V: Solver>(
+fn analysed<V: Solver>(
     solver: &V,
     alloc: Heap,
     asked: &AnalyseWords,
@@ -182,7 +197,7 @@ fn replay_status(outcome: Outcome) -> Status
 }
 
 /// The answer of `replay` to the bytes of a source with choices behind it.
-pub fn replayed(alloc: Heap, bytes: &[u8]) -> Result<Reply, NoMemory>
+fn replayed(alloc: Heap, bytes: &[u8]) -> Result<Reply, NoMemory>
     ensures { IfOk result (λ reply. IsReplayed bytes.now reply.status (string_bytes reply.text)) }
 {
     let reply = replay(alloc, bytes)?;
@@ -190,4 +205,32 @@ pub fn replayed(alloc: Heap, bytes: &[u8]) -> Result<Reply, NoMemory>
         status: replay_status(reply.outcome),
         text: reply.text,
     })
+}
+
+/// The same reply, with its text as bytes.
+fn in_bytes(reply: Reply) -> FindingReply
+    ensures { (result.status ≡ reply.status) × (result.text.items ≡ string_bytes reply.text) }
+{
+    FindingReply {
+        status: reply.status,
+        text: reply.text.into_bytes(),
+    }
+}
+
+/// The answer to what is asked about the bytes of a source.
+pub fn answer_to<V: Solver>(
+    solver: &V,
+    alloc: Heap,
+    asked: &Asked,
+    bytes: &[u8],
+) -> Result<FindingReply, NoMemory>
+    requires { IsAnswerable (V.serves solver.now) asked.now }
+    ensures { IfOk result (λ reply. AskedGives asked.now bytes.now reply.status reply.text.items) }
+{
+    match asked {
+        Asked::Report(words) => Ok(in_bytes(analysed(solver, alloc, words, bytes)?)),
+        Asked::Replay => Ok(in_bytes(replayed(alloc, bytes)?)),
+        Asked::Solution(finding) => finding_of(alloc, *finding, bytes),
+        Asked::Certificate => certificate_of(alloc, bytes),
+    }
 }

@@ -2,7 +2,7 @@ use Rattle.std.proofs.Common.{subst}
 use Rattle.std.specs.Prelude.{string_bytes}
 use Rattle.analyser.specs.reading.Replies.{IsFound}
 use Rattle.analyser.proofs.AnswerLemmas.{if_ok_both, report_answered, refusal_answered}
-use Rattle.analyser.proofs.replies.answer_to.Goals as goal
+use Rattle.analyser.proofs.replies.analysed.Goals as goal
 
 pub returns-in-Reported : goal.returns-in-Reported
 returns-in-Reported g c =
