@@ -17,6 +17,9 @@ mod placing;
 
 pub use fragments::{Call, Found, Fragment, Item, Size};
 pub use here::Here;
-pub use lookups::{callee, function_on, is_value_type, object_of, result_type, scalar_at, type_at};
+pub use lookups::{
+    callee, function_on, is_comparison, is_pointer_scalar, is_same_place, is_value_type, object_of,
+    result_type, rvalue_place, scalar_at, type_at,
+};
 pub use operands::{build_condition, build_operand};
 pub use placing::more;

@@ -22,7 +22,7 @@ use tm_terms::Place;
 use tm_typed::{CType, Lvalue, ObjectNumber, Rvalue, Scalar, Step};
 
 /// Whether an operator compares.
-pub(crate) fn is_comparison(operator: BinOp) -> bool
+pub fn is_comparison(operator: BinOp) -> bool
     ensures { result ≡ is_comparison operator }
 {
     match operator {
@@ -50,14 +50,14 @@ pub(crate) fn conversion(from: IntType, to: IntType) -> Option<(IntType, IntType
 }
 
 /// Whether two places are the same.
-pub(crate) fn is_same_place(one: Place, other: Place) -> bool
+pub fn is_same_place(one: Place, other: Place) -> bool
     ensures { result ≡ is_same_place one other }
 {
     one.line == other.line && one.col == other.col
 }
 
 /// Whether a scalar is a pointer.
-pub(crate) fn is_pointer_scalar(scalar: Scalar) -> bool
+pub fn is_pointer_scalar(scalar: Scalar) -> bool
     ensures { result ≡ is_pointer_scalar scalar }
 {
     match scalar {
@@ -93,7 +93,7 @@ fn is_pointer_type(ctype: CType) -> bool
 }
 
 /// The place of an expression.
-pub(crate) fn rvalue_place(value: &Rvalue) -> Place
+pub fn rvalue_place(value: &Rvalue) -> Place
     ensures { result ≡ rvalue_place (rvalue_tree value.now) }
 {
     match value {

@@ -2,7 +2,7 @@
 ghost use Rattle.std.specs.Prelude.{◌≡◌, ◌<◌, [], length, map, replicate, slice_set, IfOk, IfSome, Some, None};
 ghost use Rattle.std.specs.List.Sorted.{IsStrictlyIncreasing};
 ghost use Rattle.cell_placings.specs.CellLists.{cells_at};
-ghost use Rattle.cell_placings.specs.OwnerTrees.{tree_of, owns_in, kept_in, placing_of};
+ghost use Rattle.cell_placings.specs.OwnerTrees.{tree_of, kept_in, placing_of};
 ghost use Rattle.cell_placings.specs.Placed.{IsCellPlaced};
 ghost use Rattle.cell_placings.specs.Checks.{IsTree};
 ghost use Rattle.cell_placings.specs.reading.Walks.{AreTimed};
@@ -62,13 +62,6 @@ impl CellPlacing {
         ensures rising { IsStrictlyIncreasing result.now }
     {
         self.owners.owned[node].cells()
-    }
-
-    /// Whether a node owns a cell. It takes time logarithmic in the number of cells that it owns.
-    pub fn is_owned(&self, node: usize, cell: usize) -> bool
-        ensures { result ≡ owns_in self.now node cell }
-    {
-        self.owners.has(node, cell)
     }
 
     /// The node at which a cell is kept at a node. It takes time logarithmic in the number of nodes that own the cell

@@ -104,6 +104,8 @@ fn next_after(laid: &Laid, answers: &[Vec<Answer>], task: u32) -> Next
 
 impl World<'_> {
     /// Makes room for one answer of each task, and of the initial section: a step takes no memory then.
+    ///
+    /// A public call of its own, for users of the crate; a replay takes the memory of each step as it comes.
     pub fn reserve(&mut self) -> Result<(), NoMemory>
         requires { IsWorld self.old }
         ensures world { IsWorld self.new }

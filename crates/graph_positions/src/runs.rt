@@ -70,6 +70,9 @@ impl Run {
 }
 
 /// The action that follows these answers in a run of the graph.
+///
+/// A public call of its own, for users of the crate who have the answers at hand; a world keeps a `Run`, to which it
+/// tells each answer once.
 pub fn graph_next(
     alloc: Global,
     laid: &Laid,

@@ -3,6 +3,7 @@ ghost use Rattle.std.specs.Prelude.{◌≡◌, ◌≤◌, IfOk, length};
 
 use alarm_contexts::ContextEdge;
 use flow_graph::{Edge, Graph, Operation};
+use graph_facts::given;
 use std::alloc::Global;
 use tm_cint::{BinOp, IntType};
 use tm_laid::Scalar;
@@ -13,31 +14,9 @@ const FURTHEST: usize = 4096;
 
 const LONGEST: usize = 24;
 
-// The temporary that an operation gives.
-fn given_by(operation: Operation) -> Option<u32> {
-    match operation {
-        Operation::Const { to, .. }
-        | Operation::Copy { to, .. }
-        | Operation::Un { to, .. }
-        | Operation::Bin { to, .. }
-        | Operation::BinPointers { to, .. }
-        | Operation::Convert { to, .. }
-        | Operation::Base { to, .. }
-        | Operation::Offset { to, .. }
-        | Operation::Index { to, .. }
-        | Operation::Move { to, .. }
-        | Operation::Deref { to, .. }
-        | Operation::Load { to, .. }
-        | Operation::LoadAny { to, .. }
-        | Operation::Any { to, .. }
-        | Operation::Probe { to, .. } => Some(to),
-        _ => None,
-    }
-}
-
 // Whether an operation gives the temporary.
 fn gives(operation: Operation, temp: u32) -> bool {
-    match given_by(operation) {
+    match given(operation) {
         Some(to) => to == temp,
         None => false,
     }

@@ -14,7 +14,7 @@ ghost use Rattle.path_origins.specs.reading.Reading.{IsGiven, IsTyped, IsRead, I
 
 use crate::addresses::walk_address;
 use crate::expressions::{note_implied, walk_against, walk_part, walk_rvalue};
-use crate::lookups::{is_comparison, is_conversion, is_implied, is_pointer_scalar, rvalue_place};
+use crate::lookups::{is_conversion, is_implied};
 use crate::notes::{
     end_with, note, note_end, note_if, note_operands, note_passing, note_reload, note_store,
     note_tests, note_value, since,
@@ -24,7 +24,7 @@ use crate::types::{
     Given, class_target, computed, held_by, is_changed, is_either_changed, number_if,
 };
 use crate::walks::{Here, Wanted};
-use body_builder::type_at;
+use body_builder::{is_comparison, is_pointer_scalar, rvalue_place, type_at};
 use tm_cint::{BinOp, IntType};
 use tm_lattice::NoMemory;
 use tm_terms::Place;

@@ -21,14 +21,14 @@ ghost use Rattle.path_origins.specs.reading.Leaving.{is_default_label, is_defaul
 ghost use Rattle.path_origins.specs.Opens.{is_among};
 
 use crate::expressions::walk_value;
-use crate::lookups::{NOWHERE, object_at, rvalue_place};
+use crate::lookups::{NOWHERE, object_at};
 use crate::notes::{
     end_scopes, note, note_against, note_if, note_life, note_passing, note_skips, note_tests,
     sequence, since,
 };
 use crate::origins::{Form, Life, Notes, Span};
 use crate::walks::{Here, Wanted};
-use body_builder::{is_value_type, more, object_of, result_type, type_at};
+use body_builder::{is_value_type, more, object_of, result_type, rvalue_place, type_at};
 use part_extents::cell_type;
 use source_names::Inside;
 use tm_lattice::NoMemory;

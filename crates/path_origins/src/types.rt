@@ -10,8 +10,8 @@ ghost use Rattle.path_origins.specs.Types.{number_if, is_unsigned_by_some, casts
 ghost use Rattle.path_origins.specs.Types.{either, computed, converted};
 ghost use Rattle.path_origins.specs.Expressions.{pointed_by};
 
-use crate::lookups::{is_comparison, object_at};
-use body_builder::{object_of, type_at};
+use crate::lookups::object_at;
+use body_builder::{is_comparison, object_of, type_at};
 use part_extents::unenumerated;
 use source_names::{Down, Inside, step_down};
 use tm_cint::{BinOp, IntType};

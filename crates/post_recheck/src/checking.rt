@@ -100,6 +100,9 @@ fn checks_in_order(
 /// the first edge that is not covered, where there is one; or that the store is not covered. The bodies are checked by
 /// several threads, where they can be made. Condition: the facts are those of the program, and the tables and the
 /// store fit it.
+///
+/// A public call of its own, for users of the crate; the check of a certificate takes `recheck_in_order`, and the
+/// analysis neither.
 pub fn recheck<R: Threads + Sync>(
     rt: &R,
     alloc: Global,
