@@ -160,24 +160,16 @@ fn read_demo(alloc: Global, words: &[String]) -> Result<Option<Command>, NoMemor
 fn read_named(alloc: Global, name: &str, words: &[String]) -> Result<Option<Command>, NoMemory>
     ensures { IfOk result (λ command. command ≡ named_command name.now (texts_of words.now)) }
 {
-    if name == "analyse" {
-        read_analyse(alloc, words)
-    } else if name == "replay" {
-        Ok(alone(Command::Replay, words))
-    } else if name == "generate" {
-        read_generate(alloc, words)
-    } else if name == "demo" {
-        read_demo(alloc, words)
-    } else if name == "waits" {
-        Ok(alone(Command::Waits, words))
-    } else if name == "ranges" {
-        Ok(alone(Command::Ranges, words))
-    } else if name == "certify" {
-        Ok(alone(Command::Certify, words))
-    } else if name == "check" {
-        Ok(alone(Command::Check, words))
-    } else {
-        Ok(None)
+    match name {
+        "analyse" => read_analyse(alloc, words),
+        "replay" => Ok(alone(Command::Replay, words)),
+        "generate" => read_generate(alloc, words),
+        "demo" => read_demo(alloc, words),
+        "waits" => Ok(alone(Command::Waits, words)),
+        "ranges" => Ok(alone(Command::Ranges, words)),
+        "certify" => Ok(alone(Command::Certify, words)),
+        "check" => Ok(alone(Command::Check, words)),
+        _ => Ok(None),
     }
 }
 

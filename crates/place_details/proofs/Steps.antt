@@ -1,7 +1,8 @@
 -- Steps along texts, byte by byte.
-use Rattle.std.proofs.Common.{◌≡◌, ◌<◌, ◌+◌, ◌∙◌, ℕ, zero, suc, List, [], ◌∷◌, ◌++◌, length, get_or, drop, add-one, drop-cons, append_assoc}
+use Rattle.std.proofs.Common.{◌≡◌, ◌<◌, ◌+◌, ◌∙◌, ℕ, zero, suc, List, [], ◌∷◌, ◌++◌, length, get_or, drop, map, take, add-one, drop-cons, append_assoc}
 use Rattle.std.proofs.Common.{true, false, refl, sym, ap}
 use Rattle.std.specs.Prelude.{◌==◌, slice_index}
+use Rattle.std.proofs.lemmas.List.{map-append, take_more}
 use Rattle.place_details.specs.Functions.{code_from, mode_behind, scanned, shown_in, step}
 use Rattle.place_details.specs.TextLines.{starts_behind}
 use Rattle.place_details.specs.declared.code.Mode.{Mode}
@@ -65,3 +66,20 @@ pub scanned_more : (code : List ℕ) (i : ℕ) (scan next : Scan) → scan ≡ s
     → next ≡ scanned code (i + 1)
 scanned_more code i scan next so_far is =
     is ∙ ap (λ s. step s i (slice_index code i)) so_far ∙ sym (scan_next code i)
+
+-- ## Places
+
+one_more : {X S B : Type 0} (of : S → B) (seen : X → S) (xs : List X) (i : ℕ) (x : X) → i < length xs
+    → map of (map seen (take (i + 1) xs)) ≡ map of (map seen (take i xs)) ++ of (seen (get_or xs i x)) ∷ []
+one_more of seen xs i x h =
+    ap (λ l. map of (map seen l)) (take_more xs i x h)
+    ∙ ap (map of) (map-append seen (take i xs) (get_or xs i x ∷ []))
+    ∙ map-append of (map seen (take i xs)) (seen (get_or xs i x) ∷ [])
+
+-- what is told of one place more
+pub told_more : {X S B : Type 0} (of : S → B) (seen : X → S) (xs : List X) (i : ℕ) (x : X) (old new : List B) (told : B)
+    → i < length xs → old ≡ map of (map seen (take i xs)) → new ≡ old ++ told ∷ [] → told ≡ of (seen (get_or xs i x))
+    → new ≡ map of (map seen (take (i + 1) xs))
+told_more of seen xs i x old new told h before pushed is =
+    pushed ∙ ap (λ l. l ++ told ∷ []) before ∙ ap (λ t. map of (map seen (take i xs)) ++ t ∷ []) is
+    ∙ sym (one_more of seen xs i x h)

@@ -2,3 +2,4 @@ pub mod Rebuilt
 pub mod Listed
 pub mod Assumed
 pub mod Told
+pub mod Lines

@@ -15,24 +15,16 @@ use tm_terms::{Alarm, Place};
 pub fn class_of(word: &str) -> Option<Class>
     ensures { result ≡ class_of word.now }
 {
-    if word == "OVERFLOW" {
-        Some(Class::Overflow)
-    } else if word == "DIV" {
-        Some(Class::Div)
-    } else if word == "SHIFT" {
-        Some(Class::Shift)
-    } else if word == "INDEX" {
-        Some(Class::Index)
-    } else if word == "POINTER" {
-        Some(Class::Pointer)
-    } else if word == "DEREF" {
-        Some(Class::Deref)
-    } else if word == "LOCK" {
-        Some(Class::Lock)
-    } else if word == "RACE" {
-        Some(Class::Race)
-    } else {
-        None
+    match word {
+        "OVERFLOW" => Some(Class::Overflow),
+        "DIV" => Some(Class::Div),
+        "SHIFT" => Some(Class::Shift),
+        "INDEX" => Some(Class::Index),
+        "POINTER" => Some(Class::Pointer),
+        "DEREF" => Some(Class::Deref),
+        "LOCK" => Some(Class::Lock),
+        "RACE" => Some(Class::Race),
+        _ => None,
     }
 }
 

@@ -60,30 +60,19 @@ pub fn kind_word(kind: AssumptionKind) -> &'static str
 fn kind_of(word: &str) -> Option<AssumptionKind>
     ensures { result ≡ kind_of word.now }
 {
-    if word == "CONST" {
-        Some(AssumptionKind::Const)
-    } else if word == "ENUM" {
-        Some(AssumptionKind::Enum)
-    } else if word == "IMPLEMENTATION" {
-        Some(AssumptionKind::Implementation)
-    } else if word == "LAYOUT" {
-        Some(AssumptionKind::Layout)
-    } else if word == "LIFETIME" {
-        Some(AssumptionKind::Lifetime)
-    } else if word == "MEMBER" {
-        Some(AssumptionKind::Member)
-    } else if word == "ORDER" {
-        Some(AssumptionKind::Order)
-    } else if word == "PRAGMA" {
-        Some(AssumptionKind::Pragma)
-    } else if word == "RESERVED" {
-        Some(AssumptionKind::Reserved)
-    } else if word == "RESTRICT" {
-        Some(AssumptionKind::Restrict)
-    } else if word == "UNSET" {
-        Some(AssumptionKind::Unset)
-    } else {
-        None
+    match word {
+        "CONST" => Some(AssumptionKind::Const),
+        "ENUM" => Some(AssumptionKind::Enum),
+        "IMPLEMENTATION" => Some(AssumptionKind::Implementation),
+        "LAYOUT" => Some(AssumptionKind::Layout),
+        "LIFETIME" => Some(AssumptionKind::Lifetime),
+        "MEMBER" => Some(AssumptionKind::Member),
+        "ORDER" => Some(AssumptionKind::Order),
+        "PRAGMA" => Some(AssumptionKind::Pragma),
+        "RESERVED" => Some(AssumptionKind::Reserved),
+        "RESTRICT" => Some(AssumptionKind::Restrict),
+        "UNSET" => Some(AssumptionKind::Unset),
+        _ => None,
     }
 }
 

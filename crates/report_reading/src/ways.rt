@@ -51,14 +51,11 @@ fn way_word(kind: WayKind) -> &'static str
 fn way_kind_of(word: &str) -> Option<WayKind>
     ensures { result ≡ way_kind_of word.now }
 {
-    if word == "with" {
-        Some(WayKind::With)
-    } else if word == "path" {
-        Some(WayKind::Path)
-    } else if word == "call" {
-        Some(WayKind::Call)
-    } else {
-        None
+    match word {
+        "with" => Some(WayKind::With),
+        "path" => Some(WayKind::Path),
+        "call" => Some(WayKind::Call),
+        _ => None,
     }
 }
 

@@ -1,3 +1,4 @@
 pub mod Ascending
+pub mod Parts
 pub mod Reach
 pub mod low
