@@ -1,12 +1,9 @@
 -- One file more is seen.
-use Rattle.std.proofs.Common.{◌≡◌, ◌<◌, ◌+◌, ◌∙◌, ℕ, Bool, true, false, ◌||◌, cond, List, [], ◌∷◌, ◌++◌, length, get_or, take, map}
+use Rattle.std.proofs.Common.{◌≡◌, ◌<◌, ◌+◌, ◌∙◌, ℕ, Bool, true, false, ◌||◌, cond, List, [], ◌∷◌, ◌++◌, length, get_or, take}
 use Rattle.std.proofs.Common.{refl, sym, ap, bytes_eq, is_some, Option, Some}
 use Rattle.std.specs.List.{list_any}
 use Rattle.std.specs.Cmp.Lexicographic.{nat_list_eq_equiv}
-use Rattle.std.proofs.lemmas.List.{map-append}
 use Rattle.std.proofs.lemmas.List.Sums.{fold_more}
-use Rattle.serde_json.specs.Data.{Data}
-use Rattle.report_logs.specs.Sarif.{artifact_data}
 use Rattle.report_logs.specs.Uris.{distinct, with_file}
 
 or_last : (b : Bool) → (b || false) ≡ cond b true false
@@ -37,13 +34,11 @@ pub next : (files : List (List ℕ)) (i : ℕ) → i < length files
     → distinct (take (i + 1) files) ≡ with_file (distinct (take i files)) (get_or files i [])
 next files i h = fold_more with_file [] files i [] h
 
--- a file that was not seen has a value of its own
-pub new_values : (files : List (List ℕ)) (file : List ℕ) → list_any (bytes_eq file) files ≡ false
-    → (values values' : List Data) (value : Data) → values ≡ map artifact_data files → value ≡ artifact_data file
-    → values' ≡ values ++ value ∷ [] → values' ≡ map artifact_data (with_file files file)
-new_values files file new values values' value so_far is pushed =
-    pushed ∙ ap (λ v. values ++ v ∷ []) is ∙ ap (λ vs. vs ++ artifact_data file ∷ []) so_far
-    ∙ sym (map-append artifact_data files (file ∷ [])) ∙ ap (map artifact_data) (sym (new_file files file new))
+-- a file that was not seen is added
+pub new_files : (files : List (List ℕ)) (file : List ℕ) → list_any (bytes_eq file) files ≡ false
+    → (found found' : List (List ℕ)) → found ≡ files → found' ≡ found ++ file ∷ [] → found' ≡ with_file files file
+new_files files file new found found' so_far pushed =
+    pushed ∙ ap (λ fs. fs ++ file ∷ []) so_far ∙ sym (new_file files file new)
 
 -- and is seen from then on
 pub new_seen : (files : List (List ℕ)) (file : List ℕ) → list_any (bytes_eq file) files ≡ false

@@ -1,5 +1,6 @@
 pub mod Files
 pub mod LogFound
-pub mod LogText
-pub mod Results
+mod Appending
+mod Parts
+pub mod ToldOnce
 pub mod WaysTold

@@ -1,16 +1,22 @@
 -- What is told of alarms, a value more at a time.
 use Rattle.std.proofs.Common.{◌≡◌, ◌+◌, ◌∙◌, ℕ, List, [], ◌∷◌, ◌++◌, Bool, true, false, cond, refl, sym, ap, drop, map, take, append_assoc}
 use Rattle.std.specs.Prelude.{filter, sum, take_while}
-use Rattle.std.proofs.lemmas.List.{append-nil, drop-drop}
+use Rattle.std.proofs.lemmas.List.{drop-drop}
 use Rattle.std.proofs.lemmas.List.Sums.{sum_by-cons, take_while-cons}
+use Rattle.json.specs.Token.{Token, end_array}
+use Rattle.json.specs.Written.{Written}
 use Rattle.serde_json.specs.Data.{Data}
 use Rattle.place_details.specs.declared.regions.Region.{Region}
 use Rattle.report_reading.specs.Ways.{Way}
+use Rattle.report_reading.specs.declared.ways.WayKind.{WayKind}
+use Rattle.report_reading.specs.declared.ways.WayKind.TheVariants as Ways
 use Rattle.report_views.specs.Shares.{cut}
 use Rattle.report_views.specs.Spots.{Spot}
 use Rattle.report_logs.specs.Sarif.{WayTold, frame_data, is_call, is_with, is_with_kind, related_data, site_data, stack_here}
 use Rattle.report_logs.specs.Sarif.{stacks_data, ways_told}
-use Rattle.report_logs.specs.reading.Seen.{related_here}
+use Rattle.report_logs.specs.reading.Written.{Appends, Completes, last_tokens, related_tokens, stack_tokens}
+use Rattle.report_logs.specs.reading.Written.{value_tokens}
+use Rattle.report_logs.proofs.Appending.{ended, more}
 
 further : {A : Type 0} (whole done done' here rest : List A) → whole ≡ done ++ (here ++ rest) → done' ≡ done ++ here
     → whole ≡ done' ++ rest
@@ -36,50 +42,52 @@ ways_more ways sites regions i way site region whole done done' told one_way one
 
 -- a place more may belong to the alarm
 related_if : (b : Bool) (way : WayTold) (ways : List WayTold)
-    → map site_data (cond b (way ∷ filter is_with ways) (filter is_with ways)) ≡ related_here b way ++ related_data ways
+    → last_tokens (map site_data (cond b (way ∷ filter is_with ways) (filter is_with ways)))
+    ≡ related_tokens b way ++ last_tokens (related_data ways)
 related_if true way ways = refl
 related_if false way ways = refl
 
-pub related_more : (ways : List WayTold) (i : ℕ) (way : WayTold) (whole done done' : List Data)
-    → drop i ways ≡ way ∷ drop (i + 1) ways → whole ≡ done ++ related_data (drop i ways)
-    → done' ≡ done ++ related_here (is_with_kind way.kind) way → whole ≡ done' ++ related_data (drop (i + 1) ways)
-related_more ways i way whole done done' one so_far pushed =
-    further whole done done' (related_here (is_with_kind way.kind) way) (related_data (drop (i + 1) ways))
-    (so_far ∙ ap (λ w. done ++ related_data w) one
-    ∙ ap (λ r. done ++ r) (related_if (is_with_kind way.kind) way (drop (i + 1) ways)))
-    pushed
+pub related_more : {a b c : Written} {all : List Token} (now later : List WayTold) (way : WayTold) → now ≡ way ∷ later
+    → Completes a b all (last_tokens (related_data now)) → Appends b c (related_tokens (is_with_kind way.kind) way)
+    → Completes a c all (last_tokens (related_data later))
+related_more now later way is so_far wrote =
+    more so_far wrote (ap (λ w. last_tokens (related_data w)) is ∙ related_if (is_with_kind way.kind) way later)
 
 -- a call more belongs to the path
-pub frame_more : (behind : List WayTold) (i : ℕ) (call : WayTold) (whole done done' : List Data) (value : Data)
-    → drop i behind ≡ call ∷ drop (i + 1) behind → is_call call ≡ true
-    → whole ≡ done ++ map frame_data (take_while is_call (drop i behind)) → value ≡ frame_data call
-    → done' ≡ done ++ value ∷ [] → whole ≡ done' ++ map frame_data (take_while is_call (drop (i + 1) behind))
-frame_more behind i call whole done done' value one called so_far is pushed =
-    let rest : List WayTold = drop (i + 1) behind in
-    further whole done done' (value ∷ []) (map frame_data (take_while is_call rest))
-    (so_far ∙ ap (λ w. done ++ map frame_data (take_while is_call w)) one
-    ∙ ap (λ w. done ++ map frame_data w) (take_while-cons is_call call rest)
-    ∙ ap (λ b. done ++ map frame_data (cond b (call ∷ take_while is_call rest) [])) called
-    ∙ ap (λ v. done ++ (v ∷ map frame_data (take_while is_call rest))) (sym is))
-    pushed
+pub frame_more : {a b c : Written} {all : List Token} (now later : List WayTold) (call : WayTold) → now ≡ call ∷ later
+    → is_call call ≡ true → Completes a b all (last_tokens (map frame_data (take_while is_call now)))
+    → Appends b c (value_tokens (frame_data call))
+    → Completes a c all (last_tokens (map frame_data (take_while is_call later)))
+frame_more now later call is called so_far wrote =
+    more so_far wrote
+    (ap (λ w. last_tokens (map frame_data (take_while is_call w))) is
+    ∙ ap (λ w. last_tokens (map frame_data w)) (take_while-cons is_call call later)
+    ∙ ap (λ b. last_tokens (map frame_data (cond b (call ∷ take_while is_call later) []))) called)
 
 -- no call more belongs to it
-pub frames_end : (behind : List WayTold) (i : ℕ) (call : WayTold) (whole done : List Data)
-    → drop i behind ≡ call ∷ drop (i + 1) behind → is_call call ≡ false
-    → whole ≡ done ++ map frame_data (take_while is_call (drop i behind)) → done ≡ whole
-frames_end behind i call whole done one called so_far =
-    let rest : List WayTold = drop (i + 1) behind in
-    sym (so_far ∙ ap (λ w. done ++ map frame_data (take_while is_call w)) one
-    ∙ ap (λ w. done ++ map frame_data w) (take_while-cons is_call call rest)
-    ∙ ap (λ b. done ++ map frame_data (cond b (call ∷ take_while is_call rest) [])) called ∙ append-nil done)
+pub frames_end : {a b c : Written} {all : List Token} (now later : List WayTold) (call : WayTold) → now ≡ call ∷ later
+    → is_call call ≡ false → Completes a b all (last_tokens (map frame_data (take_while is_call now)))
+    → Appends b c (end_array ∷ []) → Appends a c all
+frames_end now later call is called so_far wrote =
+    ended so_far wrote
+    (ap (λ w. last_tokens (map frame_data (take_while is_call w))) is
+    ∙ ap (λ w. last_tokens (map frame_data w)) (take_while-cons is_call call later)
+    ∙ ap (λ b. last_tokens (map frame_data (cond b (call ∷ take_while is_call later) []))) called)
 
 -- a call path more may begin
-pub stack_more : (ways behind : List WayTold) (i : ℕ) (way : WayTold) (whole done done' : List Data)
-    → drop i ways ≡ way ∷ drop (i + 1) ways → behind ≡ drop (i + 1) ways → whole ≡ done ++ stacks_data (drop i ways)
-    → done' ≡ done ++ stack_here way.kind way behind → whole ≡ done' ++ stacks_data (drop (i + 1) ways)
-stack_more ways behind i way whole done done' one same so_far pushed =
-    further whole done done' (stack_here way.kind way (drop (i + 1) ways)) (stacks_data (drop (i + 1) ways))
-    (so_far ∙ ap (λ w. done ++ stacks_data w) one) (pushed ∙ ap (λ b. done ++ stack_here way.kind way b) same)
+stack_then : (kind : WayKind) (way : WayTold) (behind : List WayTold) (rest : List Data)
+    → last_tokens (stack_here kind way behind ++ rest) ≡ stack_tokens kind way behind ++ last_tokens rest
+stack_then Ways.With way behind rest = refl
+stack_then Ways.Path way behind rest = refl
+stack_then Ways.Call way behind rest = refl
+
+pub stack_more : {a b c : Written} {all : List Token} (now later behind : List WayTold) (way : WayTold)
+    → now ≡ way ∷ later → behind ≡ later → Completes a b all (last_tokens (stacks_data now))
+    → Appends b c (stack_tokens way.kind way behind) → Completes a c all (last_tokens (stacks_data later))
+stack_more now later behind way is same so_far wrote =
+    more so_far wrote
+    (ap (λ w. last_tokens (stacks_data w)) is ∙ stack_then way.kind way later (stacks_data later)
+    ∙ ap (λ w. stack_tokens way.kind way w ++ last_tokens (stacks_data later)) (sym same))
 
 -- what the next finding has of it, and what is left for those behind
 pub share_at : {A : Type 0} (counts : List ℕ) (items : List A) (i start count : ℕ)

@@ -71,12 +71,15 @@ notification_data refusal places =
 abbrev pub refused_code : ℕ
 refused_code = 2
 
+-- the analysis that was refused
+abbrev pub refused_invocation : List ℕ → List ℕ → Refusal → Option Origin → Data
+refused_invocation text lines refusal origin =
+    invocation_data false refused_code (notification_data refusal (refused_places text lines refusal origin) ∷ [])
+
 -- the run in which a source of this name was refused: it has no results
 abbrev pub refused_data : List ℕ → List ℕ → List ℕ → List ℕ → Refusal → Option Origin → Data
 refused_data documents name text lines refusal origin =
-    run_data documents
-    (invocation_data false refused_code (notification_data refusal (refused_places text lines refusal origin) ∷ []))
-    (uri_text name ∷ refused_files origin) []
+    run_data documents (refused_invocation text lines refusal origin) (uri_text name ∷ refused_files origin) []
 
 -- the log of that run in one line
 abbrev pub refused_line : List ℕ → List ℕ → List ℕ → List ℕ → Refusal → Option Origin → List ℕ

@@ -1,2 +1,3 @@
 -- How the definitions see what the code holds.
 pub mod Seen
+pub mod Written

@@ -12,9 +12,12 @@ pub mod laws;
 mod logs;
 mod places;
 mod refusals;
+mod results;
 mod sarif;
 mod stacks;
+mod tool;
 mod uris;
+mod writing;
 
 pub use logs::{Answers, Frame, log};
 pub use refusals::{Refusal, refusal_log};

@@ -1,20 +1,24 @@
 //! The log of a refusal.
 
-ghost use Rattle.std.specs.Prelude.{◌≡◌, ◌∷◌, map, option_map, IfOk, string_bytes};
-ghost use Rattle.serde_json.specs.View.{view};
+ghost use Rattle.std.specs.Prelude.{◌≡◌, ◌∷◌, map, option_map, IfOk, OnOk, string_bytes};
+ghost use Rattle.serde_json.specs.Data.{array};
+ghost use Rattle.serde_json.specs.View.{items_of};
 ghost use Rattle.source_marks.specs.reading.Seen.{origin_seen};
 ghost use Rattle.report_logs.specs.Refusals.{file_line, notification_data, origin_file, origin_of, refused_data};
-ghost use Rattle.report_logs.specs.Refusals.{refused_files, refused_line, refused_place, refused_places};
-ghost use Rattle.report_logs.specs.Refusals.{refusal_text};
+ghost use Rattle.report_logs.specs.Refusals.{refused_files, refused_invocation, refused_line, refused_place};
+ghost use Rattle.report_logs.specs.Refusals.{refused_places, refusal_text};
+ghost use Rattle.report_logs.specs.Sarif.{log_data};
 ghost use Rattle.report_logs.specs.Uris.{uri_text};
 ghost use Rattle.report_logs.specs.reading.Seen.{refusal_seen};
+ghost use Rattle.report_logs.specs.reading.Written.{AppendsValue};
 
 use crate::logs::{Frame, details_in, name_in};
-use crate::places::location_value;
-use crate::sarif::{invocation_value, log_value, run_value, value_line};
+use crate::places::write_location;
+use crate::sarif::{write_back, write_front, write_invocation_front, written_line};
 use crate::uris::uri;
+use crate::writing::{write_string, write_text};
+use json::Writer;
 use place_details::Sight;
-use serde_json::{Value, json};
 use source_marks::{MarkFail, Origin, line_origins};
 use std::alloc::{AllocError, Global};
 use tm_lattice::NoMemory;
@@ -70,16 +74,17 @@ fn origin_file(alloc: Global, origin: Origin<'_>) -> Result<String, AllocError>
     uri(alloc, &name)
 }
 
-/// Where a refusal stands, in its file.
-fn refused_place(
+/// Writes where a refusal stands, in its file.
+fn write_refused_place(
     alloc: Global,
+    out: &mut Writer,
     text: &[u8],
     lines: &[u8],
     refusal: Refusal<'_>,
     origin: Origin<'_>,
-) -> Result<Value, AllocError>
-    ensures { IfOk result (λ value. view value
-        ≡ refused_place text.now lines.now (refusal_seen refusal.entry) (origin_seen origin.entry)) }
+) -> Result<(), AllocError>
+    ensures { OnOk result (AppendsValue out.old out.new
+        (refused_place text.now lines.now (refusal_seen refusal.entry) (origin_seen origin.entry))) }
 {
     let file = origin_file(alloc, origin)?;
     let sight = Sight {
@@ -88,31 +93,36 @@ fn refused_place(
         word: refusal.word,
     };
     let details = details_in(alloc, b"", text, lines, &[sight])?;
-    location_value(
+    write_location(
         alloc,
-        file,
+        out,
+        file.as_str(),
         origin.line,
         details.regions[0],
         details.functions[0],
     )
 }
 
-/// The place of a refusal, if the text tells it.
-fn refused_places(
+/// Writes the place of a refusal, if the text tells it.
+fn write_refused_places(
     alloc: Global,
+    out: &mut Writer,
     text: &[u8],
     lines: &[u8],
     refusal: Refusal<'_>,
     origin: Option<Origin<'_>>,
-) -> Result<Vec<Value>, AllocError>
-    ensures { IfOk result (λ values. map view values.items
-        ≡ refused_places text.now lines.now (refusal_seen refusal.entry) (option_map origin_seen origin.entry)) }
+) -> Result<(), AllocError>
+    ensures { OnOk result (AppendsValue out.old out.new (array (items_of
+        (refused_places text.now lines.now (refusal_seen refusal.entry) (option_map origin_seen origin.entry))))) }
 {
-    let mut values = Vec::new(alloc);
-    if let Some(origin) = origin {
-        values.push(refused_place(alloc, text, lines, refusal, origin)?)?;
+    out.begin_array()?;
+    match origin {
+        None => out.end_array(),
+        Some(origin) => {
+            write_refused_place(alloc, out, text, lines, refusal, origin)?;
+            out.end_array()
+        }
     }
-    Ok(values)
 }
 
 /// The file that is analysed, and that of the refusal, if the text tells it.
@@ -132,43 +142,70 @@ fn refused_files(
     Ok(files)
 }
 
-/// What the tool tells of itself.
-fn notification_value(
+/// Writes what the tool tells of itself.
+fn write_notification(
     alloc: Global,
+    out: &mut Writer,
+    text: &[u8],
+    lines: &[u8],
     refusal: Refusal<'_>,
-    places: Vec<Value>,
-) -> Result<Value, AllocError>
-    ensures { IfOk result (λ value. view value
-        ≡ notification_data (refusal_seen refusal.entry) (map view places.items)) }
+    origin: Option<Origin<'_>>,
+) -> Result<(), AllocError>
+    ensures { OnOk result (AppendsValue out.old out.new (notification_data (refusal_seen refusal.entry)
+        (refused_places text.now lines.now (refusal_seen refusal.entry) (option_map origin_seen origin.entry)))) }
 {
-    let word = refusal.word;
-    let said = refusal.said;
-    json!(in alloc; {
-        "descriptor": {"id": word},
-        "level": "error",
-        "locations": Value::Array(places),
-        "message": {"text": said}
-    })
+    out.begin_object()?;
+    out.key("descriptor")?;
+    out.begin_object()?;
+    write_string(out, "id", refusal.word)?;
+    out.end_object()?;
+    write_string(out, "level", "error")?;
+    out.key("locations")?;
+    write_refused_places(alloc, out, text, lines, refusal, origin)?;
+    out.key("message")?;
+    write_text(out, refusal.said)?;
+    out.end_object()
 }
 
-/// The run in which a source was refused.
-fn refused_value(
+/// Writes the analysis that was refused.
+fn write_refused_invocation(
     alloc: Global,
+    out: &mut Writer,
+    frame: Frame<'_, '_>,
+    refusal: Refusal<'_>,
+    origin: Option<Origin<'_>>,
+) -> Result<(), AllocError>
+    ensures { OnOk result (AppendsValue out.old out.new (refused_invocation frame.entry.text.now frame.entry.lines.now
+        (refusal_seen refusal.entry) (option_map origin_seen origin.entry))) }
+{
+    write_invocation_front(out, false, REFUSED)?;
+    write_notification(alloc, out, frame.text, frame.lines, refusal, origin)?;
+    out.end_array()?;
+    out.end_object()
+}
+
+/// Writes the log of a refusal.
+fn write_refused(
+    alloc: Global,
+    out: &mut Writer,
     documents: &[u8],
     name: &[u8],
     frame: Frame<'_, '_>,
     refusal: Refusal<'_>,
     origin: Option<Origin<'_>>,
-) -> Result<Value, AllocError>
-    ensures { IfOk result (λ value. view value ≡ refused_data documents.now name.now frame.entry.text.now
-        frame.entry.lines.now (refusal_seen refusal.entry) (option_map origin_seen origin.entry)) }
+) -> Result<(), AllocError>
+    ensures { OnOk result (AppendsValue out.old out.new (log_data (refused_data documents.now name.now
+        frame.entry.text.now frame.entry.lines.now (refusal_seen refusal.entry)
+        (option_map origin_seen origin.entry)))) }
 {
-    let places = refused_places(alloc, frame.text, frame.lines, refusal, origin)?;
-    let mut told = Vec::new(alloc);
-    told.push(notification_value(alloc, refusal, places)?)?;
     let files = refused_files(alloc, name, origin)?;
-    let invocation = invocation_value(alloc, false, REFUSED, told)?;
-    run_value(alloc, documents, invocation, &files, Vec::new(alloc))
+    write_front(alloc, out, &files)?;
+    write_refused_invocation(alloc, out, frame, refusal, origin)?;
+    out.end_array()?;
+    out.key("results")?;
+    out.begin_array()?;
+    out.end_array()?;
+    write_back(alloc, out, documents)
 }
 
 /// The log of that run in one line.
@@ -183,9 +220,9 @@ fn refused_line(
     ensures { IfOk result (λ log. log.items ≡ refused_line documents.now name.now frame.entry.text.now
         frame.entry.lines.now (refusal_seen refusal.entry) (option_map origin_seen origin.entry)) }
 {
-    let run = refused_value(alloc, documents, name, frame, refusal, origin)?;
-    let value = log_value(alloc, run)?;
-    value_line(alloc, &value)
+    let mut out = Writer::new(Vec::new(alloc));
+    write_refused(alloc, &mut out, documents, name, frame, refusal, origin)?;
+    written_line(out)
 }
 
 /// The log of a refusal.

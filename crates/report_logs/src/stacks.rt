@@ -1,19 +1,22 @@
 //! What is told of alarms, in the format SARIF 2.1.0: the places that belong to each, and the call paths on which
 //! control comes to it.
 
-ghost use Rattle.std.specs.Prelude.{◌≡◌, ◌∷◌, ◌++◌, length, map, take_while, IfOk, OnOk};
-ghost use Rattle.serde_json.specs.View.{view};
+ghost use Rattle.std.specs.Prelude.{◌≡◌, ◌∷◌, length, map, take_while, IfOk, OnOk};
+ghost use Rattle.serde_json.specs.Data.{array};
+ghost use Rattle.serde_json.specs.View.{items_of};
 ghost use Rattle.report_reading.specs.reading.Told.{way_seen};
 ghost use Rattle.report_views.specs.reading.Seen.{spot_seen};
 ghost use Rattle.report_logs.specs.Sarif.{frame_data, is_call, is_call_kind, is_with_kind, related_data, site_data};
-ghost use Rattle.report_logs.specs.Sarif.{stack_data, stack_here, stacks_data, ways_told};
-ghost use Rattle.report_logs.specs.reading.Seen.{related_here, way_told_seen};
+ghost use Rattle.report_logs.specs.Sarif.{stack_data, stacks_data, ways_told};
+ghost use Rattle.report_logs.specs.reading.Seen.{way_told_seen};
+ghost use Rattle.report_logs.specs.reading.Written.{Appends, AppendsValue, related_tokens, stack_tokens};
 
-use crate::places::{file_of, physical_value};
+use crate::places::{LastFile, turn_to, write_physical};
+use crate::writing::write_text;
+use json::Writer;
 use place_details::Region;
 use report_reading::{Way, WayKind};
 use report_views::Spot;
-use serde_json::{Value, json};
 use std::alloc::{AllocError, Global};
 
 /// What is told of an alarm: what it is, its sentence, and where that begins and ends in its file.
@@ -69,14 +72,22 @@ pub fn ways_told<'s, 't>(
     Ok(told)
 }
 
-/// Where something stands, with its sentence.
-fn site_value(alloc: Global, way: WayTold<'_, '_>) -> Result<Value, AllocError>
-    ensures { IfOk result (λ value. view value ≡ site_data (way_told_seen way.entry)) }
+/// Writes where something stands, with its sentence.
+fn write_site<'s>(
+    alloc: Global,
+    out: &mut Writer,
+    last: &mut LastFile<'s>,
+    way: WayTold<'s, '_>,
+) -> Result<(), AllocError>
+    ensures { OnOk result (AppendsValue out.old out.new (site_data (way_told_seen way.entry))) }
 {
-    let file = file_of(alloc, way.spot)?;
-    let place = physical_value(alloc, file, way.spot.origin.line, way.region)?;
-    let said = way.said;
-    json!(in alloc; {"message": {"text": said}, "physicalLocation": place})
+    turn_to(alloc, last, way.spot)?;
+    out.begin_object()?;
+    out.key("message")?;
+    write_text(out, way.said)?;
+    out.key("physicalLocation")?;
+    write_physical(out, last.uri.as_str(), way.spot.origin.line, way.region)?;
+    out.end_object()
 }
 
 /// Whether it is a place that belongs to the alarm.
@@ -101,105 +112,128 @@ fn is_call(kind: WayKind) -> bool
     }
 }
 
-/// Adds a place that belongs to the alarm, if this is one.
-fn push_related(
+/// Writes a place that belongs to the alarm, if this is one.
+fn write_related_here<'s>(
     alloc: Global,
-    values: &mut Vec<Value>,
-    way: WayTold<'_, '_>,
+    out: &mut Writer,
+    last: &mut LastFile<'s>,
+    way: WayTold<'s, '_>,
 ) -> Result<(), AllocError>
-    ensures { OnOk result (map view values.new.items
-        ≡ map view values.old.items ++ related_here (is_with_kind way.entry.kind) (way_told_seen way.entry)) }
+    ensures { OnOk result (Appends out.old out.new
+        (related_tokens (is_with_kind way.entry.kind) (way_told_seen way.entry))) }
 {
     if is_with(way.kind) {
-        let value = site_value(alloc, way)?;
-        values.push(value)?;
+        write_site(alloc, out, last, way)
+    } else {
+        Ok(())
     }
-    Ok(())
 }
 
-/// The places that belong to an alarm.
-pub fn related_values(alloc: Global, ways: &[WayTold<'_, '_>]) -> Result<Vec<Value>, AllocError>
-    ensures { IfOk result (λ values. map view values.items ≡ related_data (map way_told_seen ways.now)) }
-{
-    let mut values = Vec::new(alloc);
-    for i in 0..ways.len() {
-        push_related(alloc, &mut values, ways[i])?;
-    }
-    Ok(values)
-}
-
-/// A place of a call path.
-fn frame_value(alloc: Global, way: WayTold<'_, '_>) -> Result<Value, AllocError>
-    ensures { IfOk result (λ value. view value ≡ frame_data (way_told_seen way.entry)) }
-{
-    let site = site_value(alloc, way)?;
-    json!(in alloc; {"location": site})
-}
-
-/// The places of a call path that begins with this one, from the innermost on.
-fn frame_values(
+/// Writes the places that belong to an alarm.
+pub fn write_related<'s>(
     alloc: Global,
-    way: WayTold<'_, '_>,
-    behind: &[WayTold<'_, '_>],
-) -> Result<Vec<Value>, AllocError>
-    ensures { IfOk result (λ values. map view values.items ≡ map frame_data
-        (way_told_seen way.entry ∷ take_while is_call (map way_told_seen behind.now))) }
+    out: &mut Writer,
+    last: &mut LastFile<'s>,
+    ways: &[WayTold<'s, '_>],
+) -> Result<(), AllocError>
+    ensures { OnOk result (AppendsValue out.old out.new
+        (array (items_of (related_data (map way_told_seen ways.now))))) }
 {
-    let mut values = Vec::new(alloc);
-    values.push(frame_value(alloc, way)?)?;
+    out.begin_array()?;
+    for i in 0..ways.len() {
+        write_related_here(alloc, out, last, ways[i])?;
+    }
+    out.end_array()
+}
+
+/// Writes a place of a call path.
+fn write_frame<'s>(
+    alloc: Global,
+    out: &mut Writer,
+    last: &mut LastFile<'s>,
+    way: WayTold<'s, '_>,
+) -> Result<(), AllocError>
+    ensures { OnOk result (AppendsValue out.old out.new (frame_data (way_told_seen way.entry))) }
+{
+    out.begin_object()?;
+    out.key("location")?;
+    write_site(alloc, out, last, way)?;
+    out.end_object()
+}
+
+/// Writes the places of a call path that begins with this one, from the innermost on.
+fn write_frames<'s>(
+    alloc: Global,
+    out: &mut Writer,
+    last: &mut LastFile<'s>,
+    way: WayTold<'s, '_>,
+    behind: &[WayTold<'s, '_>],
+) -> Result<(), AllocError>
+    ensures { OnOk result (AppendsValue out.old out.new (array (items_of (map frame_data
+        (way_told_seen way.entry ∷ take_while is_call (map way_told_seen behind.now)))))) }
+{
+    out.begin_array()?;
+    write_frame(alloc, out, last, way)?;
     for i in 0..behind.len() {
         let call = behind[i];
         if !is_call(call.kind) {
-            return Ok(values);
+            return out.end_array();
         }
-        let value = frame_value(alloc, call)?;
-        values.push(value)?;
+        write_frame(alloc, out, last, call)?;
     }
-    Ok(values)
+    out.end_array()
 }
 
-/// A call path that begins with this place.
-fn stack_value(
+/// Writes a call path that begins with this place.
+fn write_stack<'s>(
     alloc: Global,
-    way: WayTold<'_, '_>,
-    behind: &[WayTold<'_, '_>],
-) -> Result<Value, AllocError>
-    ensures { IfOk result (λ value. view value
-        ≡ stack_data (way_told_seen way.entry) (map way_told_seen behind.now)) }
-{
-    let frames = frame_values(alloc, way, behind)?;
-    let said = way.said;
-    json!(in alloc; {"frames": Value::Array(frames), "message": {"text": said}})
-}
-
-/// Adds a call path, where one begins here.
-fn push_stack(
-    alloc: Global,
-    values: &mut Vec<Value>,
-    way: WayTold<'_, '_>,
-    behind: &[WayTold<'_, '_>],
+    out: &mut Writer,
+    last: &mut LastFile<'s>,
+    way: WayTold<'s, '_>,
+    behind: &[WayTold<'s, '_>],
 ) -> Result<(), AllocError>
-    ensures { OnOk result (map view values.new.items ≡ map view values.old.items
-        ++ stack_here way.entry.kind (way_told_seen way.entry) (map way_told_seen behind.now)) }
+    ensures { OnOk result (AppendsValue out.old out.new
+        (stack_data (way_told_seen way.entry) (map way_told_seen behind.now))) }
+{
+    out.begin_object()?;
+    out.key("frames")?;
+    write_frames(alloc, out, last, way, behind)?;
+    out.key("message")?;
+    write_text(out, way.said)?;
+    out.end_object()
+}
+
+/// Writes a call path, where one begins here.
+fn write_stack_here<'s>(
+    alloc: Global,
+    out: &mut Writer,
+    last: &mut LastFile<'s>,
+    way: WayTold<'s, '_>,
+    behind: &[WayTold<'s, '_>],
+) -> Result<(), AllocError>
+    ensures { OnOk result (Appends out.old out.new
+        (stack_tokens way.entry.kind (way_told_seen way.entry) (map way_told_seen behind.now))) }
 {
     match way.kind {
         WayKind::With => Ok(()),
-        WayKind::Path => {
-            let value = stack_value(alloc, way, behind)?;
-            values.push(value)?;
-            Ok(())
-        }
+        WayKind::Path => write_stack(alloc, out, last, way, behind),
         WayKind::Call => Ok(()),
     }
 }
 
-/// The call paths of an alarm.
-pub fn stack_values(alloc: Global, ways: &[WayTold<'_, '_>]) -> Result<Vec<Value>, AllocError>
-    ensures { IfOk result (λ values. map view values.items ≡ stacks_data (map way_told_seen ways.now)) }
+/// Writes the call paths of an alarm.
+pub fn write_stacks<'s>(
+    alloc: Global,
+    out: &mut Writer,
+    last: &mut LastFile<'s>,
+    ways: &[WayTold<'s, '_>],
+) -> Result<(), AllocError>
+    ensures { OnOk result (AppendsValue out.old out.new
+        (array (items_of (stacks_data (map way_told_seen ways.now))))) }
 {
-    let mut values = Vec::new(alloc);
+    out.begin_array()?;
     for i in 0..ways.len() {
-        push_stack(alloc, &mut values, ways[i], &ways[i + 1..])?;
+        write_stack_here(alloc, out, last, ways[i], &ways[i + 1..])?;
     }
-    Ok(values)
+    out.end_array()
 }

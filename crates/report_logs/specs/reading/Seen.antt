@@ -1,25 +1,20 @@
 -- What the code holds, as the definitions see it.
-use Rattle.std.specs.Prelude.{◌≡◌, ℕ, Bool, true, false, List, [], ◌∷◌, length, map, sum, bytes_eq, is_some, String}
+use Rattle.std.specs.Prelude.{◌≡◌, ℕ, Bool, List, length, map, sum, bytes_eq, is_some, String}
 use Rattle.std.specs.Borrow.{Bor}
 use Rattle.std.specs.HashMap.{HashMap, get_by}
 use Rattle.std.specs.List.{list_any}
 use Rattle.std.specs.declared.alloc.Global.{Global}
-use Rattle.serde_json.specs.Data.{Data, Members}
-use Rattle.serde_json.specs.View.{view}
-use Rattle.serde_json.specs.declared.value.Value.{Value}
 use Rattle.place_details.specs.declared.regions.Region.{Region}
 use Rattle.place_details.specs.Details.{region_of}
+use Rattle.place_details.specs.reading.Seen.{bytes_seen}
 use Rattle.report_reading.specs.Ways.{Way}
 use Rattle.report_views.specs.Causes.{Answers}
-use Rattle.report_views.specs.Sentences.{level_text, rule_sentence, rule_text}
 use Rattle.report_views.specs.Shares.{site_of}
 use Rattle.report_views.specs.Spots.{Spot}
-use Rattle.report_views.specs.declared.sentences.Rule.{Rule}
 use Rattle.report_views.specs.reading.Seen.{spot_seen}
 use Rattle.report_logs.specs.Logs.{sights_of}
-use Rattle.report_logs.specs.Sarif.{Told, WayTold, artifact_data, result_parts, rule_number, site_data, text_data}
-use Rattle.report_logs.specs.Sarif.{ways_told}
-use Rattle.report_logs.specs.declared.sarif.Told.{Told as ToldCode}
+use Rattle.report_logs.specs.Sarif.{Told, WayTold, ways_told}
+use Rattle.report_logs.specs.declared.results.Told.{Told as ToldCode}
 use Rattle.report_logs.specs.declared.stacks.WayTold.{WayTold as WayToldCode}
 use Rattle.report_logs.specs.Refusals.{Refusal}
 use Rattle.report_logs.specs.declared.refusals.Refusal.{Refusal as RefusalCode}
@@ -68,19 +63,8 @@ pub record AreSharedOut (count : ℕ) (counts : List ℕ) (told : ℕ) : Type 0 
 abbrev pub told_at : List ℕ → List ℕ → List Way → List Spot → List WayTold
 told_at text lines ways sites = ways_told ways sites (map (region_of text lines) (sights_of (map site_of ways) sites))
 
--- the members of a result, by what belongs to it
-abbrev pub parts_of : Rule → Data → Data → List Data → List Data → Members
-parts_of rule location marks related stacks =
-    result_parts (level_text rule) location (text_data (rule_sentence rule)) marks related (rule_text rule)
-    (rule_number rule) stacks
-
--- the place that belongs to an alarm, if this is one
-abbrev pub related_here : Bool → WayTold → List Data
-related_here true way = site_data way ∷ []
-related_here false way = []
-
--- the values are those of files, and these are the ones that were seen
-pub record HasFiles {S : Type 0} (files : List (List ℕ)) (values : List Value) (seen : HashMap (Bor (List ℕ)) Bool S)
-    : Type 0 where
-  pub told : map view values ≡ map artifact_data files
+-- these are the files, and the ones that were seen
+pub record HasFiles {S : Type 0} (files : List (List ℕ)) (found : List (Bor (List ℕ)))
+    (seen : HashMap (Bor (List ℕ)) Bool S) : Type 0 where
+  pub told : map bytes_seen found ≡ files
   pub known : (q : List ℕ) → is_some (get_by (λ k. bytes_eq q k.now) seen) ≡ list_any (bytes_eq q) files

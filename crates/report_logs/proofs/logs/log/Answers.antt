@@ -7,7 +7,7 @@ use Rattle.report_reading.specs.reading.Told.{way_seen}
 use Rattle.report_logs.specs.Logs.{IsLog, IsLogged}
 use Rattle.report_logs.specs.reading.Seen.{answers_seen}
 use Rattle.report_logs.proofs.LogFound.{if_ok_by, log_of, misplaced_log, strange_log}
-use Rattle.report_logs.proofs.Results.{as_many_shares}
+use Rattle.report_logs.proofs.ToldOnce.{as_many_shares}
 use Rattle.report_logs.proofs.logs.log.Goals as goal
 
 pub returns-in_err-counts-clause-refused : goal.returns-in_err-counts-clause-refused

@@ -7,7 +7,7 @@ use Rattle.report_views.specs.Shares.{site_of}
 use Rattle.report_views.specs.reading.Seen.{spot_seen}
 use Rattle.report_logs.specs.reading.Seen.{way_told_seen}
 use Rattle.report_logs.proofs.LogFound.{misplaced_behind, misplaced_in_front}
-use Rattle.report_logs.proofs.Results.{as_many_sites, as_many_spots, as_many_told_at}
+use Rattle.report_logs.proofs.ToldOnce.{as_many_sites, as_many_spots, as_many_told_at}
 use Rattle.report_logs.proofs.logs.logged.Goals as goal
 
 pub returns-in_err-spots-clause-refused : goal.returns-in_err-spots-clause-refused

@@ -2,7 +2,7 @@ use Rattle.std.proofs.Common.{arith, ◌∙◌, ap, map}
 use Rattle.std.proofs.lemmas.List.{map-append}
 use Rattle.place_details.specs.reading.Seen.{sight_seen}
 use Rattle.report_views.specs.reading.Seen.{spot_seen}
-use Rattle.report_logs.proofs.Results.{item_at, next, sights_more}
+use Rattle.report_logs.proofs.ToldOnce.{item_at, next, sights_more}
 use Rattle.report_logs.proofs.logs.sights_of.Goals as goal
 
 pub loop-i-preserved : goal.loop-i-preserved

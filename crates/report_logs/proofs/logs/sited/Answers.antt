@@ -2,7 +2,7 @@ use Rattle.std.proofs.Common.{◌∙◌, ap, length, map, sym}
 use Rattle.std.proofs.lemmas.List.{length-map}
 use Rattle.source_marks.specs.reading.Seen.{origin_seen}
 use Rattle.report_views.specs.reading.Seen.{spot_seen}
-use Rattle.report_logs.proofs.Results.{as_many_spots}
+use Rattle.report_logs.proofs.ToldOnce.{as_many_spots}
 use Rattle.report_logs.proofs.logs.sited.Goals as goal
 
 pub told_at-requires-clause-sites : goal.told_at-requires-clause-sites

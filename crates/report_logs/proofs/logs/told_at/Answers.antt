@@ -3,7 +3,7 @@ use Rattle.std.proofs.lemmas.List.{length-map}
 use Rattle.place_details.specs.reading.Seen.{sight_seen}
 use Rattle.report_reading.specs.reading.Told.{way_seen}
 use Rattle.report_views.specs.reading.Seen.{spot_seen}
-use Rattle.report_logs.proofs.Results.{as_many_regions}
+use Rattle.report_logs.proofs.ToldOnce.{as_many_regions}
 use Rattle.report_logs.proofs.logs.told_at.Goals as goal
 
 pub ways_told-requires-clause-regions : goal.ways_told-requires-clause-regions

@@ -3,7 +3,7 @@ use Rattle.place_details.specs.reading.Seen.{sight_seen}
 use Rattle.report_views.specs.reading.Seen.{spot_seen}
 use Rattle.report_logs.specs.reading.Seen.{way_told_seen}
 use Rattle.report_logs.proofs.LogFound.{if_ok_by, written_of}
-use Rattle.report_logs.proofs.Results.{as_many_told}
+use Rattle.report_logs.proofs.ToldOnce.{as_many_told}
 use Rattle.report_logs.proofs.logs.written.Goals as goal
 
 pub sarif_log-requires : goal.sarif_log-requires

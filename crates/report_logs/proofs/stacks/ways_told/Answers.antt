@@ -3,7 +3,7 @@ use Rattle.std.proofs.lemmas.List.{map-append}
 use Rattle.report_reading.specs.reading.Told.{way_seen}
 use Rattle.report_views.specs.reading.Seen.{spot_seen}
 use Rattle.report_logs.specs.reading.Seen.{way_told_seen}
-use Rattle.report_logs.proofs.Results.{item_at, next}
+use Rattle.report_logs.proofs.ToldOnce.{item_at, next}
 use Rattle.report_logs.proofs.WaysTold.{ways_more}
 use Rattle.report_logs.proofs.stacks.ways_told.Goals as goal
 

@@ -1,0 +1,7 @@
+use Rattle.report_logs.proofs.Appending.{one, then, last}
+use Rattle.report_logs.proofs.stacks.write_frame.Goals as goal
+
+pub returns : goal.returns
+returns c =
+    last c.end_object.result c.end_object.ensures
+    (λ e. then (one c.in_ok-begin_object.ensures) (then (one c.in_ok-key.ensures) (then c.in_ok-write_site.ensures (e))))
