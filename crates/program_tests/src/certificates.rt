@@ -2,6 +2,7 @@
 //! grammar of certificates. `benches/forged.py` has many more certificates in which something is changed.
 
 use crate::alone::{expect_alone, number_alone, owned};
+use crate::forms::joined;
 use std::alloc::Global;
 use std::process::Abort;
 use std::test::Fail;
@@ -256,7 +257,7 @@ fn expect_certified(
     report: &str,
 ) -> Result<(), Fail> {
     let certificate = certificate_of(rt, alloc, source)?;
-    let text = format!(in alloc; "{report}certified\n")?;
+    let text = joined(alloc, &[report, "certified\n"])?;
     expect_alone(
         rt,
         alloc,

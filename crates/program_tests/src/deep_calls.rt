@@ -2,30 +2,20 @@
 //! and trees would need more stack than a main thread has.
 
 use crate::commands::expect;
+use crate::forms::push_form;
 use std::alloc::Global;
 use std::test::Fail;
-
-/// The text `fK`.
-fn push_name(alloc: Global, text: &mut String, number: u32) -> Result<(), Fail> {
-    let name = format!(in alloc; "f{number}")?;
-    text.push_str(&name)?;
-    Ok(())
-}
 
 /// `int f0(void){return 1;}`, then for K from 1 to 394 `int fK(void){return + + .. + f(K-1)();}` with 480 signs, a task
 /// that stores what the last one gives, and the two choices with which it does so.
 fn deep_source(alloc: Global) -> Result<String, Fail> {
     let mut text = String::from_str(alloc, "int f0(void){return 1;}\n")?;
-    for callee in 0..394u32 {
-        text.push_str("int ")?;
-        push_name(alloc, &mut text, callee + 1)?;
-        text.push_str("(void){return")?;
+    for callee in 0..394 {
+        push_form(alloc, &mut text, "int f#(void){return", &[callee + 1])?;
         for _sign in 0..480 {
             text.push_str(" +")?;
         }
-        text.push_str(" ")?;
-        push_name(alloc, &mut text, callee)?;
-        text.push_str("();}\n")?;
+        push_form(alloc, &mut text, " f#();}\n", &[callee])?;
     }
     text.push_str("int x;__task(1) void t(void){x=f394();}\n#replay\nwake 0\nrun 0 0\n")?;
     Ok(text)

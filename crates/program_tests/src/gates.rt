@@ -1,6 +1,7 @@
 //! Workers beside each other, as a gate sees them.
 
 use crate::alone::{assert_answer, owned};
+use crate::forms::push_form;
 use analyser::analyse;
 use held_passes::HoldsTheFirst;
 use std::alloc::Global;
@@ -90,9 +91,13 @@ fn two_workers_work_where_no_history_is_asked_for(rt: HostRuntime) -> Result<(),
 /// Sixteen tasks, each of which stores to one object: a line each, from the second on.
 fn sixteen_tasks(alloc: Global) -> Result<String, Fail> {
     let mut text = String::from_str(alloc, "int x;\n")?;
-    for number in 10..26u32 {
-        let task = format!(in alloc; "__task(1) void t{number}(void){{x=1;}}\n")?;
-        text.push_str(&task)?;
+    for number in 10..26 {
+        push_form(
+            alloc,
+            &mut text,
+            "__task(1) void t#(void){x=1;}\n",
+            &[number],
+        )?;
     }
     Ok(text)
 }
@@ -100,9 +105,8 @@ fn sixteen_tasks(alloc: Global) -> Result<String, Fail> {
 /// Each of these stores races.
 fn sixteen_races(alloc: Global) -> Result<String, Fail> {
     let mut text = String::new(alloc);
-    for line in 2..18u32 {
-        let race = format!(in alloc; "{line}:27 RACE\n")?;
-        text.push_str(&race)?;
+    for line in 2..18 {
+        push_form(alloc, &mut text, "#:27 RACE\n", &[line])?;
     }
     text.push_str("alarms 16\n")?;
     Ok(text)

@@ -1,6 +1,7 @@
 //! Devices that fail at each of their calls, give and take one byte a call, and a source that is cut off at each byte.
 
 use crate::alone::{assert_answer, owned};
+use crate::forms::push_form;
 use analyser::analyse;
 use std::alloc::Global;
 use std::process::Abort;
@@ -169,7 +170,8 @@ fn is_refusal(text: &[u8]) -> bool {
 
 /// Whether the text is a report with this number of lines besides the last.
 fn is_report(alloc: Global, text: &[u8], alarms: usize) -> Result<bool, Fail> {
-    let last = format!(in alloc; "alarms {alarms}\n")?;
+    let mut last = String::new(alloc);
+    push_form(alloc, &mut last, "alarms #\n", &[alarms])?;
     Ok(text.ends_with(last.as_bytes()))
 }
 

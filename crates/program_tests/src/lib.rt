@@ -22,6 +22,8 @@ mod deep_calls;
 #[cfg(test)]
 mod findings;
 #[cfg(test)]
+mod forms;
+#[cfg(test)]
 mod gates;
 #[cfg(test)]
 mod hostile;

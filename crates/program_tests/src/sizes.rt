@@ -4,6 +4,7 @@
 
 use crate::alone::{expect_alone, owned};
 use crate::commands::expect_words;
+use crate::forms::{push_form, push_number};
 use crate::gates::lines_with;
 use analyser::analyse;
 use std::alloc::Global;
@@ -48,11 +49,9 @@ fn divisions_report(alloc: Global) -> Result<String, Fail> {
     for at in 0..DIVISIONS {
         let line = at.saturating_add(3);
         let col = at.saturating_add(4);
-        let alarm = format!(in alloc; "{line}:{col} DIV\n")?;
-        text.push_str(&alarm)?;
+        push_form(alloc, &mut text, "#:# DIV\n", &[line, col])?;
     }
-    let count = format!(in alloc; "alarms {}\n", DIVISIONS)?;
-    text.push_str(&count)?;
+    push_form(alloc, &mut text, "alarms #\n", &[DIVISIONS])?;
     Ok(text)
 }
 
@@ -65,11 +64,14 @@ fn divisions_json(alloc: Global) -> Result<String, Fail> {
         }
         let line = at.saturating_add(3);
         let col = at.saturating_add(4);
-        let alarm = format!(in alloc; "{{\"class\":\"DIV\",\"col\":{col},\"line\":{line}}}")?;
-        text.push_str(&alarm)?;
+        push_form(
+            alloc,
+            &mut text,
+            "{\"class\":\"DIV\",\"col\":#,\"line\":#}",
+            &[col, line],
+        )?;
     }
-    let count = format!(in alloc; "],\"count\":{}}}\n", DIVISIONS)?;
-    text.push_str(&count)?;
+    push_form(alloc, &mut text, "],\"count\":#}\n", &[DIVISIONS])?;
     Ok(text)
 }
 
@@ -116,13 +118,11 @@ fn crossings_waits(alloc: Global) -> Result<String, Fail> {
         for at in 0..PAIRS {
             let line = at.saturating_add(first);
             let col = at.saturating_add(11);
-            let place = format!(in alloc; "{line}:{col} WAIT\n")?;
-            text.push_str(&place)?;
+            push_form(alloc, &mut text, "#:# WAIT\n", &[line, col])?;
         }
     }
     let places = PAIRS.saturating_mul(2);
-    let count = format!(in alloc; "waits {places}\n")?;
-    text.push_str(&count)?;
+    push_form(alloc, &mut text, "waits #\n", &[places])?;
     Ok(text)
 }
 
@@ -131,15 +131,13 @@ fn unreached_stores(alloc: Global) -> Result<String, Fail> {
     let mut text = String::from_str(alloc, "int x;\n")?;
     for at in 0..OBJECTS {
         let number = at.saturating_add(100);
-        let object = format!(in alloc; "int o{number};\n")?;
-        text.push_str(&object)?;
+        push_form(alloc, &mut text, "int o#;\n", &[number])?;
     }
     text.push_str("__task(1) void t(void){\nx=__input(0,9);\n")?;
     for at in 0..OBJECTS {
         let number = at.saturating_add(100);
         push_blanks(&mut text, at)?;
-        let store = format!(in alloc; "if(x>20)o{number}=1;\n")?;
-        text.push_str(&store)?;
+        push_form(alloc, &mut text, "if(x>20)o#=1;\n", &[number])?;
     }
     text.push_str("}")?;
     Ok(text)
@@ -151,17 +149,14 @@ fn unreached_ranges(alloc: Global) -> Result<String, Fail> {
     for at in 0..OBJECTS {
         let line = at.saturating_add(2);
         let number = at.saturating_add(100);
-        let object = format!(in alloc; "{line}:5 o{number} 0 0\n")?;
-        text.push_str(&object)?;
+        push_form(alloc, &mut text, "#:5 o# 0 0\n", &[line, number])?;
     }
     for at in 0..OBJECTS {
         let line = at.saturating_add(OBJECTS.saturating_add(4));
         let col = at.saturating_add(13);
-        let place = format!(in alloc; "{line}:{col} DEAD\n")?;
-        text.push_str(&place)?;
+        push_form(alloc, &mut text, "#:# DEAD\n", &[line, col])?;
     }
-    let count = format!(in alloc; "dead {}\n", OBJECTS)?;
-    text.push_str(&count)?;
+    push_form(alloc, &mut text, "dead #\n", &[OBJECTS])?;
     Ok(text)
 }
 
@@ -209,8 +204,9 @@ fn counting_words(alloc: Global, workers: &str) -> Result<Vec<String>, Fail> {
 /// Each number up to the top, as a word.
 fn push_thresholds(alloc: Global, words: &mut Vec<String>) -> Result<(), Fail> {
     for number in 0..TOP {
-        let next = number.saturating_add(1);
-        words.push(format!(in alloc; "{next}")?)?;
+        let mut word = String::new(alloc);
+        push_number(alloc, &mut word, number.saturating_add(1))?;
+        words.push(word)?;
     }
     Ok(())
 }
@@ -223,14 +219,20 @@ fn counting_history(alloc: Global) -> Result<String, Fail> {
     for version in 0..last {
         let task = version % 2;
         let next = version.saturating_add(1);
-        let events = format!(in alloc;
-            "read 0 {task} {version}\npublish 0 {task} {version} {next}\n"
+        push_form(
+            alloc,
+            &mut text,
+            "read 0 # #\npublish 0 # # #\n",
+            &[task, version, task, version, next],
         )?;
-        text.push_str(&events)?;
     }
     for task in [1, 0] {
-        let events = format!(in alloc; "read 0 {task} {last}\npublish 0 {task} {last} {last}\n")?;
-        text.push_str(&events)?;
+        push_form(
+            alloc,
+            &mut text,
+            "read 0 # #\npublish 0 # # #\n",
+            &[task, last, task, last, last],
+        )?;
     }
     Ok(text)
 }

@@ -3,6 +3,7 @@
 
 use crate::alone::expect_alone;
 use crate::certificates::certificate_of;
+use crate::forms::{joined, push_form};
 use crate::solution_tables::{LOOPS, MUTEXES, TYPES};
 use std::alloc::Global;
 use std::process::Abort;
@@ -108,8 +109,9 @@ static SOLUTIONS: [(&str, &str, &str); 12] = [
 
 /// The front of the certificate of a source, with the first lines of its tables.
 fn front_of(alloc: Global, source: &str, lines: &str) -> Result<String, Fail> {
-    let count = source.len();
-    Ok(format!(in alloc; "tmcert 1\nsource {count}\n{source}\n{lines}")?)
+    let mut front = String::new(alloc);
+    push_form(alloc, &mut front, "tmcert 1\nsource #\n", &[source.len()])?;
+    joined(alloc, &[front.as_str(), source, "\n", lines])
 }
 
 /// The certificate of a source begins with these lines of its tables, and ends with these of its store.
@@ -122,7 +124,7 @@ fn expect_solution(
 ) -> Result<(), Fail> {
     let certificate = certificate_of(rt, alloc, source)?;
     let front = front_of(alloc, source, lines)?;
-    let back = format!(in alloc; "\nstore\n{store}end\n")?;
+    let back = joined(alloc, &["\nstore\n", store, "end\n"])?;
     assert!(rt; certificate.taken().starts_with(front.as_bytes()));
     assert!(rt; certificate.taken().ends_with(back.as_bytes()));
     Ok(())
@@ -141,7 +143,7 @@ fn solutions(rt: HostRuntime) -> Result<(), Fail> {
 fn expect_whole(rt: &impl Abort, alloc: Global, rows: &[(&str, &str)]) -> Result<(), Fail> {
     for (source, lines) in rows {
         let front = front_of(alloc, source, lines)?;
-        let text = format!(in alloc; "{front}end\n")?;
+        let text = joined(alloc, &[front.as_str(), "end\n"])?;
         expect_alone(
             rt,
             alloc,
