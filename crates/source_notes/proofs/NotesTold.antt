@@ -6,10 +6,10 @@ use Rattle.std.specs.declared.alloc.Global.{Global}
 use Rattle.tm_terms.specs.declared.refusals.Refusal.{Refusal}
 use Rattle.tm_laid.specs.declared.scales.Scale.{Scale}
 use Rattle.tm_laid.specs.Layouts.{LaidTree}
-use Rattle.program_solutions.specs.program_equations.Programs.{ProgramBodies, IsProgram}
-use Rattle.program_solutions.specs.post_recheck.Pairs.{Pair}
-use Rattle.program_solutions.specs.LeastReports.{IsLeastPair}
-use Rattle.program_solutions.specs.program_equations.Solutions.{tables_of}
+use Rattle.worker_solutions.specs.program_equations.Programs.{ProgramBodies, IsProgram}
+use Rattle.worker_solutions.specs.program_solutions.post_recheck.Pairs.{Pair}
+use Rattle.worker_solutions.specs.program_solutions.LeastReports.{IsLeastPair}
+use Rattle.worker_solutions.specs.program_equations.Solutions.{tables_of}
 use Rattle.access_groups.specs.declared.object_access.AccessGroup.{AccessGroup}
 use Rattle.access_groups.proofs.One.{grouped_alarms}
 use Rattle.access_partners.specs.declared.details.AccessDetails.{AccessDetails}

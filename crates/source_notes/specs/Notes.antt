@@ -9,7 +9,7 @@ use Rattle.tm_cint.specs.declared.Class.TheVariants.{Race}
 use Rattle.tm_terms.specs.declared.alarms.Alarm.{Alarm}
 use Rattle.tm_terms.specs.declared.places.Place.{Place}
 use Rattle.tm_terms.specs.declared.refusals.Refusal.{Refusal}
-use Rattle.program_solutions.specs.program_equations.Solutions.{tables_of}
+use Rattle.worker_solutions.specs.program_equations.Solutions.{tables_of}
 use Rattle.request_circles.specs.declared.rings.Ring.{Ring}
 use Rattle.request_circles.specs.Rings.{ring_places}
 use Rattle.lock_waits.specs.Waits.{AreRings}

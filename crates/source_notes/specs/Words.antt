@@ -1,8 +1,10 @@
 -- Which words ask for notes, and for which. The words are those behind the program's name, each a list of bytes.
 --
---     notes [large] report|rings|races|alarms|causes|notes|assumptions|parts
-use Rattle.std.specs.Prelude.{ℕ, Bool, false, List, [], ◌∷◌, codes, Option, Some, None, option_map, bytes_eq}
-use Rattle.std.specs.Prelude.{if◌then◌else◌}
+--     notes [large] [--workers=N] report|rings|races|alarms|causes|notes|assumptions|parts
+use Rattle.std.specs.Prelude.{ℕ, ◌≤◌, Bool, false, List, [], ◌∷◌, codes, Option, Some, None, option_map, option_and_then}
+use Rattle.std.specs.Prelude.{bytes_eq, if◌then◌else◌}
+use Rattle.cmd_words.specs.Numbers.{number_of}
+use Rattle.cmd_words.specs.Words.{after_prefix, from_one}
 use Rattle.tm_laid.specs.declared.scales.Scale.{Scale}
 use Rattle.tm_laid.specs.declared.scales.Scale.TheVariants.{Usual, Large}
 use Rattle.source_notes.specs.declared.answers.Note.{Note}
@@ -23,15 +25,26 @@ note_of word =
     else if bytes_eq word (codes "parts") then Some Parts
     else None
 
--- the same, on a scale
-abbrev pub noted : Scale → List ℕ → Option AskedNotes
-noted scale word = option_map (λ note. record { scale = scale; note = note }) (note_of word)
+-- the same, on a scale, by so many workers
+abbrev pub noted : Scale → ℕ → List ℕ → Option AskedNotes
+noted scale workers word =
+    option_map (λ note. record { scale = scale; workers = workers; note = note }) (note_of word)
 
--- One word asks for notes on the usual scale, and one behind `large` on the large one.
+-- the number of workers that a word asks for: `--workers=` and a number from 1 to 16
+abbrev pub workers_of : List ℕ → Option ℕ
+workers_of word = option_and_then (from_one 16) (option_and_then number_of (after_prefix (codes "--workers=") word))
+
+-- On a scale one word asks for notes by one worker, and one behind `--workers=N` for notes by so many.
+abbrev pub asked_on : Scale → List (List ℕ) → Option AskedNotes
+asked_on scale (word ∷ []) = noted scale 1 word
+asked_on scale (workers ∷ word ∷ []) = option_and_then (λ n. noted scale n word) (workers_of workers)
+asked_on scale _ = None
+
+-- The scale is the large one where the first word is `large`, and else the usual one.
 abbrev pub asked_behind : List (List ℕ) → Option AskedNotes
-asked_behind (word ∷ []) = noted Usual word
-asked_behind (scale ∷ word ∷ []) = if bytes_eq scale (codes "large") then noted Large word else None
-asked_behind _ = None
+asked_behind [] = None
+asked_behind (first ∷ words) =
+    if bytes_eq first (codes "large") then asked_on Large words else asked_on Usual (first ∷ words)
 
 -- the first word is `notes`
 abbrev pub asks_notes : List (List ℕ) → Bool
@@ -42,3 +55,7 @@ asks_notes (first ∷ words) = bytes_eq first (codes "notes")
 abbrev pub asked_notes : List (List ℕ) → Option AskedNotes
 asked_notes [] = None
 asked_notes (first ∷ words) = if bytes_eq first (codes "notes") then asked_behind words else None
+
+-- what is asked for is to be told by 1 to 16 workers
+abbrev pub AsksFew : AskedNotes → Type 0
+AsksFew asked = (1 ≤ asked.workers) × (asked.workers ≤ 16)

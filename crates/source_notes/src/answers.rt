@@ -5,14 +5,15 @@ ghost use Rattle.tm_terms.specs.declared.refusals.Limit.TheVariants as Limits;
 ghost use Rattle.tm_laid.specs.tm_typed.TypedFiles.{typed_file_tree};
 ghost use Rattle.tm_laid.specs.Layable.{IsLayable};
 ghost use Rattle.tm_laid.specs.Layouts.{laid_tree};
-ghost use Rattle.program_solutions.specs.program_systems.ReadPrograms.{program_of};
-ghost use Rattle.program_solutions.specs.LeastReports.{IsLeastPair};
+ghost use Rattle.worker_solutions.specs.program_systems.ReadPrograms.{program_of};
+ghost use Rattle.worker_solutions.specs.program_solutions.LeastReports.{IsLeastPair};
 ghost use Rattle.source_assumptions.specs.reading.Told.{IsOpened, TellsAssumptionsOf};
 ghost use Rattle.source_notes.specs.Notes.{HasNotes, rings_status, races_status, alarms_status, report_status};
 ghost use Rattle.source_notes.specs.reading.Told.{TellsRingsOf, TellsRacesOf, TellsAlarmsOf, TellsCausesOf};
 ghost use Rattle.source_notes.specs.reading.Told.{TellsNotesOf, AreContents};
 ghost use Rattle.source_notes.specs.reading.PartsTold.{TellsReportOf, TellsOf, is_assuming};
 
+use crate::finders::{Alone, Finder};
 use crate::parts::parts_reply;
 use access_groups::{AccessGroup, groups};
 use access_partners::access_details;
@@ -24,7 +25,6 @@ use note_details::report_details;
 use note_lines::{Names, alarms_text, causes_text, groups_text, names_of, rings_text};
 use program_notes::{Contents, Declared, declared_of, notes_text};
 use program_reports::judge;
-use program_solutions::{Analysis, Solution, solution};
 use program_streams::Status;
 use report_json::report_json;
 use request_circles::Ring;
@@ -36,6 +36,7 @@ use tm_laid::{Laid, Scale};
 use tm_lattice::NoMemory;
 use tm_terms::{Alarm, Fail};
 use value_ranges::{cell_ranges, ranges_by_cells};
+use worker_solutions::{Analysis, Solution};
 
 /// What the notes are on.
 #[derive(Clone, Copy)]
@@ -391,9 +392,16 @@ fn reply_of(
     }
 }
 
-/// The notes on the bytes of a source on a scale, or its refusal there. The solution is that of one worker, with no
-/// numbers given as thresholds.
-pub fn notes_of(alloc: Heap, scale: Scale, note: Note, bytes: &[u8]) -> Result<NoteReply, NoMemory>
+/// The notes on the bytes of a source on a scale, or its refusal there. The solution is what is found with no numbers
+/// given as thresholds.
+pub(crate) fn notes_by<F: Finder>(
+    finder: &F,
+    alloc: Heap,
+    scale: Scale,
+    note: Note,
+    bytes: &[u8],
+) -> Result<NoteReply, NoMemory>
+    requires { F.serves finder.now }
     ensures { IfOk result (λ reply. HasNotes scale note bytes.now reply.status reply.text.items) }
 {
     match source_program_on(alloc, scale, bytes, &[]) {
@@ -402,9 +410,16 @@ pub fn notes_of(alloc: Heap, scale: Scale, note: Note, bytes: &[u8]) -> Result<N
             let declared = declared_of(alloc, &program.laid)?;
             let opened = opened_for(alloc, note, bytes, &program.laid, &program.graphs.graphs)?;
             let analysis = Analysis::new(alloc, program)?;
-            let found = solution(alloc, &analysis)?;
+            let found = finder.find(alloc, analysis)?;
             reply_of(
-                alloc, note, bytes, &names, &declared, &opened, &analysis, &found,
+                alloc,
+                note,
+                bytes,
+                &names,
+                &declared,
+                &opened,
+                &found.analysis,
+                &found.solution,
             )
         }
         Err(Fail::Refused(refusal)) => {
@@ -416,4 +431,11 @@ pub fn notes_of(alloc: Heap, scale: Scale, note: Note, bytes: &[u8]) -> Result<N
         }
         Err(Fail::NoMemory) => Err(NoMemory),
     }
+}
+
+/// The notes on the bytes of a source on a scale, or its refusal there, found on the calling thread alone.
+pub fn notes_of(alloc: Heap, scale: Scale, note: Note, bytes: &[u8]) -> Result<NoteReply, NoMemory>
+    ensures { IfOk result (λ reply. HasNotes scale note bytes.now reply.status reply.text.items) }
+{
+    notes_by(&Alone, alloc, scale, note, bytes)
 }

@@ -4,9 +4,10 @@
 //! the mutexes that are held there and those that were found free; or its other alarms, with the operation of each, the
 //! values that its operands may have there, and the tasks; or advice on these, where their values come from; or the
 //! places that depend on a choice which C99 leaves open; or the whole report with the races and alarms, the bounds of
-//! objects and the dead places, as one line of JSON; or all of these as texts behind one another. How a solution is
-//! found, how rings, races, contexts, advice and assumptions are read off it, and how they stand in lines and in JSON,
-//! the crates below know.
+//! objects and the dead places, as one line of JSON; or all of these as texts behind one another. The solution is found
+//! on the calling thread, which waits for no other, or by up to 16 workers; as there is one least solution, the text is
+//! the same. How it is found, how rings, races, contexts, advice and assumptions are read off it, and how they stand in
+//! lines and in JSON, the crates below know.
 //!
 //! Where one task `a` locks `m` and then `n`, at 3:34, and another one `b` `n` and then `m`, at 4:34, the notes on
 //! rings are `3:34 RING 2`, `3:34 a holds m asks n`, `4:34 b holds n asks m`, then `4:34 RING 2` with the same lines in
@@ -17,10 +18,11 @@
 #![tactic(auto)]
 
 mod answers;
+mod finders;
 mod parts;
 mod streams;
 mod words;
 
 pub use answers::{Note, NoteReply, notes_of};
-pub use streams::tell_notes;
+pub use streams::{tell_notes, tell_notes_by_workers};
 pub use words::{AskedNotes, asked_notes, asks_notes};

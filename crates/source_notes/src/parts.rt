@@ -1,7 +1,7 @@
 //! All texts on a least solution, one behind another.
 ghost use Rattle.std.specs.Prelude.{◌≡◌, ◌++◌, IfOk, OnOk, codes};
-ghost use Rattle.program_solutions.specs.program_systems.ReadPrograms.{program_of};
-ghost use Rattle.program_solutions.specs.LeastReports.{IsLeastPair};
+ghost use Rattle.worker_solutions.specs.program_systems.ReadPrograms.{program_of};
+ghost use Rattle.worker_solutions.specs.program_solutions.LeastReports.{IsLeastPair};
 ghost use Rattle.source_findings.specs.Tellings.{TellsOf as FindingTellsOf};
 ghost use Rattle.source_assumptions.specs.reading.Told.{TellsAssumptionsOf};
 ghost use Rattle.source_notes.specs.PartTexts.{part_text};
@@ -16,12 +16,12 @@ use crate::answers::{
 use note_lines::Names;
 use notes_json::{push_bytes, push_number};
 use program_notes::Declared;
-use program_solutions::{Analysis, Solution};
 use program_streams::Status;
 use source_assumptions::Opened;
 use source_findings::{Finding, told_of};
 use std::alloc::Global as Heap;
 use tm_lattice::NoMemory;
+use worker_solutions::{Analysis, Solution};
 
 /// Appends a text, behind the line with its name, its status and its length.
 fn push_part(

@@ -1,58 +1,36 @@
 //! The answer to what a stream has.
-ghost use Rattle.std.specs.Prelude.{◌≡◌, ◌≢◌};
-ghost use Rattle.tm_io.specs.Faults.{Rose};
-ghost use Rattle.program_streams.specs.Statuses.{IsWhole};
-ghost use Rattle.program_streams.specs.Streams.{IsReadOut};
-ghost use Rattle.program_streams.specs.Taken.{Answers, TakesNoMore};
-ghost use Rattle.source_programs.specs.LaidSources.{longest_source};
-ghost use Rattle.source_notes.specs.Notes.{HasNotes};
+ghost use Rattle.std.specs.Prelude.{◌≤◌, IfOk};
+ghost use Rattle.source_notes.specs.Streams.{IsTold};
+ghost use Rattle.source_notes.specs.reading.Finders.{IsFound};
 
-use crate::answers::{Note, notes_of};
+use crate::answers::{Note, notes_by};
+use crate::finders::{Alone, Finder, Found, Workers, found_by_workers};
+use crate::words::AskedNotes;
 use program_streams::{InputError, Status, read_whole, send};
 use std::alloc::Global;
-use tm_io::{Sink, Source};
+use std::sync::Wait;
+use std::thread::Threads;
+use tm_io::{Gate, Sink, Source};
 use tm_laid::Scale;
 use tm_lattice::NoMemory;
 use tm_terms::limits::SOURCE;
+use worker_solutions::Analysis;
 
 /// How many bytes of a source are read at most: one more than it may have.
 const MOST: usize = SOURCE as usize + 1;
 
-/// Reads a source to its end, or past the limit, and writes notes on it on a scale, or why it is refused there. The
-/// text is made before its first byte is written.
-pub fn tell_notes<S: Source, K: Sink>(
+/// Reads a source to its end, or past the limit, and writes notes on it by what finds its least solution.
+fn tell_by<F: Finder, S: Source, K: Sink>(
+    finder: &F,
     alloc: Global,
     scale: Scale,
     note: Note,
     source: &mut S,
     out: &mut K,
 ) -> Status
-    // Status 0 or 1 of the report: that of the least solution, which lists each error that occurs in a run of the
-    // source. Status 0 or 1 of rings: for each place of a circular wait of the least solution a shortest ring that
-    // begins there; and in each world that a run reaches and that has not stopped, each task of each ring of blocked
-    // tasks is about to lock at one of these places. Status 0 or 1 of races: the objects with races in the least
-    // solution, each with all accesses to it, under the mutexes that are held there in a run; those that race stand
-    // exactly where the report has a race, and both sides of each race that a run comes to are among them. Status 0 or
-    // 1 of alarms: those that the report has besides, each with the operation, and the least sets that have all values
-    // of its operands in the states of the least solution in which its class is not excluded; wherever a run stops with
-    // an error, one of them tells it, with the values there in these sets. Status 0 or 1 of causes: for each of these
-    // alarms one advice, of which nothing else is promised. Status 0 or 1 of all notes: the whole report, the races and
-    // alarms with it, and the bounds of objects and the dead places. Status 2: the refusal, on the scale.
-    ensures whole { IsWhole result →
-        Answers (HasNotes scale note) (S.left source.old) (K.taken out.old) (K.taken out.new) result }
-
-    // Whatever comes, the sink has taken nothing, or a front of such a text.
-    ensures front { TakesNoMore (HasNotes scale note) (S.left source.old) (K.taken out.old) (K.taken out.new) }
-
-    // All that the source has left is read, unless it is too long.
-    ensures all { IsWhole result → IsReadOut longest_source (S.left source.old) (S.left source.new) }
-
-    // A fault comes exactly where a count of faults rose. After a read fault nothing is taken.
-    ensures read { result ≡ Status.ReadFault →
-        Rose (S.faults source.old) (S.faults source.new) × (K.taken out.new ≡ K.taken out.old) }
-    ensures write { result ≡ Status.WriteFault → Rose (K.faults out.old) (K.faults out.new) }
-    ensures source_faults { result ≢ Status.ReadFault → S.faults source.new ≡ S.faults source.old }
-    ensures sink_faults { result ≢ Status.WriteFault → K.faults out.new ≡ K.faults out.old }
+    requires { F.serves finder.now }
+    ensures { IsTold scale note (S.left source.old) (S.left source.new) (K.taken out.old) (K.taken out.new)
+        (S.faults source.old) (S.faults source.new) (K.faults out.old) (K.faults out.new) result }
 {
     let mut bytes = Vec::new(alloc);
     match read_whole(source, &mut bytes, MOST) {
@@ -60,8 +38,55 @@ pub fn tell_notes<S: Source, K: Sink>(
         Err(InputError::Failed) => return Status::ReadFault,
         Err(InputError::NoMemory) => return Status::NoMemory,
     }
-    match notes_of(alloc, scale, note, &bytes) {
+    match notes_by(finder, alloc, scale, note, &bytes) {
         Ok(reply) => send(out, &reply.text, reply.status),
         Err(NoMemory) => Status::NoMemory,
     }
+}
+
+/// Reads a source to its end, or past the limit, and writes notes on it on a scale, or why it is refused there. The
+/// text is made before its first byte is written. It is given no handle by which it could wait for another thread: it is
+/// proved to return, for any source and sink whose calls do.
+pub fn tell_notes<S: Source, K: Sink>(
+    alloc: Global,
+    scale: Scale,
+    note: Note,
+    source: &mut S,
+    out: &mut K,
+) -> Status
+    ensures { IsTold scale note (S.left source.old) (S.left source.new) (K.taken out.old) (K.taken out.new)
+        (S.faults source.old) (S.faults source.new) (K.faults out.old) (K.faults out.new) result }
+{
+    tell_by(&Alone, alloc, scale, note, source, out)
+}
+
+/// The same by as many workers as are asked for, who share a store; the gate is told of their passes. One worker is the
+/// calling thread, as in `tell_notes`. The call may wait for its workers, so no contract says that it returns; what it
+/// tells does not depend on how many they are, nor on their order.
+pub fn tell_notes_by_workers<R: Threads + Wait + Sync, S: Source, K: Sink, G: Gate>(
+    rt: &R,
+    alloc: Global,
+    asked: AskedNotes,
+    source: &mut S,
+    out: &mut K,
+    gate: &G,
+) -> Status
+    requires some { 1 ≤ asked.workers }
+    requires most { asked.workers ≤ 16 }
+    ensures { IsTold asked.scale asked.note (S.left source.old) (S.left source.new) (K.taken out.old) (K.taken out.new)
+        (S.faults source.old) (S.faults source.new) (K.faults out.old) (K.faults out.new) result }
+{
+    let AskedNotes {
+        scale,
+        workers,
+        note,
+    } = asked;
+    if workers == 1 {
+        return tell_notes(alloc, scale, note, source, out);
+    }
+    let find = |analysis: Analysis| -> Result<Found, NoMemory>
+        requires { (1 ≤ workers) × (workers ≤ 16) }
+        ensures { IfOk result (IsFound analysis) }
+    { found_by_workers(rt, alloc, analysis, workers, gate) };
+    tell_by(&Workers { find }, alloc, scale, note, source, out)
 }

@@ -1,15 +1,23 @@
 //! The words of a command line that ask for notes.
-ghost use Rattle.std.specs.Prelude.{◌≡◌, map, string_bytes};
-ghost use Rattle.source_notes.specs.Words.{asked_behind, asked_notes, asks_notes, note_of, noted};
+ghost use Rattle.std.specs.Prelude.{◌≡◌, map, codes, string_bytes, option_map, IfSome};
+ghost use Rattle.cmd_words.specs.Words.{after_prefix};
+ghost use Rattle.source_notes.specs.Words.{AsksFew, asked_behind, asked_notes, asked_on, asks_notes, note_of, noted};
+ghost use Rattle.source_notes.specs.Words.{workers_of};
 
 use crate::answers::Note;
+use cmd_words::read_number;
 use tm_laid::Scale;
+
+/// The most workers.
+const MOST_WORKERS: u32 = 16;
 
 /// What words that ask for notes ask for.
 #[derive(Clone, Copy)]
 pub struct AskedNotes {
     /// The scale on which the source is taken.
     pub scale: Scale,
+    /// How many workers analyse the tasks, from 1 to 16: one where the words name no number.
+    pub workers: u32,
     /// What the notes are on.
     pub note: Note,
 }
@@ -39,27 +47,61 @@ fn note_of(word: &str) -> Option<Note>
     }
 }
 
-/// The notes that a word asks for, on a scale.
-fn noted(scale: Scale, word: &str) -> Option<AskedNotes>
-    ensures { result ≡ noted scale word.now }
+/// The notes that a word asks for, on a scale, by so many workers.
+fn noted(scale: Scale, workers: u32, word: &str) -> Option<AskedNotes>
+    ensures { result ≡ noted scale workers word.now }
 {
     let note = note_of(word)?;
-    Some(AskedNotes { scale, note })
+    Some(AskedNotes {
+        scale,
+        workers,
+        note,
+    })
+}
+
+/// What stands behind `--workers=` in a word that begins so.
+fn value_of(word: &str) -> Option<&str>
+    ensures { option_map (λ value. value.now) result ≡ after_prefix (codes "--workers=") word.now }
+{
+    word.strip_prefix("--workers=")
+}
+
+/// The number of workers that a word asks for.
+fn workers_of(word: &str) -> Option<u32>
+    ensures { result ≡ workers_of word.now }
+{
+    let value = value_of(word)?;
+    let workers = read_number(value)?;
+    if 1 <= workers && workers <= MOST_WORKERS {
+        Some(workers)
+    } else {
+        None
+    }
+}
+
+/// What words ask for on a scale.
+fn asked_on(scale: Scale, words: &[String]) -> Option<AskedNotes>
+    ensures { result ≡ asked_on scale (map (λ w. string_bytes w) words.now) }
+{
+    match words {
+        [word] => noted(scale, 1, word.as_str()),
+        [workers, word] => {
+            let workers = workers_of(workers.as_str())?;
+            noted(scale, workers, word.as_str())
+        }
+        _ => None,
+    }
 }
 
 /// What the words behind `notes` ask for.
 fn asked_behind(words: &[String]) -> Option<AskedNotes>
     ensures { result ≡ asked_behind (map (λ w. string_bytes w) words.now) }
 {
-    match words {
-        [word] => noted(Scale::Usual, word.as_str()),
-        [scale, word] => {
-            if scale.as_str() != "large" {
-                return None;
-            }
-            noted(Scale::Large, word.as_str())
-        }
-        _ => None,
+    let (first, behind) = words.split_first()?;
+    if first.as_str() == "large" {
+        asked_on(Scale::Large, behind)
+    } else {
+        asked_on(Scale::Usual, words)
     }
 }
 
@@ -76,7 +118,10 @@ pub fn asks_notes(words: &[String]) -> bool
 
 /// The notes that words, behind the program's name, ask for; None where they ask for none.
 pub fn asked_notes(words: &[String]) -> Option<AskedNotes>
-    ensures { result ≡ asked_notes (map (λ w. string_bytes w) words.now) }
+    ensures asked { result ≡ asked_notes (map (λ w. string_bytes w) words.now) }
+
+    // They are asked of 1 to 16 workers.
+    ensures few { IfSome result AsksFew }
 {
     let (first, behind) = words.split_first()?;
     if first.as_str() != "notes" {

@@ -5,16 +5,15 @@ ghost use Rattle.program_solutions.specs.program_systems.ReadPrograms.{program_o
 ghost use Rattle.program_solutions.specs.LeastReports.{IsLeastReport};
 ghost use Rattle.worker_solutions.specs.QuietHistories.{IsQuietHistory};
 
-use crate::tables::kept_tables;
-use interfere_set::Store;
-use program_solutions::{Analysis, completed, least_pair, solution_report};
+use crate::solutions::core_solution;
+use program_solutions::{Analysis, solution_report};
 use shared_analyses::solved_by;
 use std::alloc::Global;
 use std::sync::{Arc, Wait};
 use std::thread::Threads;
 use store_core::StoreCore;
 use tm_io::Gate;
-use tm_lattice::{Lattice, NoMemory};
+use tm_lattice::NoMemory;
 use tm_terms::Report;
 
 /// The report of a program, and the core of the workers that found its least solution.
@@ -26,18 +25,13 @@ pub struct WorkedOut {
     pub core: StoreCore<Analysis>,
 }
 
-// The report of a quiet core: that of its store, with the tables that the last passes of its tasks kept.
+// The report of a quiet core: that of its solution.
 fn core_report(alloc: Global, core: &StoreCore<Analysis>) -> Result<Report, NoMemory>
     requires { IsQuiet core.now.program.tasks core.now.past }
     ensures { IfOk result (λ report. IsLeastReport (program_of core.now.program) report.alarms.items) }
 {
-    let _history = core.history();
-    let analysis = core.program();
-    let tables = kept_tables(alloc, core)?;
-    let all = completed(alloc, analysis, tables)?;
-    let store = Arc::new(alloc, core.store().copied(alloc)?)?;
-    let found = least_pair(analysis, all, store);
-    solution_report(alloc, analysis, &found)
+    let found = core_solution(alloc, core)?;
+    solution_report(alloc, core.program(), &found)
 }
 
 /// The report of a program, found by 1 to 16 workers, each in a thread of its own where one can be made; with the

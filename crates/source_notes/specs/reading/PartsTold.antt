@@ -1,9 +1,9 @@
 -- What the code tells of a least solution as several texts, before it is known of which source it is.
 use Rattle.std.specs.Prelude.{◌≡◌, ℕ, Bool, true, false, List, ◌++◌, codes}
 use Rattle.tm_terms.specs.declared.alarms.Alarm.{Alarm}
-use Rattle.program_solutions.specs.program_equations.Programs.{ProgramBodies}
-use Rattle.program_solutions.specs.program_equations.Solutions.{tables_of}
-use Rattle.program_solutions.specs.post_recheck.Pairs.{Pair}
+use Rattle.worker_solutions.specs.program_equations.Programs.{ProgramBodies}
+use Rattle.worker_solutions.specs.program_equations.Solutions.{tables_of}
+use Rattle.worker_solutions.specs.program_solutions.post_recheck.Pairs.{Pair}
 use Rattle.program_reports.specs.Reports.{IsReport}
 use Rattle.report_json.specs.JsonReports.{json_text}
 use Rattle.program_streams.specs.declared.statuses.Status.{Status}

@@ -1,9 +1,9 @@
 -- What the code tells of a least solution, before it is known of which source it is.
 use Rattle.std.specs.Prelude.{◌≡◌, ℕ, List, length}
 use Rattle.tm_terms.specs.declared.tokens.Name.{Name}
-use Rattle.program_solutions.specs.program_equations.Programs.{ProgramBodies}
-use Rattle.program_solutions.specs.program_equations.Solutions.{tables_of}
-use Rattle.program_solutions.specs.post_recheck.Pairs.{Pair}
+use Rattle.worker_solutions.specs.program_equations.Programs.{ProgramBodies}
+use Rattle.worker_solutions.specs.program_equations.Solutions.{tables_of}
+use Rattle.worker_solutions.specs.program_solutions.post_recheck.Pairs.{Pair}
 use Rattle.request_circles.specs.declared.rings.Ring.{Ring}
 use Rattle.lock_waits.specs.Waits.{AreRings}
 use Rattle.access_groups.specs.declared.object_access.AccessGroup.{AccessGroup}

@@ -1,6 +1,6 @@
 use Rattle.std.proofs.Common.{sym, subst}
 use Rattle.std.specs.Prelude.{IfOk}
-use Rattle.program_solutions.specs.program_systems.ReadPrograms.{program_of}
+use Rattle.worker_solutions.specs.program_systems.ReadPrograms.{program_of}
 use Rattle.source_notes.specs.reading.PartsTold.{TellsOf}
 use Rattle.source_notes.proofs.answers.reply_of.Goals as goal
 

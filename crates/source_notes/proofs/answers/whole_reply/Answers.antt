@@ -1,5 +1,5 @@
 use Rattle.std.proofs.Common.{◌∙◌, ap, sym}
-use Rattle.program_solutions.specs.program_systems.ReadPrograms.{ReadProgram, program_of}
+use Rattle.worker_solutions.specs.program_systems.ReadPrograms.{ReadProgram, program_of}
 use Rattle.program_notes.specs.NotesTexts.{notes_text}
 use Rattle.program_notes.specs.Operations.{operation_of}
 use Rattle.source_notes.specs.Notes.{report_status}

@@ -1,5 +1,5 @@
 use Rattle.std.specs.Prelude.{codes}
-use Rattle.program_solutions.specs.program_systems.ReadPrograms.{program_of}
+use Rattle.worker_solutions.specs.program_systems.ReadPrograms.{program_of}
 use Rattle.source_assumptions.specs.reading.Told.{TellsAssumptionsOf}
 use Rattle.source_notes.proofs.PartsAdded.{added}
 use Rattle.source_notes.proofs.parts.push_assumptions.Goals as goal

@@ -1,4 +1,4 @@
-use Rattle.program_solutions.specs.program_systems.ReadPrograms.{program_of}
+use Rattle.worker_solutions.specs.program_systems.ReadPrograms.{program_of}
 use Rattle.source_findings.specs.Tellings.{TellsOf}
 use Rattle.source_notes.proofs.PartsAdded.{added}
 use Rattle.source_notes.proofs.parts.push_finding.Goals as goal

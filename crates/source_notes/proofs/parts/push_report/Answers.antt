@@ -1,5 +1,5 @@
 use Rattle.std.proofs.Common.{refl, sym, subst}
-use Rattle.program_solutions.specs.program_systems.ReadPrograms.{program_of}
+use Rattle.worker_solutions.specs.program_systems.ReadPrograms.{program_of}
 use Rattle.source_notes.specs.reading.PartsTold.{TellsReportOf}
 use Rattle.source_notes.proofs.parts.push_report.Goals as goal
 
