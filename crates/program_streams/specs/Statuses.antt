@@ -18,6 +18,10 @@ status_number ReadFault = 4
 status_number WriteFault = 5
 status_number NoMemory = 6
 
+-- the number with which a program ends that the system does not give its words
+abbrev pub no_words : ℕ
+no_words = 7
+
 -- the statuses that come with a whole text
 abbrev pub IsWhole : Status → Type 0
 IsWhole NoAlarm = Unit {0}

@@ -55,6 +55,17 @@ pub fn show<K: Sink>(out: &mut K, text: &[u8], has_alarm: bool) -> Status
     }
 }
 
+/// Writes a text that has no alarm, and says whether it was taken whole.
+pub fn give<K: Sink>(out: &mut K, text: &[u8]) -> Status
+    ensures whole { result ≡ Status.NoAlarm → K.taken out.new ≡ append_known (K.taken out.old) text.now }
+    ensures front { TakesFrontOf text.now (K.taken out.old) (K.taken out.new) }
+    ensures write { result ≡ Status.WriteFault → Rose (K.faults out.old) (K.faults out.new) }
+    ensures others { (result ≢ Status.Refused) × (result ≢ Status.Usage) × (result ≢ Status.ReadFault)
+        × (result ≢ Status.Alarms) }
+{
+    send(out, text, Status::NoAlarm)
+}
+
 /// Writes why there is no answer.
 pub fn tell<K: Sink>(told: &mut K, line: &[u8]) -> Status
     ensures whole { result ≡ Status.Refused → K.taken told.new ≡ append_known (K.taken told.old) line.now }

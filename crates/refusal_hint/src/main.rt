@@ -9,22 +9,9 @@ mod words;
 
 use crate::top::answer;
 use crate::words::{Asked, read_words};
-use program_streams::Status;
-use std::env;
-use std::io::ErrorKind;
+use program_streams::{Status, program_words, tell_usage};
 use std::process::ExitCode;
 use tm_io::{StdSink, StdSource};
-
-/// The status where the system does not give the program its words.
-const NO_WORDS: u8 = 7;
-
-/// The status where the words cannot be had for this reason: memory may run out while they are copied.
-fn status_without_words(reason: ErrorKind) -> u8 {
-    match reason {
-        ErrorKind::OutOfMemory => Status::NoMemory.number(),
-        _ => NO_WORDS,
-    }
-}
 
 /// The line that says how the program is used.
 const USAGE: &str = "usage: refusal_hint LINE COL KIND < TEXT";
@@ -41,20 +28,12 @@ fn run(rt: &HostRuntime, words: &[String]) -> Status {
     if let Some(asked) = read_words(words) {
         return write_hint(rt, asked);
     }
-    match rt.eprintln(USAGE) {
-        Ok(()) => Status::Usage,
-        Err(_) => Status::WriteFault,
-    }
+    tell_usage(rt, USAGE)
 }
 
 fn main(rt: HostRuntime) -> ExitCode {
-    let mut words = match env::args(&rt) {
-        Ok(words) => words,
-        Err(error) => return ExitCode::from(status_without_words(error.kind())),
-    };
-    let _program = words.next();
-    let Ok(words) = words.collect::<Vec<String>>(rt.alloc()) else {
-        return ExitCode::from(Status::NoMemory.number());
-    };
-    ExitCode::from(run(&rt, &words).number())
+    match program_words(&rt) {
+        Ok(words) => ExitCode::from(run(&rt, &words).number()),
+        Err(number) => ExitCode::from(number),
+    }
 }

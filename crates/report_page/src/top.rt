@@ -5,26 +5,14 @@ ghost use Rattle.std.specs.Io.KnownBytes.{append_known};
 ghost use Rattle.tm_io.specs.Faults.{Rose};
 ghost use Rattle.report_views.specs.Causes.{cause_text};
 ghost use Rattle.report_page.specs.Answers.{Shows, ShowsNoMore, Tells};
-ghost use Rattle.program_streams.specs.Streams.{TakesFrontOf};
 
 use crate::words::Asked;
-use program_streams::{Status, read_whole, send, tell as tell_line, unread};
+use program_streams::{Status, give, read_whole, tell as tell_line, unread};
 use report_pages::{Texts, page};
 use report_views::{Cause, LONGEST_REPORT, LONGEST_TEXT, ViewFail, cause_line};
 use std::alloc::Global;
 use tm_io::{Sink, Source};
 use tm_lattice::NoMemory;
-
-/// Writes a page, and says whether it was taken whole.
-fn show<K: Sink>(out: &mut K, page: &[u8]) -> Status
-    ensures whole { result ≡ Status.NoAlarm → K.taken out.new ≡ append_known (K.taken out.old) page.now }
-    ensures front { TakesFrontOf page.now (K.taken out.old) (K.taken out.new) }
-    ensures write { result ≡ Status.WriteFault → Rose (K.faults out.old) (K.faults out.new) }
-    ensures others { (result ≢ Status.Refused) × (result ≢ Status.Usage) × (result ≢ Status.ReadFault)
-        × (result ≢ Status.Alarms) }
-{
-    send(out, page, Status::NoAlarm)
-}
 
 /// Writes why there is no page.
 fn tell<E: Sink>(alloc: Global, told: &mut E, cause: Cause) -> Status
@@ -120,7 +108,7 @@ pub fn answer<R: Source, T: Source, A: Source, N: Source, L: Source, M: Source, 
         remarks: &remarks_bytes,
     };
     match page(alloc, &report_bytes, texts) {
-        Ok(page) => show(out, &page),
+        Ok(page) => give(out, &page),
         Err(ViewFail::Refused(cause)) => tell(alloc, told, cause),
         Err(ViewFail::NoMemory) => Status::NoMemory,
     }

@@ -2,34 +2,21 @@
 //! stream.
 
 ghost use Rattle.std.specs.Prelude.{◌≡◌, ◌≢◌, ◌⊎◌, IfOk, IsErrOf};
-ghost use Rattle.std.specs.Io.KnownBytes.{append_known};
 ghost use Rattle.tm_io.specs.Faults.{Rose};
 ghost use Rattle.report_views.specs.Causes.{IsLogCause};
 ghost use Rattle.report_views.specs.declared.causes.Cause.{Cause as CauseOf};
 ghost use Rattle.report_logs.specs.Logs.{IsLog};
 ghost use Rattle.report_view.specs.Answers.{Logs, LogsFront, LogsNoMore, LogsWhole, TellsCause, TellsNoLog};
 ghost use Rattle.report_view.specs.reading.Seen.{answers_read};
-ghost use Rattle.program_streams.specs.Streams.{TakesFrontOf};
 
 use crate::readings::{Readings, read_texts};
 use crate::top::tell;
 use crate::words::AskedLog;
-use program_streams::{Status, send, unread};
+use program_streams::{Status, give, unread};
 use report_logs::{Answers, Frame, log};
 use report_views::ViewFail;
 use std::alloc::Global;
 use tm_io::{Sink, Source};
-
-/// Writes a log, and says whether it was taken whole.
-pub fn show_log<K: Sink>(out: &mut K, text: &[u8]) -> Status
-    ensures whole { result ≡ Status.NoAlarm → K.taken out.new ≡ append_known (K.taken out.old) text.now }
-    ensures front { TakesFrontOf text.now (K.taken out.old) (K.taken out.new) }
-    ensures write { result ≡ Status.WriteFault → Rose (K.faults out.old) (K.faults out.new) }
-    ensures others { (result ≢ Status.Refused) × (result ≢ Status.Usage) × (result ≢ Status.ReadFault)
-        × (result ≢ Status.Alarms) }
-{
-    send(out, text, Status::NoAlarm)
-}
 
 /// The log that is asked for, of what was read.
 fn log_of(alloc: Global, asked: AskedLog<'_>, readings: &Readings) -> Result<Vec<u8>, ViewFail>
@@ -79,7 +66,7 @@ fn tell_log<K: Sink, E: Sink>(
     ensures others { (result ≢ Status.Usage) × (result ≢ Status.Alarms) × (result ≢ Status.ReadFault) }
 {
     match log_of(alloc, asked, readings) {
-        Ok(log) => show_log(out, &log),
+        Ok(log) => give(out, &log),
         Err(ViewFail::Refused(cause)) => tell(alloc, told, cause),
         Err(ViewFail::NoMemory) => Status::NoMemory,
     }

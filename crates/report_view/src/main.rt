@@ -28,24 +28,11 @@ use crate::words::{
     Asked, AskedLog, AskedRefusal, ask_for_rules, read_log_words, read_refusal_words, read_words,
     refusal_of,
 };
-use program_streams::Status;
+use program_streams::{Status, program_words, tell_usage};
 use report_logs::Refusal;
-use std::env;
 use std::fs::File;
-use std::io::ErrorKind;
 use std::process::ExitCode;
 use tm_io::{StdSink, StdSource};
-
-/// The status where the system does not give the program its words.
-const NO_WORDS: u8 = 7;
-
-/// The status where the words cannot be had for this reason: memory may run out while they are copied.
-fn status_without_words(reason: ErrorKind) -> u8 {
-    match reason {
-        ErrorKind::OutOfMemory => Status::NoMemory.number(),
-        _ => NO_WORDS,
-    }
-}
 
 /// The line that says how the program is used.
 const USAGE: &str = "usage: report_view --lines|--summary TEXT NAME < REPORT, \
@@ -152,20 +139,12 @@ fn run(rt: &HostRuntime, words: &[String]) -> Status {
             return write_refusal(rt, asked, refusal);
         }
     }
-    match rt.eprintln(USAGE) {
-        Ok(()) => Status::Usage,
-        Err(_) => Status::WriteFault,
-    }
+    tell_usage(rt, USAGE)
 }
 
 fn main(rt: HostRuntime) -> ExitCode {
-    let mut words = match env::args(&rt) {
-        Ok(words) => words,
-        Err(error) => return ExitCode::from(status_without_words(error.kind())),
-    };
-    let _program = words.next();
-    let Ok(words) = words.collect::<Vec<String>>(rt.alloc()) else {
-        return ExitCode::from(Status::NoMemory.number());
-    };
-    ExitCode::from(run(&rt, &words).number())
+    match program_words(&rt) {
+        Ok(words) => ExitCode::from(run(&rt, &words).number()),
+        Err(number) => ExitCode::from(number),
+    }
 }

@@ -8,10 +8,9 @@ ghost use Rattle.report_logs.specs.reading.Seen.{refusal_seen};
 ghost use Rattle.report_view.specs.Answers.{BothAreRead, LogsRefusal, LogsRefusalNoMore};
 ghost use Rattle.program_streams.specs.Streams.{TakesFrontOf};
 
-use crate::logs::show_log;
 use crate::readings::read_one;
 use crate::words::AskedRefusal;
-use program_streams::{InputError, Status, unread};
+use program_streams::{InputError, Status, give, unread};
 use report_logs::{Frame, Refusal, refusal_log};
 use report_views::{LONGEST_REPORT, LONGEST_TEXT};
 use std::alloc::Global;
@@ -81,7 +80,7 @@ fn tell_refusal<K: Sink>(
         × (result ≢ Status.ReadFault) }
 {
     match log_of(alloc, asked, refusal, &refused.text, &refused.lines) {
-        Ok(log) => show_log(out, &log),
+        Ok(log) => give(out, &log),
         Err(NoMemory) => Status::NoMemory,
     }
 }

@@ -6,8 +6,7 @@ ghost use Rattle.tm_io.specs.Faults.{Rose};
 ghost use Rattle.program_streams.specs.Streams.{TakesFrontOf};
 ghost use Rattle.report_views.specs.Rules.{rules_text};
 
-use crate::logs::show_log;
-use program_streams::Status;
+use program_streams::{Status, give};
 use report_views::rule_lines;
 use std::alloc::Global;
 use tm_io::Sink;
@@ -28,7 +27,7 @@ pub fn answer_rules<K: Sink>(alloc: Global, out: &mut K) -> Status
         × (result ≢ Status.ReadFault) }
 {
     match rule_lines(alloc) {
-        Ok(text) => show_log(out, &text),
+        Ok(text) => give(out, &text),
         Err(NoMemory) => Status::NoMemory,
     }
 }

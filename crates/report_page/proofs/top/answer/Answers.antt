@@ -13,16 +13,16 @@ returns-in-Ok-clause-shown g c =
     (g.L.Source.left c.args.lines.now) (g.L.Source.left c.read_whole-5.new.source)
     (g.M.Source.left c.args.remarks.now) (g.M.Source.left c.read_whole-6.new.source) c.in-Ok.page.items =
     search rules in
-    λ e. record { page = c.in-Ok.page.items; is = read; appended = search (rules, c.show.ensures.whole e) }
+    λ e. record { page = c.in-Ok.page.items; is = read; appended = search (rules, c.give.ensures.whole e) }
 
 pub returns-in-Ok-clause-refused : goal.returns-in-Ok-clause-refused
-returns-in-Ok-clause-refused g c = λ e. absurd (c.show.ensures.others.0 e)
+returns-in-Ok-clause-refused g c = λ e. absurd (c.give.ensures.others.0 e)
 
 pub returns-in-Ok-clause-front : goal.returns-in-Ok-clause-front
 returns-in-Ok-clause-front g c = inr (record { page = c.in-Ok.page.items; is = search rules; front = search rules })
 
 pub returns-in-Ok-clause-write : goal.returns-in-Ok-clause-write
-returns-in-Ok-clause-write g c = λ e. inl (c.show.ensures.write e)
+returns-in-Ok-clause-write g c = λ e. inl (c.give.ensures.write e)
 
 pub returns-in-Err-Refused-clause-shown : goal.returns-in-Err-Refused-clause-shown
 returns-in-Err-Refused-clause-shown g c = λ e. absurd (c.tell.ensures.others.0 e)
