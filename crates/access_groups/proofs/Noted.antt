@@ -1,45 +1,16 @@
 -- What is noted with one more access.
-use Rattle.std.proofs.Common.{◌≡◌, ◌↔◌, ◌⊎◌, ℕ, ◌+◌, ◌<◌, refl, sym, subst, ◌∙◌, inl, inr, Bool, true, false, List}
-use Rattle.std.proofs.Common.{◌++◌, [], ◌∷◌, length, get_or, take}
-use Rattle.std.specs.Prelude.{Contains}
+use Rattle.std.proofs.Common.{◌≡◌, ◌↔◌, ◌⊎◌, ℕ, ◌+◌, ◌<◌, refl, sym, subst, ◌∙◌, Bool, true, false, List}
+use Rattle.std.proofs.Common.{length, get_or, take}
 use Rattle.std.specs.declared.vec.Vec.{Vec}
-use Rattle.std.proofs.lemmas.List.Elements.{Contains-append_left, Contains-push, Contains-push_cases}
 use Rattle.tm_laid.specs.Layouts.{LaidTree, abstract_at}
 use Rattle.access_races.specs.declared.accesses.Way.{Way}
 use Rattle.access_races.specs.declared.accesses.Access.{Access}
-use Rattle.access_races.proofs.Joins.{either, front_more}
 use Rattle.program_reports.proofs.Tables.{relabelled}
+use Rattle.access_races.proofs.Joins.{one_more}
 use Rattle.access_groups.specs.declared.object_access.ObjectAccess.{ObjectAccess}
 use Rattle.access_groups.specs.declared.site.Site.{Site}
-use Rattle.access_groups.specs.reading.Sites.{no_site, HasOne}
+use Rattle.access_groups.specs.reading.Sites.{no_site}
 use Rattle.access_groups.specs.reading.Noted.{IsNotedAs, IsNotedIn}
-
--- ## One more
-
-pub pushed : {X : Type 0} (us vs : List X) (x : X) → vs ≡ us ++ x ∷ [] → (w : X)
-    → Contains vs w ↔ (Contains us w ⊎ (w ≡ x))
-pushed us vs x is w = (
-  λ h. either (λ o. inl o) (λ e. inr (sym e)) (Contains-push_cases us x w (subst (λ ws. Contains ws w) is h)),
-  λ h. subst (λ ws. Contains ws w) (sym is) (either (λ o. Contains-append_left us (x ∷ []) w o)
-      (λ e. subst (Contains (us ++ x ∷ [])) (sym e) (Contains-push us x)) h),
-)
-
-pub one_more : {X : Type 0} (Is : X → Type 0) (xs : List X) (i : ℕ) (d : X) → i < length xs
-    → HasOne Is (take (i + 1) xs) ↔ (HasOne Is (take i xs) ⊎ Is (get_or xs i d))
-one_more {X} Is xs i d lt = (
-  λ h. either (λ before. inl (record { one = h.one; has = before; is = h.is }))
-      (λ same. inr (subst Is (sym same) h.is)) ((front_more xs i d lt h.one).0 h.has),
-  λ h. either (λ (o : HasOne Is (take i xs)). record {
-    one = o.one;
-    has = (front_more xs i d lt o.one).1 (inl o.has);
-    is = o.is;
-  })
-      (λ here. record {
-        one = get_or xs i d;
-        has = (front_more xs i d lt (get_or xs i d)).1 (inr refl);
-        is = here;
-      }) h,
-)
 
 -- ## What is noted
 

@@ -1,6 +1,6 @@
 //! What is noted of accesses, object by object.
 ghost use Rattle.std.specs.Prelude.{◌≡◌, ◌≤◌, ◌^◌, ◌⊎◌, ◌↔◌, ℕ, length, Contains, IfOk, OnOk};
-ghost use Rattle.tm_laid.specs.Layouts.{laid_tree, abstract_at};
+ghost use Rattle.tm_laid.specs.Layouts.{laid_tree};
 ghost use Rattle.access_races.specs.reading.Ways.{list_at};
 ghost use Rattle.access_groups.specs.declared.object_access.ObjectAccess.{ObjectAccess as AnObjectAccess};
 ghost use Rattle.access_groups.specs.reading.Noted.{IsNotedAs, IsNotedIn};
@@ -9,18 +9,8 @@ use crate::object_access::ObjectAccess;
 use crate::site::Site;
 use access_races::{Access, Way, is_racing, make_room};
 use std::alloc::Global;
-use tm_laid::Laid;
+use tm_laid::{Laid, abstract_at};
 use tm_lattice::NoMemory;
-
-/// The object of an abstract cell.
-pub fn object_of(laid: &Laid, cell: u32) -> u32
-    ensures { (let a = abstract_at (laid_tree laid.now) cell in result ≡ a.object) }
-{
-    match laid.abstract_cells.get(cell as usize) {
-        Some(found) => found.object,
-        None => 0,
-    }
-}
 
 // What is noted of an access.
 fn noted(ways: &[Vec<Way>], access: Access) -> ObjectAccess
@@ -66,7 +56,7 @@ pub(crate) fn noted_by_object(
 {
     let mut lists = Vec::new(alloc);
     for site in sites {
-        let object = object_of(laid, site.access.cell);
+        let object = abstract_at(laid, site.access.cell).object;
         push_noted(alloc, &mut lists, object, noted(ways, site.access))?;
     }
     Ok(lists)

@@ -5,7 +5,7 @@ use Rattle.std.specs.Prelude.{Contains}
 use Rattle.std.specs.declared.vec.Vec.{Vec}
 use Rattle.std.proofs.lemmas.Bool.{true≢false, cases_eq, cases_lt, and_parts, and_from, or_cases, or_left, or_right}
 use Rattle.std.proofs.lemmas.Bool.{ltb-true, lt-ltb, eqb-true, eq-eqb}
-use Rattle.access_races.proofs.Joins.{either, grown}
+use Rattle.access_races.proofs.Joins.{either, grown, one_more}
 use Rattle.access_groups.specs.declared.object_access.ObjectAccess.{ObjectAccess}
 use Rattle.access_groups.specs.Order.{sort_key, AreBefore, IsBefore, AreRising}
 use Rattle.access_races.specs.reading.Ways.{list_at}
@@ -15,7 +15,6 @@ use Rattle.access_groups.specs.declared.site.Site.{Site}
 use Rattle.access_groups.specs.reading.Sites.{no_site, access_of}
 use Rattle.access_partners.specs.reading.Accesses.{nothing, access_at, AreSitesBy}
 use Rattle.access_partners.specs.reading.Search.{is_before, IsFirstNotBefore, IsIndex, HasNoIndex, AreEmpty, IsSiteAdded}
-use Rattle.access_groups.proofs.Noted.{one_more}
 use Rattle.access_partners.proofs.Lists.{has_at}
 
 -- ## The order

@@ -5,10 +5,10 @@ ghost use Rattle.access_races.specs.reading.Ways.{list_at};
 ghost use Rattle.access_groups.specs.declared.site.Site.{Site as ASite};
 ghost use Rattle.access_partners.specs.reading.Accesses.{IsSiteTo};
 
-use access_groups::{Site, object_of};
+use access_groups::Site;
 use access_races::make_room;
 use std::alloc::Global;
-use tm_laid::Laid;
+use tm_laid::{Laid, abstract_at};
 use tm_lattice::NoMemory;
 
 // Puts an access behind those to an object.
@@ -39,7 +39,7 @@ pub(crate) fn sites_by_object(
 {
     let mut lists = Vec::new(alloc);
     for site in sites {
-        let object = object_of(laid, site.access.cell);
+        let object = abstract_at(laid, site.access.cell).object;
         push_site(alloc, &mut lists, object, *site)?;
     }
     Ok(lists)

@@ -1,9 +1,10 @@
 -- What is contained after one more step.
-use Rattle.std.proofs.Common.{◌≡◌, ◌↔◌, ◌⊎◌, ℕ, ◌+◌, ◌<◌, inl, inr, sym, subst, List, [], ◌∷◌, ◌++◌, length, take}
-use Rattle.std.proofs.Common.{get_or}
+use Rattle.std.proofs.Common.{◌≡◌, ◌↔◌, ◌⊎◌, ℕ, ◌+◌, ◌<◌, inl, inr, refl, sym, subst, List, [], ◌∷◌, ◌++◌, length}
+use Rattle.std.proofs.Common.{take, get_or}
 use Rattle.std.specs.Prelude.{Contains}
 use Rattle.std.proofs.lemmas.List.{take_more}
 use Rattle.std.proofs.lemmas.List.Elements.{Contains-append_left, Contains-push, Contains-push_cases}
+use Rattle.access_races.specs.reading.Ways.{HasOne}
 
 pub either : {A B C : Type 0} → (A → C) → (B → C) → A ⊎ B → C
 either f g (inl a) = f a
@@ -43,3 +44,30 @@ front_more {X} xs i d lt x =
           (λ here. subst (λ z. Contains (take i xs ++ get_or xs i d ∷ []) z) here
           (Contains-push (take i xs) (get_or xs i d))) h),
     )
+
+-- a list with one more element behind it
+pub pushed : {X : Type 0} (us vs : List X) (x : X) → vs ≡ us ++ x ∷ [] → (w : X)
+    → Contains vs w ↔ (Contains us w ⊎ (w ≡ x))
+pushed us vs x is w = (
+  λ h. either (λ o. inl o) (λ e. inr (sym e)) (Contains-push_cases us x w (subst (λ ws. Contains ws w) is h)),
+  λ h. subst (λ ws. Contains ws w) (sym is) (either (λ o. Contains-append_left us (x ∷ []) w o)
+      (λ e. subst (Contains (us ++ x ∷ [])) (sym e) (Contains-push us x)) h),
+)
+
+-- one of the front with one more is so
+pub one_more : {X : Type 0} (Is : X → Type 0) (xs : List X) (i : ℕ) (d : X) → i < length xs
+    → HasOne Is (take (i + 1) xs) ↔ (HasOne Is (take i xs) ⊎ Is (get_or xs i d))
+one_more {X} Is xs i d lt = (
+  λ h. either (λ before. inl (record { one = h.one; has = before; is = h.is }))
+      (λ same. inr (subst Is (sym same) h.is)) ((front_more xs i d lt h.one).0 h.has),
+  λ h. either (λ (o : HasOne Is (take i xs)). record {
+    one = o.one;
+    has = (front_more xs i d lt o.one).1 (inl o.has);
+    is = o.is;
+  })
+      (λ here. record {
+        one = get_or xs i d;
+        has = (front_more xs i d lt (get_or xs i d)).1 (inr refl);
+        is = here;
+      }) h,
+)

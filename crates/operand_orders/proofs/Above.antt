@@ -10,7 +10,7 @@ use Rattle.pointer_dom.specs.OffsetSets.{OffsetSet, IsOffsetsBelow, joined_offse
 use Rattle.pointer_dom.specs.PointerSets.{no_pointer}
 use Rattle.pointer_dom.specs.Values.{Values, no_value, IsValuesBelow, joined_values}
 use Rattle.pointer_dom.specs.laws.OffsetLaws.{hull_left, hull_right, hull_least, empty_below}
-use Rattle.operand_orders.proofs.Elements.{either}
+use Rattle.access_races.proofs.Joins.{either}
 
 -- ## Offsets
 

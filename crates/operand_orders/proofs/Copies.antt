@@ -12,11 +12,13 @@ use Rattle.post_recheck.specs.transfer_rows.StateForms.{State}
 use Rattle.post_recheck.specs.task_equations.Bodies.{no_copy}
 use Rattle.operand_orders.specs.declared.views.BodyView.{BodyView}
 use Rattle.operand_orders.specs.Reached.{SolvedBody, operation_at, HasState, IsReached}
-use Rattle.operand_orders.specs.reading.Lists.{list_at, AreEmptyLists}
+use Rattle.access_races.specs.reading.Ways.{list_at}
+use Rattle.operand_orders.specs.reading.Lists.{AreEmptyLists}
 use Rattle.operand_orders.specs.reading.Views.{IsCopyOf, AreCopiesOf, AreCopiesBy, IsIndexed, state_from}
 use Rattle.operand_orders.specs.reading.Views.{state_at}
 use Rattle.operand_orders.specs.reading.Views.{IsStateIn, IsNumberAdded}
-use Rattle.operand_orders.proofs.Elements.{either, grown, none, past_lists}
+use Rattle.access_races.proofs.Joins.{either, grown}
+use Rattle.operand_orders.proofs.Elements.{none, past_lists}
 
 -- ## By edges
 

@@ -22,7 +22,8 @@ use Rattle.operand_orders.specs.contracts.pairs.PairPartialEq.TheImpl.{eq-value}
 use Rattle.operand_orders.specs.contracts.pairs.PairEq.TheImpl.Laws.{laws-law}
 use Rattle.operand_orders.specs.reading.Pairs.{pair, swapped, IsBefore, pair_at, AreRising, AreInOrder}
 use Rattle.operand_orders.specs.reading.Pairs.{IsFirstNotBefore}
-use Rattle.operand_orders.proofs.Elements.{either, front_more, IsInPart}
+use Rattle.access_races.proofs.Joins.{either, front_more}
+use Rattle.operand_orders.proofs.Elements.{IsInPart}
 
 -- ## The order
 

@@ -9,10 +9,11 @@ use Rattle.flow_graph.specs.declared.operations.Operation.{Operation}
 use Rattle.post_recheck.specs.transfer_rows.StateForms.{State, Cell, own_of, own_value}
 use Rattle.operand_orders.specs.Reached.{SolvedBody, operation_at, HasState}
 use Rattle.operand_orders.specs.Order.{IsAmong}
-use Rattle.operand_orders.specs.reading.Lists.{HasOne}
+use Rattle.access_races.specs.reading.Ways.{HasOne}
 use Rattle.operand_orders.specs.reading.Views.{AreCopiesOf, state_at, IsStateIn}
 use Rattle.operand_orders.specs.reading.Operands.{IsJoinOf, IsJoinedBy, IsJoinedWith, Exceeds, HasMore}
-use Rattle.operand_orders.proofs.Elements.{either, has_none, one_more}
+use Rattle.access_races.proofs.Joins.{either, one_more}
+use Rattle.operand_orders.proofs.Elements.{has_none}
 use Rattle.operand_orders.proofs.Copies.{state_of_edge, states_in}
 use Rattle.operand_orders.proofs.Above.{values_same, values_through, values_left, values_right, values_least}
 use Rattle.operand_orders.proofs.Above.{nothing_below}

@@ -4,7 +4,7 @@ use Rattle.std.proofs.Common.{length, arith}
 use Rattle.std.proofs.lemmas.Bool.{true≢false, cases_lt}
 use Rattle.std.proofs.lemmas.List.{get_or_past}
 use Rattle.operand_orders.specs.reading.Marks.{IsMarked, IsLast, IsMarkedBetween}
-use Rattle.operand_orders.proofs.Elements.{either}
+use Rattle.access_races.proofs.Joins.{either}
 
 module _ (marks : List Bool) where
   -- a number of the range is marked where the last of those below the end is not below the first

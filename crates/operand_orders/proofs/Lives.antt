@@ -1,26 +1,16 @@
 -- The lives of objects, with one more.
 use Rattle.std.proofs.Common.{◌≡◌, ◌↔◌, ◌⊎◌, ℕ, ◌+◌, ◌<◌, ap, sym, subst, ◌∙◌, inl, inr, Bool, true, false}
 use Rattle.std.proofs.Common.{List, length, get_or, take}
-use Rattle.std.specs.Prelude.{Contains, slice_set}
-use Rattle.std.specs.declared.vec.Vec.{Vec}
+use Rattle.std.specs.Prelude.{Contains}
 use Rattle.path_origins.specs.declared.origins.Life.{Life}
 use Rattle.std.proofs.lemmas.Bool.{true≢false}
 use Rattle.tm_laid.specs.Layouts.{is_shared}
 use Rattle.operand_orders.specs.declared.scopes.ObjectLives.{ObjectLives}
 use Rattle.operand_orders.specs.Reached.{SolvedBody, IsWithin, IsOpen}
 use Rattle.operand_orders.specs.Reached.IsOpen.{static, declared}
-use Rattle.operand_orders.specs.reading.Lists.{list_at, HasOne}
+use Rattle.access_races.specs.reading.Ways.{list_at, HasOne}
 use Rattle.operand_orders.specs.reading.Scopes.{AreLivesOf}
-use Rattle.operand_orders.proofs.Elements.{either, front_more, added}
-
--- where the lists were the same before
-pub added_among : {X A : Type 0} (before old : List (Vec X A)) (k : ℕ) (lt : k < length old)
-    (same : (n : ℕ) → list_at old n ≡ list_at before n) (u v : Vec X A) (is : u ≡ get_or old k u) (x : X)
-    (more : (w : X) → Contains v.items w ↔ (Contains u.items w ⊎ (w ≡ x))) (n : ℕ) (w : X)
-    → Contains (list_at (slice_set old k v) n) w ↔ (Contains (list_at before n) w ⊎ ((n ≡ k) × (w ≡ x)))
-added_among before old k lt same u v is x more n w =
-    subst (λ l. Contains (list_at (slice_set old k v) n) w ↔ (Contains l w ⊎ ((n ≡ k) × (w ≡ x)))) (same n)
-    (added old k lt u v is x more n w)
+use Rattle.access_races.proofs.Joins.{either, front_more}
 
 pub life_more : (xs : List Life) (i : ℕ) (d : Life) → i < length xs → (o : ℕ) (l : Life)
     → (Contains (take (i + 1) xs) l × (l.object ≡ o))

@@ -15,7 +15,7 @@ use Rattle.operand_orders.specs.Order.ReadsMore.{unreached, differing}
 use Rattle.operand_orders.specs.reading.Pairs.{pair}
 use Rattle.operand_orders.specs.reading.Touches.{AreTouches, IsMarkedIn}
 use Rattle.operand_orders.specs.reading.Operands.{HasMore, LoadsMore}
-use Rattle.operand_orders.proofs.Elements.{either}
+use Rattle.access_races.proofs.Joins.{either}
 use Rattle.operand_orders.proofs.Pairing.{acts_are}
 
 -- it holds of none of the first, with one more

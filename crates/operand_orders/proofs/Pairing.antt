@@ -16,14 +16,14 @@ use Rattle.operand_orders.specs.Order.IsSeen.{waiting, storing, loading}
 use Rattle.operand_orders.specs.Order.Touches.{loaded, stored}
 use Rattle.operand_orders.specs.Order.Matters.{touching, waiting as one_waits, reading}
 use Rattle.operand_orders.specs.Order.IsOfOrder.{operands, reloaded, overwritten}
-use Rattle.operand_orders.specs.reading.Lists.{HasOne}
+use Rattle.access_races.specs.reading.Ways.{HasOne}
 use Rattle.operand_orders.specs.reading.Pairs.{pair}
 use Rattle.operand_orders.specs.reading.Touches.{WaitsAt, IsSeenAt, HasAccess}
 use Rattle.operand_orders.specs.reading.Touches.{IsTouched}
 use Rattle.operand_orders.specs.reading.Touches.{IsMarkedIn, AreTouches}
 use Rattle.operand_orders.specs.reading.Operands.{DoMeet, DoOverlap, AreSeen, IsReloaded, IsOverwritten}
 use Rattle.operand_orders.specs.reading.Operands.{IsOfOperands, IsOfReloads, IsOfOverwrites}
-use Rattle.operand_orders.proofs.Elements.{either}
+use Rattle.access_races.proofs.Joins.{either}
 
 -- ## Tables
 

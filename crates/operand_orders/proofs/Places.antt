@@ -6,8 +6,9 @@ use Rattle.tm_terms.specs.declared.places.Place.{Place}
 use Rattle.text_choices.specs.Choices.{Adds, OfKind}
 use Rattle.text_choices.specs.declared.kinds.Choice.{Choice}
 use Rattle.text_choices.specs.declared.kinds.Kind.TheVariants as Kinds
-use Rattle.operand_orders.specs.reading.Lists.{HasOne}
-use Rattle.operand_orders.proofs.Elements.{either, joined, has_none, nothing_more, one_more}
+use Rattle.access_races.specs.reading.Ways.{HasOne}
+use Rattle.access_races.proofs.Joins.{either, joined, one_more}
+use Rattle.operand_orders.proofs.Elements.{has_none, nothing_more}
 
 module _ {X : Type 0} (place : X → Place) (Is : X → Type 0) where
   -- a place of one of these of which it holds

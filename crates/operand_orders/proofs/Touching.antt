@@ -25,7 +25,7 @@ use Rattle.operand_orders.specs.Reached.Stores.{by_store}
 use Rattle.operand_orders.specs.Order.{Waits, IsActing, IsInitialising, IsStoredByOthers}
 use Rattle.operand_orders.specs.Order.Waits.{locks, unlocks, yields, probes}
 use Rattle.operand_orders.specs.Order.IsActing.{placed, waiting}
-use Rattle.operand_orders.specs.reading.Lists.{HasOne}
+use Rattle.access_races.specs.reading.Ways.{HasOne}
 use Rattle.operand_orders.specs.reading.Pairs.{pair}
 use Rattle.operand_orders.specs.reading.Marks.{IsMarked, AreMarks}
 use Rattle.operand_orders.specs.reading.Views.{solved, AreCopiesOf, IsIndexed, state_at}
@@ -33,7 +33,7 @@ use Rattle.operand_orders.specs.reading.Touches.{load_of, store_of, access_of, i
 use Rattle.operand_orders.specs.reading.Touches.{HasTargetAt, Reaches, Changes, WaitsAt, StoresSeen, LoadsSeen}
 use Rattle.operand_orders.specs.reading.Touches.{IsSeenAt}
 use Rattle.operand_orders.specs.reading.Touches.{AreAccesses, IsTableOf, AreMarked, AreMarksOf}
-use Rattle.operand_orders.proofs.Elements.{either, front_more}
+use Rattle.access_races.proofs.Joins.{either, front_more}
 use Rattle.operand_orders.proofs.Copies.{state_of_edge, states_in}
 
 -- ## Pairs of an edge and a cell

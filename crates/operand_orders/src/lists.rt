@@ -1,6 +1,6 @@
 //! Lists in lists, by numbers.
-ghost use Rattle.std.specs.Prelude.{◌≡◌, ◌<◌, ℕ, length, IfOk, OnOk};
-ghost use Rattle.operand_orders.specs.reading.Lists.{list_at, AreEmptyLists};
+ghost use Rattle.std.specs.Prelude.{◌≡◌, IfOk};
+ghost use Rattle.operand_orders.specs.reading.Lists.{AreEmptyLists};
 
 use std::alloc::Global;
 use tm_lattice::NoMemory;
@@ -24,19 +24,4 @@ pub(crate) fn empty_lists<T: Drop>(alloc: Global, count: usize) -> Result<Vec<Ve
         lists.push(Vec::new(alloc))?;
     }
     Ok(lists)
-}
-
-/// Empty lists up to that with a number.
-pub(crate) fn make_room<T: Drop>(
-    alloc: Global,
-    lists: &mut Vec<Vec<T>>,
-    number: u32,
-) -> Result<(), NoMemory>
-    ensures room { OnOk result (number < length lists.new.items) }
-    ensures same { OnOk result ((n : ℕ) → list_at lists.new.items n ≡ list_at lists.old.items n) }
-{
-    for _ in lists.len()..number as usize + 1 {
-        lists.push(Vec::new(alloc))?;
-    }
-    Ok(())
 }

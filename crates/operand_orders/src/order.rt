@@ -6,7 +6,7 @@ ghost use Rattle.text_choices.specs.Choices.{Adds, OfKind};
 ghost use Rattle.text_choices.specs.declared.kinds.Kind.TheVariants as Kinds;
 ghost use Rattle.operand_orders.specs.Reached.{HasState, operation_at};
 ghost use Rattle.operand_orders.specs.Order.{ReadsMore, Matters, IsOfOrder};
-ghost use Rattle.operand_orders.specs.reading.Lists.{HasOne};
+ghost use Rattle.access_races.specs.reading.Ways.{HasOne};
 ghost use Rattle.operand_orders.specs.reading.Touches.{AreTables, AreTouches};
 ghost use Rattle.operand_orders.specs.reading.Operands.{IsJoinOf, IsJoinedBy, IsJoinedWith, Exceeds, HasMore};
 ghost use Rattle.operand_orders.specs.reading.Operands.{LoadsMore, IsOfOperands, IsOfReloads, IsOfOverwrites};

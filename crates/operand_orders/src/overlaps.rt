@@ -1,7 +1,7 @@
 //! Whether two operands touch the same.
 ghost use Rattle.std.specs.Prelude.{◌↔◌, ◌⊎◌, IsTrue};
 ghost use Rattle.operand_orders.specs.declared.pairs.Pair.{Pair as APair};
-ghost use Rattle.operand_orders.specs.reading.Lists.{HasOne};
+ghost use Rattle.access_races.specs.reading.Ways.{HasOne};
 ghost use Rattle.operand_orders.specs.reading.Touches.{IsInOrder, AreTables, HasAccess, IsTouched};
 ghost use Rattle.operand_orders.specs.reading.Operands.{DoMeet, DoOverlap, AreSeen, IsReloaded, IsOverwritten};
 

@@ -3,17 +3,17 @@ ghost use Rattle.std.specs.Prelude.{◌≡◌, ◌↔◌, ◌⊎◌, ℕ, Contai
 ghost use Rattle.path_origins.specs.declared.origins.Life.{Life as ALife};
 ghost use Rattle.tm_laid.specs.Layouts.{laid_tree, is_shared};
 ghost use Rattle.operand_orders.specs.Reached.{IsWithin, IsOpen};
-ghost use Rattle.operand_orders.specs.reading.Lists.{list_at, HasOne};
+ghost use Rattle.access_races.specs.reading.Ways.{list_at, HasOne};
 ghost use Rattle.operand_orders.specs.reading.Scopes.{AreLivesOf};
 ghost use Rattle.operand_orders.specs.reading.Views.{solved};
 
-use crate::lists::{empty_lists, make_room};
+use crate::lists::empty_lists;
 use crate::views::BodyView;
-use edge_actions::object_at;
+use access_races::make_room;
 use edge_origins::BodyOrigins;
 use path_origins::{Life, Span};
 use std::alloc::Global;
-use tm_laid::Laid;
+use tm_laid::{Laid, object_at};
 use tm_lattice::NoMemory;
 
 /// For each object its lives in a body.

@@ -3,7 +3,7 @@ ghost use Rattle.std.specs.Prelude.{◌≡◌, ◌↔◌, ◌<◌, ℕ, length, 
 ghost use Rattle.operand_orders.specs.declared.pairs.Pair.{Pair as APair};
 ghost use Rattle.operand_orders.specs.Reached.{operation_at, IsStatic, Loads, Stores};
 ghost use Rattle.operand_orders.specs.Order.{IsActing, IsStoredByOthers};
-ghost use Rattle.operand_orders.specs.reading.Lists.{HasOne};
+ghost use Rattle.access_races.specs.reading.Ways.{HasOne};
 ghost use Rattle.operand_orders.specs.reading.Marks.{IsMarked, AreMarks};
 ghost use Rattle.operand_orders.specs.reading.Touches.{is_waiting, is_acting, Changes, WaitsAt, StoresSeen};
 ghost use Rattle.operand_orders.specs.reading.Touches.{LoadsSeen, IsSeenAt, IsTableOf, AreMarked, AreMarksOf};

@@ -3,7 +3,7 @@ ghost use Rattle.std.specs.Prelude.{◌≡◌, ◌↔◌, IfOk, OnOk, IsTrue};
 ghost use Rattle.std.specs.Option.{option_copied, is_some};
 ghost use Rattle.post_recheck.specs.table_covers.Solutions.{at};
 ghost use Rattle.operand_orders.specs.Reached.{operation_at, origin_at, IsReached, targets};
-ghost use Rattle.operand_orders.specs.reading.Lists.{list_at};
+ghost use Rattle.access_races.specs.reading.Ways.{list_at};
 ghost use Rattle.operand_orders.specs.reading.Views.{solved, AreCopiesOf, AreCopiesBy, IsIndexed, state_at};
 ghost use Rattle.operand_orders.specs.reading.Views.{IsNumberAdded};
 

@@ -4,10 +4,9 @@ use Rattle.std.specs.declared.vec.Vec.{Vec}
 use Rattle.tm_laid.specs.Layouts.{LaidTree, abstract_at}
 use Rattle.access_races.specs.declared.accesses.Way.{Way}
 use Rattle.access_races.specs.declared.accesses.Access.{Access}
-use Rattle.access_races.specs.reading.Ways.{list_at, IsRacingIn}
+use Rattle.access_races.specs.reading.Ways.{list_at, IsRacingIn, HasOne}
 use Rattle.access_groups.specs.declared.object_access.ObjectAccess.{ObjectAccess}
 use Rattle.access_groups.specs.declared.site.Site.{Site}
-use Rattle.access_groups.specs.reading.Sites.{HasOne}
 
 module _ {A : Type 0} (ways : List (Vec Way A)) where
   -- what is noted of an access

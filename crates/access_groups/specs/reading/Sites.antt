@@ -1,5 +1,5 @@
 -- The accesses of tasks, each with its edge.
-use Rattle.std.specs.Prelude.{◌≡◌, ℕ, ◌<◌, false, List, length, Contains, Option, Some, None}
+use Rattle.std.specs.Prelude.{◌≡◌, ℕ, ◌<◌, false, List, length, Option, Some, None}
 use Rattle.tm_terms.specs.declared.places.Place.{Place}
 use Rattle.flow_graph.specs.declared.operations.Operation.{Operation}
 use Rattle.flow_graph.specs.declared.operations.Operation.TheVariants as Op
@@ -8,7 +8,7 @@ use Rattle.program_reports.specs.post_recheck.table_covers.Solutions.{NodeTable}
 use Rattle.program_reports.specs.post_recheck.task_equations.Bodies.{Body, copy_at}
 use Rattle.program_reports.specs.post_recheck.program_equations.Programs.{ProgramBodies, body_at}
 use Rattle.access_races.specs.declared.accesses.Way.{Way}
-use Rattle.access_races.specs.reading.Ways.{no_access}
+use Rattle.access_races.specs.reading.Ways.{no_access, HasOne}
 use Rattle.program_reports.specs.reading.Found.{IsTargetIn, GivesAccess, IsGivenBelow}
 use Rattle.program_reports.specs.reading.Bodies.{IsGivenUpTo}
 use Rattle.access_groups.specs.declared.object_access.ObjectAccess.{ObjectAccess}
@@ -63,12 +63,6 @@ module _ (p : ProgramBodies) (tables : ℕ → NodeTable State) where
   IsSiteUpTo n x = IsGivenUpTo (λ t. IsSiteOf t x) n
 
 -- ## Among these
-
--- one of them is so
-pub record HasOne {X : Type 0} (Is : X → Type 0) (xs : List X) : Type 0 where
-  pub one : X
-  pub has : Contains xs one
-  pub is : Is one
 
 -- one of them reaches the cell in this way
 abbrev pub IsWayOfSite : List Site → ℕ → Way → Type 0

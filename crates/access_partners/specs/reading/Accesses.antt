@@ -3,11 +3,11 @@ use Rattle.std.specs.Prelude.{◌≡◌, ◌↔◌, ℕ, ◌<◌, false, List, l
 use Rattle.std.specs.declared.vec.Vec.{Vec}
 use Rattle.tm_laid.specs.Layouts.{LaidTree, abstract_at}
 use Rattle.access_races.specs.declared.accesses.Way.{Way}
-use Rattle.access_races.specs.reading.Ways.{list_at, IsRacingIn}
+use Rattle.access_races.specs.reading.Ways.{list_at, IsRacingIn, HasOne}
 use Rattle.access_groups.specs.declared.object_access.ObjectAccess.{ObjectAccess}
 use Rattle.access_groups.specs.declared.site.Site.{Site}
 use Rattle.access_groups.specs.Order.{sort_key}
-use Rattle.access_groups.specs.reading.Sites.{access_of, HasOne}
+use Rattle.access_groups.specs.reading.Sites.{access_of}
 use Rattle.access_partners.specs.declared.details.AccessDetails.{AccessDetails}
 use Rattle.access_partners.specs.Lists.{AreListed}
 

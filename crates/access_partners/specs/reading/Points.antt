@@ -6,10 +6,9 @@ use Rattle.interfere_set.specs.Stores.{are_apart}
 use Rattle.access_races.specs.declared.accesses.Way.{Way}
 use Rattle.access_races.specs.Races.{do_race}
 use Rattle.access_groups.specs.declared.object_access.ObjectAccess.{ObjectAccess}
-use Rattle.access_races.specs.reading.Ways.{list_at}
+use Rattle.access_races.specs.reading.Ways.{list_at, HasOne}
 use Rattle.access_groups.specs.declared.site.Site.{Site}
 use Rattle.access_partners.specs.declared.points.Point.{Point}
-use Rattle.access_groups.specs.reading.Sites.{HasOne}
 
 -- what stands in place of one that there is not
 abbrev pub no_point : Point

@@ -19,6 +19,12 @@ no_access = record {
 abbrev pub list_at : {X A : Type 0} → List (Vec X A) → ℕ → List X
 list_at lists n = get_or (map (λ list. list.items) lists) n []
 
+-- it holds of one of them
+pub record HasOne {X : Type 0} (Is : X → Type 0) (xs : List X) : Type 0 where
+  pub one : X
+  pub has : Contains xs one
+  pub is : Is one
+
 -- the cell is accessed in this way
 pub record IsWayTo (accesses : List Access) (to : ℕ) (by : Way) : Type 0 where
   pub access : Access

@@ -11,7 +11,7 @@ use Rattle.operand_orders.specs.declared.accesses.Accesses.{Accesses}
 use Rattle.operand_orders.specs.declared.touches.Touches.{Touches}
 use Rattle.operand_orders.specs.Reached.{SolvedBody, HasState, operation_at}
 use Rattle.operand_orders.specs.Order.{IsAmong, Matters, SpanLoads}
-use Rattle.operand_orders.specs.reading.Lists.{HasOne}
+use Rattle.access_races.specs.reading.Ways.{HasOne}
 use Rattle.operand_orders.specs.reading.Touches.{HasAccess, IsTouched, IsMarkedIn}
 use Rattle.operand_orders.specs.reading.Views.{state_at}
 

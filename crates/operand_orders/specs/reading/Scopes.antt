@@ -2,7 +2,7 @@
 use Rattle.std.specs.Prelude.{◌≡◌, ◌↔◌, ℕ, List, Contains}
 use Rattle.path_origins.specs.declared.origins.Life.{Life}
 use Rattle.operand_orders.specs.declared.scopes.ObjectLives.{ObjectLives}
-use Rattle.operand_orders.specs.reading.Lists.{list_at}
+use Rattle.access_races.specs.reading.Ways.{list_at}
 
 -- for each object exactly its lives, of these
 pub record AreLivesOf (given : List Life) (lives : ObjectLives) : Type 0 where

@@ -7,7 +7,7 @@ use Rattle.post_recheck.specs.transfer_rows.StateForms.{State}
 use Rattle.post_recheck.specs.table_covers.Solutions.{at}
 use Rattle.operand_orders.specs.declared.views.BodyView.{BodyView}
 use Rattle.operand_orders.specs.Reached.{SolvedBody}
-use Rattle.operand_orders.specs.reading.Lists.{list_at, HasOne}
+use Rattle.access_races.specs.reading.Ways.{list_at, HasOne}
 
 -- the body that is read
 abbrev pub solved : BodyView → SolvedBody

@@ -1,8 +1,7 @@
 use Rattle.std.proofs.Common.{◌↔◌, ◌⊎◌, ◌≤◌, length, get_or, subst, arith}
 use Rattle.std.specs.Prelude.{Contains}
 use Rattle.std.proofs.lemmas.List.{take_all}
-use Rattle.access_races.proofs.Joins.{joined}
-use Rattle.access_groups.proofs.Noted.{pushed}
+use Rattle.access_races.proofs.Joins.{joined, pushed}
 use Rattle.access_groups.specs.declared.site.Site.{Site}
 use Rattle.access_groups.specs.reading.Sites.{IsTargetSite}
 use Rattle.access_groups.proofs.Targets.{targets_more}

@@ -1,4 +1,4 @@
-use Rattle.std.proofs.Common.{◌≤◌, ◌↔◌, length, subst, arith}
+use Rattle.std.proofs.Common.{◌≤◌, ◌↔◌, length, ap, subst, arith}
 use Rattle.std.specs.Prelude.{Contains}
 use Rattle.std.proofs.lemmas.List.{take_all}
 use Rattle.tm_laid.specs.Layouts.{laid_tree}
@@ -13,7 +13,8 @@ loop-site-preserved c = record {
   small = c.in_ok-push_noted.ensures.small;
   noted = λ o e. grown (c.in_ok-push_noted.ensures.added o e) (c.loop-site.invariant.noted o e)
       (noted_more c.args.ways.now (laid_tree c.args.laid.now) c.args.sites.now c.loop-site.site-index
-      c.loop-site-test.true c.noted.result c.noted.ensures c.object_of-object.result c.object_of-object.ensures o e);
+      c.loop-site-test.true c.noted.result c.noted.ensures c.abstract_at-object.result.object
+      (ap (λ a. a.object) c.abstract_at-object.ensures) o e);
 }
 
 pub returns-clause-exact : goal.returns-clause-exact

@@ -1,11 +1,10 @@
 use Rattle.std.proofs.Common.{◌≡◌, ◌≤◌, ◌↔◌, length, subst, arith}
 use Rattle.std.specs.Prelude.{Contains}
 use Rattle.std.proofs.lemmas.List.{take_all}
-use Rattle.access_races.proofs.Joins.{grown}
+use Rattle.access_races.proofs.Joins.{grown, one_more}
 use Rattle.access_races.specs.reading.Ways.{list_at}
 use Rattle.access_groups.specs.declared.site.Site.{Site}
 use Rattle.access_groups.specs.reading.Sites.{no_site, IsWayOfSite}
-use Rattle.access_groups.proofs.Noted.{one_more}
 use Rattle.access_groups.proofs.ways.ways_by_cell.Goals as goal
 
 pub loop-site-preserved : goal.loop-site-preserved

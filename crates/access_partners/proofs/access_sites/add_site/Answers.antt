@@ -1,6 +1,6 @@
 use Rattle.std.proofs.Common.{◌<◌, refl, subst, length, IfSome, IfNone, arith, rules}
 use Rattle.access_races.proofs.Cells.{added}
-use Rattle.access_groups.proofs.Noted.{pushed}
+use Rattle.access_races.proofs.Joins.{pushed}
 use Rattle.access_partners.specs.reading.Search.{IsIndex, HasNoIndex}
 use Rattle.access_partners.proofs.Search.{added_at, not_added}
 use Rattle.access_partners.proofs.access_sites.add_site.Goals as goal

@@ -1,5 +1,5 @@
 use Rattle.access_races.proofs.Cells.{added}
-use Rattle.access_groups.proofs.Noted.{pushed}
+use Rattle.access_races.proofs.Joins.{pushed}
 use Rattle.access_partners.proofs.objects.push_site.Goals as goal
 
 pub returns-clause-added : goal.returns-clause-added

@@ -1,13 +1,12 @@
-use Rattle.std.proofs.Common.{◌≡◌, ◌≤◌, ◌↔◌, ◌∙◌, sym, length, subst, arith}
+use Rattle.std.proofs.Common.{◌≡◌, ◌≤◌, ◌↔◌, ◌∙◌, sym, ap, length, subst, arith}
 use Rattle.std.specs.Prelude.{Contains}
 use Rattle.std.proofs.lemmas.List.{take_all}
 use Rattle.tm_laid.specs.Layouts.{laid_tree, abstract_at}
-use Rattle.access_races.proofs.Joins.{grown}
+use Rattle.access_races.proofs.Joins.{grown, one_more}
 use Rattle.access_races.specs.reading.Ways.{list_at}
 use Rattle.access_groups.specs.declared.site.Site.{Site}
 use Rattle.access_groups.specs.reading.Sites.{no_site}
 use Rattle.access_partners.specs.reading.Accesses.{IsSiteTo}
-use Rattle.access_groups.proofs.Noted.{one_more}
 use Rattle.access_partners.proofs.Lists.{under_same}
 use Rattle.access_partners.proofs.objects.sites_by_object.Goals as goal
 
@@ -17,7 +16,8 @@ loop-site-preserved c = record {
   sites = λ o x. grown (c.in_ok-push_site.ensures.added o x) (c.loop-site.invariant.sites o x)
       (under_same (one_more (λ (y : Site). (let a = abstract_at (laid_tree c.args.laid.now) y.access.cell in
       o ≡ a.object) × (x ≡ y)) c.args.sites.now c.loop-site.site-index no_site c.loop-site-test.true)
-      (λ e. e ∙ c.object_of-object.ensures) (λ e. e ∙ sym c.object_of-object.ensures));
+      (λ e. e ∙ ap (λ a. a.object) c.abstract_at-object.ensures)
+      (λ e. e ∙ sym (ap (λ a. a.object) c.abstract_at-object.ensures)));
 }
 
 pub returns : goal.returns

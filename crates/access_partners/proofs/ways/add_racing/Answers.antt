@@ -1,7 +1,6 @@
 use Rattle.std.proofs.Common.{◌≡◌, ◌∙◌, sym, inl, inr}
 use Rattle.std.proofs.lemmas.Bool.{true≢false}
-use Rattle.access_races.proofs.Joins.{either}
-use Rattle.access_groups.proofs.Noted.{pushed}
+use Rattle.access_races.proofs.Joins.{either, pushed}
 use Rattle.access_partners.specs.reading.Accesses.{IsRacingAmong}
 use Rattle.access_partners.proofs.ways.add_racing.Goals as goal
 

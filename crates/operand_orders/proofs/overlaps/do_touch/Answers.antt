@@ -1,6 +1,6 @@
 use Rattle.std.proofs.Common.{◌∙◌, sym, inl, inr}
 use Rattle.std.proofs.lemmas.Bool.{true≢false}
-use Rattle.operand_orders.proofs.Elements.{either}
+use Rattle.access_races.proofs.Joins.{either}
 use Rattle.operand_orders.proofs.overlaps.do_touch.Goals as goal
 
 pub returns-then-overlap : goal.returns-then-overlap

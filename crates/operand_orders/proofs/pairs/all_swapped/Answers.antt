@@ -2,7 +2,7 @@ use Rattle.std.proofs.Common.{◌≤◌, ◌↔◌, length, get_or, subst, arith
 use Rattle.std.specs.Prelude.{Contains}
 use Rattle.std.proofs.lemmas.List.{take_all}
 use Rattle.operand_orders.specs.reading.Pairs.{pair, swapped}
-use Rattle.operand_orders.proofs.Elements.{grown, pushed}
+use Rattle.access_races.proofs.Joins.{grown, pushed}
 use Rattle.operand_orders.proofs.Halving.{swapped_is}
 use Rattle.operand_orders.proofs.pairs.all_swapped.Goals as goal
 

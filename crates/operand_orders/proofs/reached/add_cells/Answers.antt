@@ -2,7 +2,7 @@ use Rattle.std.proofs.Common.{◌≡◌, ◌↔◌, ◌⊎◌, ◌≤◌, length
 use Rattle.std.specs.Prelude.{Contains}
 use Rattle.std.proofs.lemmas.List.{take_all}
 use Rattle.operand_orders.specs.reading.Pairs.{pair}
-use Rattle.operand_orders.proofs.Elements.{joined, pushed}
+use Rattle.access_races.proofs.Joins.{joined, pushed}
 use Rattle.operand_orders.proofs.Touching.{cells_more}
 use Rattle.operand_orders.proofs.reached.add_cells.Goals as goal
 

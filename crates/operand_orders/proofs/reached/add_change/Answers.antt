@@ -2,7 +2,8 @@ use Rattle.std.proofs.Common.{◌∙◌, sym, inl}
 use Rattle.std.proofs.lemmas.Bool.{true≢false}
 use Rattle.operand_orders.specs.Order.{IsInitialising}
 use Rattle.operand_orders.specs.reading.Views.{solved}
-use Rattle.operand_orders.proofs.Elements.{either, pushed, relabelled}
+use Rattle.access_races.proofs.Joins.{either, pushed}
+use Rattle.program_reports.proofs.Tables.{relabelled}
 use Rattle.operand_orders.proofs.reached.add_change.Goals as goal
 
 pub returns-then-is_initialising : goal.returns-then-is_initialising

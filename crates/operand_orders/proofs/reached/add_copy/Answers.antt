@@ -1,7 +1,8 @@
 use Rattle.std.proofs.Common.{refl, sym}
 use Rattle.std.proofs.lemmas.Result.{on_ok_weaker}
 use Rattle.operand_orders.specs.reading.Views.{solved}
-use Rattle.operand_orders.proofs.Elements.{relabelled, alongside, nothing_more}
+use Rattle.program_reports.proofs.Tables.{relabelled}
+use Rattle.operand_orders.proofs.Elements.{alongside, nothing_more}
 use Rattle.operand_orders.proofs.Touching.{target_is, no_target}
 use Rattle.operand_orders.proofs.reached.add_copy.Goals as goal
 

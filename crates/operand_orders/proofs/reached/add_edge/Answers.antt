@@ -3,7 +3,8 @@ use Rattle.std.specs.Prelude.{Contains}
 use Rattle.std.proofs.lemmas.Result.{on_ok_weaker}
 use Rattle.operand_orders.specs.reading.Touches.{access_of, HasTargetAt}
 use Rattle.operand_orders.specs.reading.Views.{solved}
-use Rattle.operand_orders.proofs.Elements.{relabelled, alongside, nothing_more}
+use Rattle.program_reports.proofs.Tables.{relabelled}
+use Rattle.operand_orders.proofs.Elements.{alongside, nothing_more}
 use Rattle.operand_orders.proofs.Touching.{reaches_by, reaches_nothing}
 use Rattle.operand_orders.proofs.reached.add_edge.Goals as goal
 

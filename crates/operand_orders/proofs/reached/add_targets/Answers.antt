@@ -1,10 +1,12 @@
 use Rattle.std.proofs.Common.{◌≡◌, ◌↔◌, ◌⊎◌, ◌≤◌, ℕ, length, subst, arith}
 use Rattle.std.specs.Prelude.{Contains}
 use Rattle.std.proofs.lemmas.List.{take_all}
-use Rattle.operand_orders.specs.reading.Lists.{HasOne}
+use Rattle.access_races.specs.reading.Ways.{HasOne}
 use Rattle.operand_orders.specs.reading.Touches.{HasTarget}
 use Rattle.operand_orders.specs.reading.Views.{solved}
-use Rattle.operand_orders.proofs.Elements.{joined, one_more, relabelled, alongside}
+use Rattle.access_races.proofs.Joins.{joined, one_more}
+use Rattle.program_reports.proofs.Tables.{relabelled}
+use Rattle.operand_orders.proofs.Elements.{alongside}
 use Rattle.operand_orders.proofs.Touching.{beside, targets_at_edge}
 use Rattle.operand_orders.proofs.reached.add_targets.Goals as goal
 

@@ -1,7 +1,7 @@
 use Rattle.std.proofs.Common.{◌≡◌, ◌↔◌, ◌⊎◌, ℕ, take}
 use Rattle.std.specs.Prelude.{Contains}
 use Rattle.operand_orders.specs.declared.pairs.Pair.{Pair as APair}
-use Rattle.operand_orders.specs.reading.Lists.{HasOne}
+use Rattle.access_races.specs.reading.Ways.{HasOne}
 use Rattle.operand_orders.specs.reading.Touches.{HasTarget}
 use Rattle.operand_orders.specs.reading.Views.{solved}
 use Rattle.operand_orders.proofs.reached.add_targets.Given as goal

@@ -1,6 +1,6 @@
 use Rattle.std.proofs.Common.{◌<◌, length, arith}
 use Rattle.operand_orders.specs.reading.Views.{solved}
-use Rattle.operand_orders.proofs.Elements.{grown}
+use Rattle.access_races.proofs.Joins.{grown}
 use Rattle.operand_orders.proofs.Touching.{edges_more, state_below}
 use Rattle.operand_orders.proofs.reached.all_reached.Goals as goal
 

@@ -3,7 +3,7 @@ use Rattle.std.specs.Prelude.{Contains}
 use Rattle.std.proofs.lemmas.List.{take_all}
 use Rattle.operand_orders.specs.Order.{IsInitialising}
 use Rattle.operand_orders.specs.reading.Views.{solved}
-use Rattle.operand_orders.proofs.Elements.{grown}
+use Rattle.access_races.proofs.Joins.{grown}
 use Rattle.operand_orders.proofs.Touching.{change_more}
 use Rattle.operand_orders.proofs.reached.changes_of.Goals as goal
 

@@ -1,8 +1,9 @@
 use Rattle.std.proofs.Common.{◌≡◌, ◌↔◌, ◌≤◌, ◌∙◌, length, subst, arith}
 use Rattle.std.specs.Prelude.{Contains}
 use Rattle.std.proofs.lemmas.List.{take_all}
-use Rattle.operand_orders.specs.reading.Lists.{list_at}
-use Rattle.operand_orders.proofs.Elements.{none, grown}
+use Rattle.access_races.specs.reading.Ways.{list_at}
+use Rattle.access_races.proofs.Joins.{grown}
+use Rattle.operand_orders.proofs.Elements.{none}
 use Rattle.operand_orders.proofs.Lives.{life_more}
 use Rattle.operand_orders.proofs.scopes.lives_of.Goals as goal
 

@@ -1,7 +1,7 @@
 use Rattle.std.proofs.Common.{◌≡◌, ◌↔◌, ℕ, take}
 use Rattle.std.specs.Prelude.{Contains}
 use Rattle.path_origins.specs.declared.origins.Life.{Life as ALife}
-use Rattle.operand_orders.specs.reading.Lists.{list_at}
+use Rattle.access_races.specs.reading.Ways.{list_at}
 use Rattle.operand_orders.proofs.scopes.lives_of.Given as goal
 
 abbrev pub invariant-loop-life : goal.invariant-loop-life
