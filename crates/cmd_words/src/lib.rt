@@ -11,5 +11,5 @@ mod numbers;
 mod words;
 
 pub use commands::{AnalyseWords, Command, DemoWords, Thresholds};
-pub use numbers::read_number;
+pub use numbers::{are_digits, read_number};
 pub use words::read_words;

@@ -13,7 +13,7 @@ const MOST_DIGITS: usize = 10;
 const GREATEST: u32 = 2_147_483_647;
 
 /// Whether all bytes are ASCII digits.
-fn has_digits_alone(text: &[u8]) -> bool
+pub fn are_digits(text: &[u8]) -> bool
     ensures { result ≡ list_all is_ascii_digit text.now }
 {
     text.iter().all(|byte| byte.is_ascii_digit())
@@ -27,7 +27,7 @@ fn is_digits(text: &str) -> bool
     if count == 0 || MOST_DIGITS < count {
         return false;
     }
-    has_digits_alone(text.as_bytes())
+    are_digits(text.as_bytes())
 }
 
 /// The value of digits, unless it is too great.

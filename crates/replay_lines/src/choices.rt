@@ -3,11 +3,12 @@ ghost use Rattle.std.specs.Prelude.{◌≡◌, IfOk, option_map, codes};
 ghost use Rattle.std.specs.List.{position_or_len};
 ghost use Rattle.replay_lines.specs.Choices.{asked_of, choice_of, counted, choices_of, is_space, run_of, wake_of};
 
-use crate::cuts::{behind, first_line, front, mark_in, other_lines};
+use crate::cuts::{first_line, mark_in, other_lines};
 use crate::numbers::{task_of, value_of};
 use concrete_steps::Choice;
 use std::alloc::Global;
 use tm_lattice::NoMemory;
+use tm_terms::{behind, front};
 
 /// The most choices.
 const MOST_CHOICES: usize = 10_000;

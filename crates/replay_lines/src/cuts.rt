@@ -1,33 +1,13 @@
 //! Where the source of a replay ends.
-ghost use Rattle.std.specs.Prelude.{◌≡◌, ◌≤◌, ◌&&◌, drop, length, take, option_map};
+ghost use Rattle.std.specs.Prelude.{◌≡◌, ◌≤◌, ◌&&◌, length, option_map};
 ghost use Rattle.std.specs.List.{after_first, before_first, position_or_len};
 ghost use Rattle.replay_lines.specs.Cuts.{begins_mark, cut, is_newline, source_of};
 ghost use Rattle.replay_lines.specs.reading.Cuts.{cut_at};
 
+use tm_terms::{behind, front};
+
 /// The line behind which the choices stand.
 const MARK: &[u8] = b"#replay";
-
-/// The bytes behind the first so many.
-pub(crate) fn behind(bytes: &[u8], count: usize) -> &[u8]
-    ensures { result.now ≡ drop count bytes.now }
-{
-    if count < bytes.len() {
-        &bytes[count..]
-    } else {
-        &[]
-    }
-}
-
-/// The first so many bytes.
-pub(crate) fn front(bytes: &[u8], count: usize) -> &[u8]
-    ensures { result.now ≡ take count bytes.now }
-{
-    if count < bytes.len() {
-        &bytes[..count]
-    } else {
-        bytes
-    }
-}
 
 /// How many bytes the first line has.
 fn line_length(bytes: &[u8]) -> usize

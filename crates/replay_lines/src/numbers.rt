@@ -1,12 +1,10 @@
 //! The numbers of choices.
 ghost use Rattle.std.specs.Prelude.{◌≡◌, option_map, pos};
-ghost use Rattle.std.specs.Char.{is_ascii_digit};
-ghost use Rattle.std.specs.List.{list_all};
 ghost use Rattle.cmd_words.specs.Numbers.{number_of};
 ghost use Rattle.replay_lines.specs.Choices.{digits_of, has_digits_alone, value_of};
 ghost use Rattle.replay_lines.specs.reading.Choices.{negated};
 
-use cmd_words::read_number;
+use cmd_words::{are_digits, read_number};
 
 /// The most digits of a value.
 const MOST_DIGITS: usize = 20;
@@ -19,13 +17,6 @@ pub(crate) fn task_of(bytes: &[u8]) -> Option<u32>
         Ok(text) => read_number(text),
         Err(_) => None,
     }
-}
-
-/// Whether all bytes are digits.
-fn are_digits(bytes: &[u8]) -> bool
-    ensures { result ≡ list_all is_ascii_digit bytes.now }
-{
-    bytes.iter().all(|byte| byte.is_ascii_digit())
 }
 
 /// Whether bytes are digits, one at least and not too many.

@@ -86,7 +86,8 @@ abbrev pub refused_line : List ℕ → List ℕ → List ℕ → List ℕ → Re
 refused_line documents name text lines refusal origin =
     line_of (compact_text (log_data (refused_data documents name text lines refusal origin)))
 
--- the log of a refusal of a text, whose first file has this name. Names of folders and files are as line marks spell them.
+-- the log of a refusal of a text, whose first file has this name. Names of folders and files are as line marks spell
+-- them.
 abbrev pub refusal_text : List ℕ → List ℕ → List ℕ → List ℕ → Refusal → List ℕ
 refusal_text documents name text lines refusal =
     refused_line (decoded documents) (decoded name) text lines refusal (origin_of name text refusal.place)

@@ -1,7 +1,6 @@
 //! The log of a report, of its waits, of its dead places and of the assumptions, and of what is told of its alarms.
 
 ghost use Rattle.std.specs.Prelude.{◌≡◌, ◌++◌, ℕ, List, Some, length, map, IfOk, IsErrOf, string_bytes};
-ghost use Rattle.source_marks.specs.Names.{decoded};
 ghost use Rattle.source_marks.specs.reading.Seen.{origin_seen};
 ghost use Rattle.place_details.specs.Details.{AreDetails, region_of};
 ghost use Rattle.place_details.specs.reading.Seen.{bytes_seen, sight_seen};
@@ -23,10 +22,10 @@ use report_reading::{
     Assumption, Listing, ListingFail, Way, read_assumptions, read_places, read_ways,
 };
 use report_views::{
-    Cause, Finding, LONGEST_REPORT, Rule, Spot, ViewFail, findings_of, placed, push_assumptions,
-    push_places, push_sites, read, rule_word, shared, traced,
+    Cause, Finding, LONGEST_REPORT, Rule, Spot, ViewFail, findings_of, name_in, placed,
+    push_assumptions, push_places, push_sites, read, rule_word, shared, traced,
 };
-use source_marks::{Origin, name_bytes};
+use source_marks::Origin;
 use std::alloc::{AllocError, Global};
 use tm_lattice::NoMemory;
 use tm_terms::{Alarm, Place};
@@ -164,16 +163,6 @@ pub struct Frame<'w, 't> {
     pub name: &'w [u8],
     pub text: &'t [u8],
     pub lines: &'t [u8],
-}
-
-/// A name that a line mark spells so.
-pub fn name_in(alloc: Global, spelled: &[u8]) -> Result<Vec<u8>, AllocError>
-    ensures { IfOk result (λ name. name.items ≡ decoded spelled.now) }
-{
-    match name_bytes(alloc, spelled) {
-        Ok(name) => Ok(name),
-        Err(NoMemory) => Err(AllocError),
-    }
 }
 
 /// What is told of places.

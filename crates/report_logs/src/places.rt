@@ -14,14 +14,14 @@ use crate::uris::uri;
 use crate::writing::{write_number, write_string};
 use json::Writer;
 use place_details::Region;
-use report_views::{Spot, name_of};
+use report_views::{Spot, name_in};
 use std::alloc::{AllocError, Global};
 
 /// The file of a finding.
 pub fn file_of(alloc: Global, spot: Spot<'_>) -> Result<String, AllocError>
     ensures { IfOk result (λ file. string_bytes file ≡ file_of (spot_seen spot.entry)) }
 {
-    let name = name_of(alloc, spot)?;
+    let name = name_in(alloc, spot.origin.name)?;
     uri(alloc, &name)
 }
 
@@ -33,7 +33,7 @@ pub struct LastFile<'s> {
     ghost known: { string_bytes uri ≡ uri_text (decoded name.now) },
 }
 
-/// No file, which no place stands in.
+/// No file, which no place stands in: what it may be is said by the invariant of `LastFile` alone.
 pub fn no_file<'s>(alloc: Global) -> LastFile<'s> {
     LastFile {
         name: b"",

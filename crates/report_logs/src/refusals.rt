@@ -12,13 +12,14 @@ ghost use Rattle.report_logs.specs.Uris.{uri_text};
 ghost use Rattle.report_logs.specs.reading.Seen.{refusal_seen};
 ghost use Rattle.report_logs.specs.reading.Written.{AppendsValue};
 
-use crate::logs::{Frame, details_in, name_in};
+use crate::logs::{Frame, details_in};
 use crate::places::write_location;
 use crate::sarif::{write_back, write_front, write_invocation_front, written_line};
 use crate::uris::uri;
 use crate::writing::{write_string, write_text};
 use json::Writer;
 use place_details::Sight;
+use report_views::name_in;
 use source_marks::{MarkFail, Origin, line_origins};
 use std::alloc::{AllocError, Global};
 use tm_lattice::NoMemory;

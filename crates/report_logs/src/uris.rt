@@ -5,7 +5,7 @@ ghost use Rattle.report_logs.specs.Uris.{class_section, help_uri, hex_digit, is_
 ghost use Rattle.report_logs.specs.Uris.{uri_byte, uri_text};
 
 use report_reading::AssumptionKind;
-use report_views::Rule;
+use report_views::{Rule, joined};
 use std::alloc::{AllocError, Global};
 use tm_cint::Class;
 
@@ -104,15 +104,6 @@ fn kind_section(kind: AssumptionKind) -> &'static str
         AssumptionKind::Restrict => "pragma-and-restrict",
         AssumptionKind::Unset => "unset",
     }
-}
-
-/// A text, and what stands behind it.
-fn joined(alloc: Global, text: &str, behind: &str) -> Result<String, AllocError>
-    ensures { IfOk result (λ both. string_bytes both ≡ text.now ++ behind.now) }
-{
-    let mut both = String::from_str(alloc, text)?;
-    both.push_str(behind)?;
-    Ok(both)
 }
 
 /// Where a rule is explained, behind the folder of the documents.

@@ -5,7 +5,6 @@ ghost use Rattle.page_pieces.specs.Pieces.{page_text};
 ghost use Rattle.source_marks.specs.reading.Seen.{origin_seen};
 ghost use Rattle.source_marks.specs.Names.{decoded};
 ghost use Rattle.report_views.specs.Causes.{IsCause, IsMisplaced};
-ghost use Rattle.report_views.specs.Spots.{finding_of};
 ghost use Rattle.report_views.specs.declared.causes.Cause.{Cause as CauseOf};
 ghost use Rattle.report_views.specs.reading.Seen.{spot_seen};
 ghost use Rattle.report_pages.specs.Pages.{IsPage, IsShown, list_pieces, page_pieces, source_pieces, top_pieces};
@@ -15,11 +14,10 @@ use crate::lines::lines_of;
 use crate::rows::push_alarms;
 use crate::sources::push_lines;
 use page_pieces::{Markup, push_composed, push_markup, push_number, push_said};
-use report_views::{Finding, Spot, ViewFail, findings_of, placed, read, traced};
-use source_marks::{Origin, name_bytes};
+use report_views::{Finding, Spot, ViewFail, found, name_in, placed, read, traced};
+use source_marks::Origin;
 use std::alloc::{AllocError, Global};
 use tm_lattice::NoMemory;
-use tm_terms::Alarm;
 
 /// What a page is written from beside a report: the name of the file from which the first line of the text comes, as a
 /// line mark spells it; the text; the tables before the list of alarms; a line of notes for each alarm; and for each
@@ -86,16 +84,6 @@ fn push_sources(
     push_markup(page, Markup::End)
 }
 
-/// A name that a line mark spells so.
-fn name_in(alloc: Global, spelled: &[u8]) -> Result<Vec<u8>, AllocError>
-    ensures { IfOk result (λ name. name.items ≡ decoded spelled.now) }
-{
-    match name_bytes(alloc, spelled) {
-        Ok(name) => Ok(name),
-        Err(NoMemory) => Err(AllocError),
-    }
-}
-
 /// The page of findings in their files.
 fn written(
     alloc: Global,
@@ -114,17 +102,6 @@ fn written(
     push_list(alloc, &mut page, texts, findings, spots)?;
     push_sources(alloc, &mut page, &name, texts, origins)?;
     Ok(page)
-}
-
-/// What the alarms are, by their rules.
-fn found(alloc: Global, alarms: &[Alarm]) -> Result<Vec<Finding>, ViewFail>
-    ensures ok { IfOk result (λ findings. findings.items ≡ map finding_of alarms.now) }
-    ensures refused { (cause : CauseOf) → IsErrOf result (ViewFail.Refused cause) → ⊥ }
-{
-    match findings_of(alloc, alarms) {
-        Ok(findings) => Ok(findings),
-        Err(_) => Err(ViewFail::NoMemory),
-    }
 }
 
 /// The page of findings, by the origins of the lines of their text.

@@ -8,7 +8,7 @@ ghost use Rattle.report_pages.specs.reading.Seen.{bytes_seen};
 
 use crate::lines::line_at;
 use page_pieces::{Markup, push_composed, push_markup, push_number, push_said};
-use report_views::{Finding, Spot, name_of, rule_sentence, rule_word};
+use report_views::{Finding, Spot, name_in, rule_sentence, rule_word};
 use std::alloc::{AllocError, Global};
 
 /// The line and the column of an alarm in its file.
@@ -32,7 +32,7 @@ fn push_place(
     push_markup(page, Markup::Alarm)?;
     push_number(alloc, page, u64::from(number))?;
     push_markup(page, Markup::Linked)?;
-    let name = name_of(alloc, spot)?;
+    let name = name_in(alloc, spot.origin.name)?;
     push_said(page, &name)?;
     let place = spot_place(alloc, spot)?;
     push_said(page, place.as_bytes())

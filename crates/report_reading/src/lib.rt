@@ -15,7 +15,7 @@ mod listings;
 mod reports;
 mod ways;
 
-pub use assumptions::{Assumption, AssumptionKind, kind_word, read_assumptions};
+pub use assumptions::{Assumption, AssumptionKind, kind_word, place_words, read_assumptions};
 pub use listings::{Listing, ListingFail, read_places};
 pub use reports::{ReadFail, read_report};
 pub use ways::{Way, WayKind, read_ways};

@@ -1,11 +1,11 @@
 //! Why a report has no view, and findings have no log.
 
 ghost use Rattle.std.specs.Prelude.{◌≡◌, ◌++◌, decimal, IfOk, string_bytes};
-ghost use Rattle.tm_terms.specs.Texts.{line_of, place_text};
+ghost use Rattle.tm_terms.specs.Texts.{line_of};
 ghost use Rattle.report_views.specs.Causes.{broken_text, cause_text, long_text, outside_text, strange_text};
 ghost use Rattle.report_views.specs.Causes.{strange_way_text};
 
-use report_reading::Listing;
+use report_reading::{Listing, place_words};
 use std::alloc::{AllocError, Global};
 use tm_lattice::NoMemory;
 use tm_terms::Place;
@@ -42,7 +42,7 @@ pub enum Cause {
 }
 
 /// A text, and what stands behind it.
-fn joined(alloc: Global, text: &str, behind: &str) -> Result<String, AllocError>
+pub fn joined(alloc: Global, text: &str, behind: &str) -> Result<String, AllocError>
     ensures { IfOk result (λ both. string_bytes both ≡ text.now ++ behind.now) }
 {
     let mut both = String::from_str(alloc, text)?;
@@ -55,15 +55,6 @@ fn number_line(alloc: Global, number: usize) -> Result<String, AllocError>
     ensures { IfOk result (λ text. string_bytes text ≡ line_of (decimal number)) }
 {
     format!(in alloc; "{number}\n")
-}
-
-/// A place in words.
-fn place_words(alloc: Global, place: Place) -> Result<String, AllocError>
-    ensures { IfOk result (λ text. string_bytes text ≡ place_text place) }
-{
-    let line = place.line;
-    let col = place.col;
-    format!(in alloc; "{line}:{col}")
 }
 
 /// The line that tells of a broken mark.

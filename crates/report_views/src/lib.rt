@@ -17,10 +17,12 @@ mod spots;
 mod summaries;
 mod views;
 
-pub use causes::{Cause, cause_line};
-pub use lines::name_of;
+pub use causes::{Cause, cause_line, joined};
+pub use lines::name_in;
 pub use rules::rule_lines;
 pub use sentences::{RULES, Rule, level, rule_help, rule_sentence, rule_word};
 pub use shares::{push_sites, shared};
 pub use spots::{Finding, Spot, findings_of, push_assumptions, push_places, spot_of};
-pub use views::{Form, LONGEST_REPORT, LONGEST_TEXT, Reply, ViewFail, placed, read, traced, view};
+pub use views::{
+    Form, LONGEST_REPORT, LONGEST_TEXT, Reply, ViewFail, found, placed, read, traced, view,
+};

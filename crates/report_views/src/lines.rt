@@ -58,11 +58,11 @@ fn rule_line(alloc: Global, rule: Rule) -> Result<String, AllocError>
     format!(in alloc; "{level}: {said} [{word}]\n")
 }
 
-/// The name of the file of a finding.
-pub fn name_of(alloc: Global, spot: Spot<'_>) -> Result<Vec<u8>, AllocError>
-    ensures { IfOk result (λ name. name.items ≡ decoded spot.entry.origin.name.now) }
+/// A name that a line mark spells so.
+pub fn name_in(alloc: Global, spelled: &[u8]) -> Result<Vec<u8>, AllocError>
+    ensures { IfOk result (λ name. name.items ≡ decoded spelled.now) }
 {
-    match name_bytes(alloc, spot.origin.name) {
+    match name_bytes(alloc, spelled) {
         Ok(name) => Ok(name),
         Err(NoMemory) => Err(AllocError),
     }
@@ -72,7 +72,7 @@ pub fn name_of(alloc: Global, spot: Spot<'_>) -> Result<Vec<u8>, AllocError>
 fn push_spot(alloc: Global, text: &mut Vec<u8>, spot: Spot<'_>) -> Result<(), AllocError>
     ensures { OnOk result (text.new.items ≡ text.old.items ++ spot_line (spot_seen spot.entry)) }
 {
-    let name = name_of(alloc, spot)?;
+    let name = name_in(alloc, spot.origin.name)?;
     push_name(text, &name)?;
     let place = place_in(alloc, spot)?;
     text.extend_from_slice(place.as_bytes())?;

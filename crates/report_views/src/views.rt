@@ -150,7 +150,7 @@ fn shown(
 }
 
 /// What the alarms are, by their rules.
-fn found(alloc: Global, alarms: &[Alarm]) -> Result<Vec<Finding>, ViewFail>
+pub fn found(alloc: Global, alarms: &[Alarm]) -> Result<Vec<Finding>, ViewFail>
     ensures ok { IfOk result (λ findings. findings.items ≡ map finding_of alarms.now) }
     ensures refused { (cause : CauseOf) → IsErrOf result (ViewFail.Refused cause) → ⊥ }
 {

@@ -16,7 +16,7 @@ use solution_lines::{push_dead_places, push_range, waits_text};
 use std::alloc::Global as Heap;
 use tm_laid::LaidObject;
 use tm_lattice::NoMemory;
-use tm_terms::{Fail, Name, Place, Refusal, refusal_line};
+use tm_terms::{Fail, Name, Place, Refusal, behind, front, refusal_line};
 use value_ranges::{ObjectBounds, ranges};
 
 /// What is asked of a least solution.
@@ -64,18 +64,7 @@ fn waits_reply(alloc: Heap, analysis: &Analysis, found: &Solution) -> Result<Fin
 fn text_of(bytes: &[u8], name: Name) -> &[u8]
     ensures { result.now ≡ text_of bytes.now name }
 {
-    let start = name.start as usize;
-    let count = name.length as usize;
-    let rest = if start < bytes.len() {
-        &bytes[start..]
-    } else {
-        &[]
-    };
-    if count < rest.len() {
-        &rest[..count]
-    } else {
-        rest
-    }
+    front(behind(bytes, name.start as usize), name.length as usize)
 }
 
 /// Appends the line of an object.
