@@ -15,7 +15,7 @@ ghost use Rattle.body_builder.specs.Fragments.{tree_in};
 
 use crate::placing::more;
 use flow_graph::Into;
-use tm_cint::{BinOp, IntType};
+use tm_cint::{BinOp, IntType, represents_all};
 use tm_laid::Laid;
 use tm_lattice::NoMemory;
 use tm_terms::Place;
@@ -29,13 +29,6 @@ pub fn is_comparison(operator: BinOp) -> bool
         BinOp::Lt | BinOp::Le | BinOp::Gt | BinOp::Ge | BinOp::Eq | BinOp::Ne => true,
         _ => false,
     }
-}
-
-// Whether `to` has every value of `from`.
-fn represents_all(to: IntType, from: IntType) -> bool
-    ensures { result ≡ represents_all to from }
-{
-    to.lo() <= from.lo() && from.hi() <= to.hi()
 }
 
 /// A conversion, where it makes an operation.

@@ -17,8 +17,9 @@ ghost use Rattle.body_slots.specs.Slots.{sparse_of, PassesRow};
 ghost use Rattle.body_slots.specs.Rows.{Values, brought_by, held_in, state_parts_at, row_parts};
 ghost use Rattle.body_slots.specs.reading.Small.{HasTraced, IsSeenOver, IsPart};
 
-use crate::systems::{SlotSystem, SlotValue, has_cell};
+use crate::systems::{SlotSystem, SlotValue};
 use cell_env::{CellState, State, TempState};
+use cell_placings::has_cell;
 use front_constraints::Standing;
 use pointer_dom::AbsValue;
 use row_checks::{carried_cell, is_checked, is_traced};

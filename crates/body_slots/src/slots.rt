@@ -1,6 +1,6 @@
 //! What is computed once of a body for its fronts and slots.
 ghost use Rattle.std.specs.Prelude.{◌≡◌, ◌<◌, ◌≤◌, ℕ, true, length, map, IfOk, IfSome};
-ghost use Rattle.tm_laid.specs.Layouts.{laid_tree, path_at};
+ghost use Rattle.tm_laid.specs.Layouts.{laid_tree};
 ghost use Rattle.edge_actions.specs.Layouts.{is_reachable};
 ghost use Rattle.task_equations.specs.Equations.{link_of, cells_at as rounded_cells};
 ghost use Rattle.cell_placings.specs.CellLists.{is_in};
@@ -10,7 +10,7 @@ ghost use Rattle.body_slots.specs.reading.Bodies.{is_seen_in, AreRoundedBelow};
 
 use body_systems::BodyOverStore;
 use cell_placings::{CellGraph, CellPlacing, CellSet, place_cells};
-use edge_actions::object_at;
+use edge_actions::is_reachable;
 use row_checks::Traces;
 use slot_numbers::SlotNumbers;
 use std::alloc::Global;
@@ -176,24 +176,4 @@ fn seen_cells(alloc: Global, laid: &Laid, task: u32) -> Result<CellSet, NoMemory
         }
     }
     Ok(CellSet::from_cells(seen))
-}
-
-// The body in which a call path begins.
-fn body_at(laid: &Laid, path: u32) -> u32
-    ensures { result ≡ (path_at (laid_tree laid.now) path).body }
-{
-    match laid.paths.get(path as usize) {
-        Some(entry) => entry.body,
-        None => 0,
-    }
-}
-
-// Whether an object has static storage or is on a call path of the body.
-fn is_reachable(laid: &Laid, task: u32, object: u32) -> bool
-    ensures { result ≡ is_reachable (laid_tree laid.now) task object }
-{
-    match object_at(laid, object).owner {
-        None => true,
-        Some(path) => body_at(laid, path) == task,
-    }
 }

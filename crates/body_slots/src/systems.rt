@@ -1,6 +1,5 @@
 //! A body over a store as constraints of fronts and slots.
 ghost use Rattle.std.specs.Prelude.{◌≡◌, ◌<◌, IfOk};
-ghost use Rattle.cell_placings.specs.CellLists.{is_in, cells_at};
 ghost use Rattle.task_equations.specs.Equations.{cells_at as rounded_cells};
 ghost use Rattle.front_constraints.specs.Standings.{changed_standing};
 ghost use Rattle.body_systems.specs.Systems.{body_of};
@@ -10,7 +9,7 @@ ghost use Rattle.body_slots.specs.Slots.{IsSlotSystem};
 use crate::slots::BodySlots;
 use body_systems::BodyOverStore;
 use cell_env::{CellState, State, TempState};
-use cell_placings::CellSet;
+use cell_placings::has_cell;
 use front_constraints::Standing;
 use least_assignments::ConstraintSystem;
 use pointer_dom::AbsValue;
@@ -48,16 +47,6 @@ impl<'a> Model for SlotSystem<'a> {
     ghost view = { λ a. record { system = a.body.now; entry = a.entry.now; slots = a.slots.now } };
 
     ghost invariant = { λ a. IsSlotSystem (record { system = a.body.now; entry = a.entry.now; slots = a.slots.now }) };
-}
-
-/// Whether a cell is in the set of this number.
-pub(crate) fn has_cell(sets: &[CellSet], at: usize, cell: usize) -> bool
-    ensures { result ≡ is_in (cells_at sets.now at) cell }
-{
-    match sets.get(at) {
-        None => false,
-        Some(set) => set.has(cell),
-    }
 }
 
 impl<'a> SlotSystem<'a> {

@@ -16,4 +16,4 @@ pub use facts::BodyFacts;
 pub use laws::facts_make_bodies;
 pub use states::BodyState;
 pub use systems::{BodyOverStore, BodySystem};
-pub use transfer_mem::{is_shared_cell, object_at, open_cell, pointer_value};
+pub use transfer_mem::{is_reachable, is_shared_cell, open_cell, pointer_value};

@@ -23,7 +23,8 @@ pub struct Parsed {
 }
 
 /// Reads the longest expression of height at most `MAX_HEIGHT` that the tokens spell from `from` on,
-/// where `types` are the names of typedefs; None where none begins there.
+/// where `types` are the names of typedefs; None where none begins there. A public call of its own,
+/// for users of the crate; the parsers of declarations and files take `read_at`.
 pub fn parse_expr(
     alloc: Global,
     tokens: &[Token],

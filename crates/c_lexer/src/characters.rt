@@ -2,8 +2,8 @@ ghost use Rattle.std.specs.Prelude.{◌≡◌, ◌+◌, ◌<◌, ◌≤◌, leng
 ghost use Rattle.tm_terms.specs.Lexis.{char_value, character, character_in, digits_escape, escape, simple_escape};
 
 use crate::constants::value_in;
-use crate::runs::{Run, behind, byte_at, front, is_digit_in, run_length};
-use tm_terms::{Piece, Shape};
+use crate::runs::{Run, is_digit_in, run_length};
+use tm_terms::{Piece, Shape, behind, byte_at, front};
 
 // The value of a byte as a signed `char`.
 fn char_value(byte: u8) -> i8

@@ -2,8 +2,8 @@ ghost use Rattle.std.specs.Prelude.{◌≡◌, ◌+◌, ◌*◌, ◌^◌, ◌<�
 ghost use Rattle.tm_terms.specs.Lexis.{constant_in, constant_of, digit_value as digit_value_of, longs_of, suffix_of};
 ghost use Rattle.tm_terms.specs.Lexis.{value_in};
 
-use crate::runs::{Run, behind, byte_at, digit_value, run_length};
-use tm_terms::{IntConstant, Longs};
+use crate::runs::{Run, digit_value, run_length};
+use tm_terms::{IntConstant, Longs, behind, byte_at};
 
 /// No constant reaches this value.
 const BOUND: u128 = 1 << 127;

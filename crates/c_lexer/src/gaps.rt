@@ -3,9 +3,9 @@ ghost use Rattle.std.specs.List.{list_all};
 ghost use Rattle.std.specs.Char.{is_ascii_digit};
 ghost use Rattle.tm_terms.specs.Lexis.{comment, comment_end, is_skipped_word, line_comment, skipped_line};
 
-use crate::runs::{Run, behind, byte_at, front, run_length};
+use crate::runs::{Run, run_length};
 use crate::splices::{is_other_line, is_spliced_slash, leaves_open};
-use tm_terms::Piece;
+use tm_terms::{Piece, behind, byte_at, front};
 
 // A gap of so many bytes.
 fn gap(length: usize) -> Piece

@@ -2,11 +2,10 @@ ghost use Rattle.std.specs.Prelude.{◌≡◌, ℕ, List, [], IfOk, OnOk, unwrap
 ghost use Rattle.tm_terms.specs.Spelling.{noted, noted_at, start_of, text_of, told, with_first_names};
 ghost use Rattle.c_lexer.specs.reading.Starts.{HasStarts};
 
-use crate::runs::{behind, front};
 use std::alloc::Global;
 use std::collections::BTreeMap;
 use tm_lattice::NoMemory;
-use tm_terms::{Name, Shape, Token};
+use tm_terms::{Name, Shape, Token, behind, front};
 
 // Where a text stood first as a name: where the map has it, or else here, and the map has it then.
 fn first_start<'a>(

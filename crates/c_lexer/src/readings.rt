@@ -8,10 +8,9 @@ ghost use Rattle.tm_terms.specs.declared.refusals.Limit.TheVariants as Limits;
 
 use crate::pieces::begins;
 use crate::places::{bare_after, place_after};
-use crate::runs::{behind, front};
 use std::alloc::Global;
 use tm_terms::limits::TOKENS;
-use tm_terms::{Fail, Kind, Place, Refusal, Shape, Token};
+use tm_terms::{Fail, Kind, Place, Refusal, Shape, Token, behind, front};
 
 // Keeps the token of this shape, if there is one and fewer are kept than one more than their limit.
 fn keep(tokens: &mut Vec<Token>, place: Place, shape: Option<Shape>) -> Result<(), Fail>

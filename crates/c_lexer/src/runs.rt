@@ -1,4 +1,4 @@
-ghost use Rattle.std.specs.Prelude.{◌≡◌, ◌<◌, ◌≤◌, true, length, take, drop, slice_index};
+ghost use Rattle.std.specs.Prelude.{◌≡◌, ◌<◌, ◌≤◌, true, length, slice_index};
 ghost use Rattle.std.specs.List.{prefix_len};
 ghost use Rattle.tm_terms.specs.Lexis.{digit_value, is_digit_in, is_name_byte, is_name_start};
 ghost use Rattle.tm_terms.specs.Splices.{is_blank};
@@ -83,34 +83,4 @@ pub fn run_length(text: &[u8], run: Run) -> usize
         }
     }
     text.len()
-}
-
-/// The byte at an index, or 0 past the end.
-pub fn byte_at(text: &[u8], index: usize) -> u8
-    ensures value { result ≡ slice_index text.now index }
-    ensures inside { 0 < result → index < length text.now }
-{
-    if index < text.len() { text[index] } else { 0 }
-}
-
-/// The first bytes of a text, at most so many.
-pub fn front(text: &[u8], count: usize) -> &[u8]
-    ensures { result.now ≡ take count text.now }
-{
-    if count < text.len() {
-        &text[..count]
-    } else {
-        text
-    }
-}
-
-/// What follows the first bytes of a text.
-pub fn behind(text: &[u8], count: usize) -> &[u8]
-    ensures { result.now ≡ drop count text.now }
-{
-    if count < text.len() {
-        &text[count..]
-    } else {
-        &[]
-    }
 }

@@ -1,8 +1,7 @@
 ghost use Rattle.std.specs.Prelude.{◌≡◌, ◌<◌, ◌≤◌, [], ◌∷◌, length, slice_index, IfSome};
 ghost use Rattle.tm_terms.specs.Lexis.{double_signs, long_signs, sign_in, sign_of, single_signs};
 
-use crate::runs::byte_at;
-use tm_terms::{Piece, Shape, Sign};
+use tm_terms::{Piece, Shape, Sign, byte_at};
 
 #[tactic(auto, unfolding(tm_terms::specs::Lexis::long_signs))]
 fn long_sign(first: u8, second: u8, third: u8) -> Option<Sign>

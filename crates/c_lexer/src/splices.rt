@@ -3,7 +3,8 @@ ghost use Rattle.tm_terms.specs.Splices.{Neither, backslash, begins_with, is_lon
 ghost use Rattle.tm_terms.specs.Splices.{is_spliced_slash, leaves_open, leaves_open_from, line_end, splice, unspliced};
 ghost use Rattle.c_lexer.specs.reading.Quotes.{is_quote};
 
-use crate::runs::{Run, behind, byte_at, front, run_length};
+use crate::runs::{Run, run_length};
+use tm_terms::{behind, byte_at, front};
 
 // How many bytes the backslash takes that begins the text, written so or as a trigraph; 0 where none does.
 fn backslash(text: &[u8]) -> usize

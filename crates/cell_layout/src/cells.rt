@@ -9,9 +9,9 @@ ghost use Rattle.tm_laid.specs.Layable.{IsLayable, tables_of};
 ghost use Rattle.cell_layout.specs.reading.Parts.{inner_parts, IsSmall, HasLaid, HasScalar, IsLaidOut, AreCores};
 
 use crate::cores::cored;
-use crate::tables::{abstract_column, cell_column, class_at, members_of, type_at};
+use crate::tables::{abstract_column, cell_column, class_at};
 use std::alloc::Global;
-use tm_laid::{AbstractCell, LaidCell};
+use tm_laid::{AbstractCell, LaidCell, members_of, type_at};
 use tm_lattice::NoMemory;
 use tm_typed::{CType, Scalar, TypedFile};
 

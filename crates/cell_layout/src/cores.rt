@@ -6,8 +6,8 @@ ghost use Rattle.tm_laid.specs.Layable.{IsLayable};
 ghost use Rattle.cell_layout.specs.reading.Parts.{IsSameType, AreCores};
 
 use crate::cells::TypePart;
-use crate::tables::{members_of, type_at};
 use std::alloc::Global;
+use tm_laid::{members_of, type_at};
 use tm_lattice::NoMemory;
 use tm_typed::{CType, TypedFile};
 

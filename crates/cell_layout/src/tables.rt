@@ -5,9 +5,10 @@ ghost use Rattle.tm_typed.specs.Scopes.{structure, cells_of, abstract_cells_of};
 ghost use Rattle.tm_typed.specs.TypedFiles.{typed_file_tree};
 ghost use Rattle.tm_laid.specs.Layable.{tables_of};
 ghost use Rattle.tm_laid.specs.Paths.{locals_of};
-ghost use Rattle.tm_laid.specs.TypeCells.{entry_of, structure_in};
+ghost use Rattle.tm_laid.specs.TypeCells.{entry_of};
 
-use tm_typed::{CType, LocalEntry, Member, TypedFile};
+use tm_laid::structure_cells;
+use tm_typed::{CType, LocalEntry, TypedFile};
 
 // The parameters and local objects of a function.
 #[tactic(auto, using(crate::proofs::FileTables::reads))]
@@ -31,17 +32,6 @@ pub(crate) fn calls_of(file: &TypedFile, function: u32) -> &[u32]
     match file.calls.get(function as usize) {
         Some(callees) => callees.as_slice(),
         None => &[],
-    }
-}
-
-// The scalar cells of a structure, by its column.
-#[tactic(auto, using(crate::proofs::FileTables::reads))]
-fn structure_cells(file: &TypedFile, k: u32) -> u32
-    ensures { result ≡ (structure (tables_of (typed_file_tree file.now)) k).cells }
-{
-    match file.structs.get(k as usize) {
-        Some(found) => found.cells,
-        None => 0,
     }
 }
 
@@ -84,17 +74,6 @@ pub(crate) fn abstract_column(file: &TypedFile, number: u32) -> u32
     }
 }
 
-// What a type is.
-#[tactic(auto, using(crate::proofs::FileTables::reads))]
-pub(crate) fn type_at(file: &TypedFile, number: u32) -> CType
-    ensures { result ≡ (entry_of (typed_file_tree file.now) number).ctype }
-{
-    match file.types.get(number as usize) {
-        Some(entry) => entry.ctype,
-        None => CType::Void,
-    }
-}
-
 // The class of a type.
 #[tactic(auto, using(crate::proofs::FileTables::reads))]
 pub(crate) fn class_at(file: &TypedFile, number: u32) -> u32
@@ -103,16 +82,5 @@ pub(crate) fn class_at(file: &TypedFile, number: u32) -> u32
     match file.types.get(number as usize) {
         Some(entry) => entry.class,
         None => 0,
-    }
-}
-
-// The members of a structure.
-#[tactic(auto, using(crate::proofs::FileTables::reads))]
-pub(crate) fn members_of(file: &TypedFile, k: u32) -> &[Member]
-    ensures { result.now ≡ (structure_in (typed_file_tree file.now) k).members }
-{
-    match file.structs.get(k as usize) {
-        Some(found) => found.members.as_slice(),
-        None => &[],
     }
 }

@@ -83,11 +83,11 @@ fn is_edge_placed(graph: &CellGraph, owners: &Owners, edge: usize) -> bool
     if link.from >= graph.nodes || link.to >= graph.nodes {
         return false;
     }
-    let touched = cells_of(&graph.touched, edge);
+    let touched = cells_at(&graph.touched, edge);
     if !are_looked_at(graph, edge) || !are_owned(owners, link.to, touched) {
         return false;
     }
-    let carried = cells_of(&graph.carried, edge);
+    let carried = cells_at(&graph.carried, edge);
     if !are_owned(owners, link.to, carried) {
         return false;
     }
@@ -98,7 +98,7 @@ fn is_edge_placed(graph: &CellGraph, owners: &Owners, edge: usize) -> bool
 fn are_looked_at(graph: &CellGraph, edge: usize) -> bool
     ensures { IsTrue result ↔ AreLookedAt graph.now edge }
 {
-    let touched = cells_of(&graph.touched, edge);
+    let touched = cells_at(&graph.touched, edge);
     for cell in touched {
         if !has_cell(&graph.looked, edge, *cell) {
             return false;
@@ -142,7 +142,7 @@ fn are_rounded_owned(graph: &CellGraph, owners: &Owners) -> bool
         → is_in (cells_at graph.now.rounded.items n) x ≡ true → owns_in (tree_of owners.now) n x ≡ true) }
 {
     for node in 0..graph.nodes {
-        let rounded = cells_of(&graph.rounded, node);
+        let rounded = cells_at(&graph.rounded, node);
         if !are_owned(owners, node, rounded) {
             return false;
         }
@@ -150,8 +150,8 @@ fn are_rounded_owned(graph: &CellGraph, owners: &Owners) -> bool
     true
 }
 
-// The cells of the set of this number.
-fn cells_of(sets: &[CellSet], at: usize) -> &[usize]
+/// The cells of the set of this number; none where there is no such set.
+pub fn cells_at(sets: &[CellSet], at: usize) -> &[usize]
     ensures { result.now ≡ cells_at sets.now at }
 {
     match sets.get(at) {
@@ -160,8 +160,8 @@ fn cells_of(sets: &[CellSet], at: usize) -> &[usize]
     }
 }
 
-// Whether the set of this number has a cell.
-fn has_cell(sets: &[CellSet], at: usize, cell: usize) -> bool
+/// Whether the set of this number has a cell.
+pub fn has_cell(sets: &[CellSet], at: usize, cell: usize) -> bool
     ensures { result ≡ is_in (cells_at sets.now at) cell }
 {
     match sets.get(at) {

@@ -1,8 +1,6 @@
 //! Lists of cells.
 ghost use Rattle.std.specs.Prelude.{◌≡◌};
-ghost use Rattle.cell_placings.specs.CellLists.{cells_at};
 
-use cell_placings::CellSet;
 use std::alloc::Global;
 use tm_lattice::NoMemory;
 
@@ -10,16 +8,6 @@ use tm_lattice::NoMemory;
 pub(crate) fn push_all(list: &mut Vec<usize>, cells: &[usize]) -> Result<(), NoMemory> {
     list.extend_from_slice(cells)?;
     Ok(())
-}
-
-/// The cells of the set at a place; none where there is no set.
-pub(crate) fn cells_at(sets: &[CellSet], place: usize) -> &[usize]
-    ensures { result.now ≡ cells_at sets.now place }
-{
-    match sets.get(place) {
-        None => &[],
-        Some(set) => set.cells(),
-    }
 }
 
 /// The mutexes at a cell; none where there is no entry.

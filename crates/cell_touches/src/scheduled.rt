@@ -1,7 +1,7 @@
 //! The cells that a body's locks, unlocks, yields and probes carry.
 
-use crate::cell_lists::{cells_at, has_mutex, mutexes_at, push_all};
-use cell_placings::CellSet;
+use crate::cell_lists::{has_mutex, mutexes_at, push_all};
+use cell_placings::{CellSet, cells_at};
 use row_checks::Traces;
 use std::alloc::Global;
 use tm_lattice::NoMemory;

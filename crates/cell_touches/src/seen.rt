@@ -1,25 +1,14 @@
 //! Which objects and cells a body sees: those of static storage and those on its own call paths.
 ghost use Rattle.std.specs.Prelude.{◌≡◌, ℕ, IsTrue, true, IfOk};
-ghost use Rattle.tm_laid.specs.Layouts.{laid_tree, path_at};
+ghost use Rattle.tm_laid.specs.Layouts.{laid_tree};
 ghost use Rattle.edge_actions.specs.Layouts.{is_reachable};
 ghost use Rattle.cell_placings.specs.CellLists.{is_in};
 ghost use Rattle.cell_touches.specs.Touches.{Sees};
 
 use cell_placings::CellSet;
-use edge_actions::object_at;
 use std::alloc::Global;
-use tm_laid::Laid;
+use tm_laid::{Laid, object_at, path_at};
 use tm_lattice::NoMemory;
-
-// The body in which a call path begins.
-fn body_of(laid: &Laid, path: u32) -> u32
-    ensures { result ≡ (path_at (laid_tree laid.now) path).body }
-{
-    match laid.paths.get(path as usize) {
-        Some(entry) => entry.body,
-        None => 0,
-    }
-}
 
 /// Whether an object has static storage or is on a call path of the body.
 pub(crate) fn is_reachable(laid: &Laid, body: usize, object: u32) -> bool
@@ -27,7 +16,7 @@ pub(crate) fn is_reachable(laid: &Laid, body: usize, object: u32) -> bool
 {
     match object_at(laid, object).owner {
         None => true,
-        Some(path) => body_of(laid, path) as usize == body,
+        Some(path) => path_at(laid, path).body as usize == body,
     }
 }
 

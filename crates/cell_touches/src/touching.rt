@@ -4,18 +4,17 @@ ghost use Rattle.tm_laid.specs.Layouts.{LaidTree, laid_tree};
 ghost use Rattle.cell_placings.specs.CellLists.{is_in, cells_at};
 ghost use Rattle.cell_touches.specs.Touches.{AreSeen, IsWithin};
 
-use crate::cell_lists::{cells_at, push_all};
+use crate::cell_lists::push_all;
 use crate::operations::{carries_cells, is_idle, leaves_cells};
 use crate::scheduled::Scheduled;
 use crate::seen::seen_among;
-use cell_placings::CellSet;
-use edge_actions::object_at;
+use cell_placings::{CellSet, cells_at};
 use flow_graph::{Edge, Operation};
 use graph_facts::{UsedTemporaries, used};
 use mutex_configs::EdgeCopy;
 use row_checks::Traces;
 use std::alloc::Global;
-use tm_laid::Laid;
+use tm_laid::{Laid, object_at};
 use tm_lattice::NoMemory;
 
 /// What the edges of a body may do with abstract cells: for each copy of an edge those that it may change by what else

@@ -1,9 +1,9 @@
 //! What the states of a body may say of its cells: of which of them temporaries are copies, which are fresh, and which
 //! mutexes are pending.
 
-use crate::cell_lists::{add_mutexes, cells_at, mutexes_at, no_mutexes, push_all};
+use crate::cell_lists::{add_mutexes, mutexes_at, no_mutexes, push_all};
 use crate::operations::{is_store, loaded_by, temporaries_in};
-use cell_placings::CellSet;
+use cell_placings::{CellSet, cells_at};
 use edge_actions::is_shared_cell;
 use flow_graph::Edge;
 use mutex_configs::ConfiguredGraph;

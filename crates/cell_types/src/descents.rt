@@ -1,12 +1,13 @@
 //! Cells of types.
 ghost use Rattle.std.specs.Prelude.{◌≡◌, ◌<◌, ◌≤◌, ◌*◌, ◌%◌, [], ◌∷◌, MatchOption, slice_get};
-ghost use Rattle.tm_typed.specs.Scopes.{structure, cells_of};
+ghost use Rattle.tm_typed.specs.Scopes.{cells_of};
 ghost use Rattle.tm_typed.specs.TypedFiles.{typed_file_tree};
-ghost use Rattle.tm_laid.specs.TypeCells.{entry_of, structure_in, cells_of_type};
+ghost use Rattle.tm_laid.specs.TypeCells.{entry_of, cells_of_type};
 ghost use Rattle.tm_laid.specs.Layable.{tables_of, IsLayable};
 ghost use Rattle.tm_laid.specs.Layouts.{scalars_of_type};
 ghost use Rattle.cell_types.specs.reading.Descents.{member_at, Leads};
 
+use tm_laid::{members_of, structure_cells};
 use tm_typed::{CType, Member, Scalar, TypeEntry, TypedFile};
 
 /// A part of a type, and a cell of it.
@@ -21,16 +22,6 @@ pub(crate) struct Inside {
 pub(crate) enum Down {
     Ends(Option<Scalar>),
     Goes(Inside),
-}
-
-// The scalar cells of a structure, by its column.
-fn structure_cells(file: &TypedFile, k: u32) -> u32
-    ensures { result ≡ (structure (tables_of (typed_file_tree file.now)) k).cells }
-{
-    match file.structs.get(k as usize) {
-        Some(entry) => entry.cells,
-        None => 0,
-    }
 }
 
 /// The scalar cells of a type, by its column.
@@ -60,16 +51,6 @@ fn entry_at(file: &TypedFile, of: u32) -> TypeEntry
             alignment: 0,
             of_pointers: false,
         },
-    }
-}
-
-// The members of a structure.
-fn members_of(file: &TypedFile, k: u32) -> &[Member]
-    ensures { result.now ≡ (structure_in (typed_file_tree file.now) k).members }
-{
-    match file.structs.get(k as usize) {
-        Some(entry) => entry.members.as_slice(),
-        None => &[],
     }
 }
 

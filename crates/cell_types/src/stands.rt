@@ -6,20 +6,8 @@ ghost use Rattle.tm_laid.specs.Layouts.{laid_tree, object_at, is_same_scalar, sc
 ghost use Rattle.cell_types.specs.reading.Descents.{is_same_cell};
 
 use crate::descents::{cells_of, scalar_of};
-use tm_laid::{Laid, LaidObject};
-use tm_terms::{Name, Place};
-use tm_typed::{Qualified, Scalar, is_same_int};
-
-// Whether two scalar types are the same, pointers but for `const`.
-fn is_same_scalar(left: Scalar, right: Scalar) -> bool
-    ensures { result ≡ is_same_scalar left right }
-{
-    match (left, right) {
-        (Scalar::Int(left), Scalar::Int(right)) => is_same_int(left, right),
-        (Scalar::Pointer(left), Scalar::Pointer(right)) => left == right,
-        _ => false,
-    }
-}
+use tm_laid::{Laid, is_same_scalar, object_at};
+use tm_typed::Scalar;
 
 // Whether a cell is there and has this type, where one is wanted.
 fn is_same_cell(found: Option<Scalar>, wanted: Option<Scalar>) -> bool
@@ -30,32 +18,6 @@ fn is_same_cell(found: Option<Scalar>, wanted: Option<Scalar>) -> bool
         Some(wanted) => match found {
             None => false,
             Some(found) => is_same_scalar(found, wanted),
-        },
-    }
-}
-
-// An object; where there is none, it has no cells.
-fn object_at(laid: &Laid, object: u32) -> LaidObject
-    ensures { result ≡ object_at (laid_tree laid.now) object }
-{
-    match laid.objects.get(object as usize) {
-        Some(entry) => *entry,
-        None => LaidObject {
-            name: Name {
-                start: 0,
-                length: 0,
-            },
-            place: Place { line: 0, col: 0 },
-            of: Qualified {
-                number: 0,
-                constant: false,
-                volatile: false,
-            },
-            owner: None,
-            first_cell: 0,
-            cells: 0,
-            first_abstract: 0,
-            abstract_cells: 0,
         },
     }
 }

@@ -1,12 +1,12 @@
 //! What a reader of states asks of a body again and again.
 ghost use Rattle.std.specs.Prelude.{◌≡◌, ℕ, ◌+◌, ◌<◌, ◌≤◌, length, IfOk, OnOk};
-ghost use Rattle.tm_laid.specs.Layouts.{laid_tree, path_at};
+ghost use Rattle.tm_laid.specs.Layouts.{laid_tree};
 ghost use Rattle.edge_actions.specs.Layouts.{is_reachable};
 ghost use Rattle.certificate_reading.specs.reading.Shapes.{IsShape, IsShapeBefore};
 
 use crate::entries::file_set;
 use crate::values::extent_of;
-use edge_actions::{is_shared_cell, object_at};
+use edge_actions::{is_reachable, is_shared_cell};
 use std::alloc::Global;
 use temporary_extents::Extent;
 use tm_laid::Laid;
@@ -22,26 +22,6 @@ pub(crate) struct Shape {
     pub(crate) local: Vec<u32>,
     pub(crate) marks: Vec<bool>,
     pub(crate) mask: u16,
-}
-
-/// The body in which a call path begins.
-fn body_of(laid: &Laid, path: u32) -> u32
-    ensures { result ≡ (path_at (laid_tree laid.now) path).body }
-{
-    match laid.paths.get(path as usize) {
-        Some(entry) => entry.body,
-        None => 0,
-    }
-}
-
-/// Whether an object has static storage or is on a call path of the body.
-fn is_reachable(laid: &Laid, task: u32, object: u32) -> bool
-    ensures { result ≡ is_reachable (laid_tree laid.now) task object }
-{
-    match object_at(laid, object).owner {
-        None => true,
-        Some(path) => body_of(laid, path) == task,
-    }
 }
 
 impl Shape {

@@ -1,8 +1,7 @@
 //! The lines of cells.
-ghost use Rattle.std.specs.Prelude.{◌≡◌, ◌≤◌, ◌+◌, ◌↔◌, length, IsTrue, OnOk, IfOk, MatchOption};
+ghost use Rattle.std.specs.Prelude.{◌≡◌, ◌≤◌, ◌+◌, ◌↔◌, length, IsTrue, OnOk, IfOk};
 ghost use Rattle.std.specs.FinMap.{entries};
 ghost use Rattle.std.specs.List.{flat_map};
-ghost use Rattle.tm_lattice.specs.Tables.{IsPast, IsNext};
 ghost use Rattle.certificate_texts.specs.Limits.{certificate_limit};
 ghost use Rattle.certificate_texts.specs.StateLines.{cell_lines, marked_lines, pending_line_of};
 ghost use Rattle.certificate_texts.specs.reading.CellLines.{cells_lines};
@@ -11,6 +10,7 @@ ghost use Rattle.certificate_texts.specs.reading.Pages.{HasLines, entries_of, ki
 use crate::kept::Kept;
 use crate::pages::{CERTIFICATE_LIMIT, Page};
 use cell_env::CellState;
+use memory_effects::next_cell;
 use pointer_dom::AbsValue;
 use state_tree::Tree;
 use std::alloc::Global;
@@ -136,34 +136,6 @@ impl Page {
             self.push_kept(kept)
         } else {
             self.push_cells(cells)
-        }
-    }
-}
-
-// The number of a cell has 32 bits.
-fn has_32_bits(cell: u32)
-    ensures { cell ≤ 4294967295 }
-{}
-
-// The entry with the least number of those from the given one on: None exactly where there is none.
-fn next_cell<'a>(
-    cells: &'a Tree<CellState<AbsValue>>,
-    from: u64,
-) -> Result<Option<(u32, &'a CellState<AbsValue>)>, NoMemory>
-    ensures { IfOk result (λ next. MatchOption next (IsPast cells.now from)
-        (λ entry. IsNext cells.now from entry.0 entry.1.now)) }
-{
-    if from <= u64::from(u32::MAX) {
-        return Ok(cells.entry_from(from as u32));
-    }
-    // The calls tell that no number is greater than the last of 32 bits.
-    let mut others = cells.shared()?;
-    others.remove(u32::MAX)?;
-    match others.entry_from(u32::MAX) {
-        None => Ok(None),
-        Some((cell, _)) => {
-            has_32_bits(cell);
-            Ok(cells.entry_from(cell))
         }
     }
 }

@@ -6,7 +6,7 @@ ghost use Rattle.tm_cint.specs.Operators.{IsRightOperand};
 ghost use Rattle.concrete_values.specs.Operators.{number_result, right_number, binary, unary, converted, is_case};
 
 use crate::values::{Value, number_in, number_of};
-use tm_cint::{BinOp, Class, IntType, arith, convert};
+use tm_cint::{BinOp, Class, IntType, arith, convert, represents_all};
 use tm_laid::Unary;
 
 // A number as a value, or the class of an error.
@@ -58,13 +58,6 @@ pub fn unary(operator: Unary, of: IntType, value: Value) -> Result<Value, Class>
         Unary::Negate => number_result(arith(BinOp::Sub, of, 0, number)),
         Unary::Complement => Ok(Value::Number(complement_of(number, of))),
     }
-}
-
-// Whether `to` has every value of `from`.
-fn represents_all(to: IntType, from: IntType) -> bool
-    ensures { result ≡ represents_all to from }
-{
-    to.lo() <= from.lo() && from.hi() <= to.hi()
 }
 
 /// A value converted from one type to another.

@@ -6,7 +6,7 @@ ghost use Rattle.concrete_worlds.specs.reading.Clearing.{cleared_cells, object_c
 
 use concrete_steps::Content;
 use concrete_values::{Pointer, Value};
-use tm_laid::Laid;
+use tm_laid::{Laid, cell_at, object_at};
 use tm_typed::Scalar;
 
 /// What a cell of this type holds that is cleared.
@@ -19,41 +19,11 @@ pub(crate) fn cleared_content(scalar: Scalar) -> Content
     }
 }
 
-// The first cell of an object.
-fn first_cell_of(laid: &Laid, object: u32) -> u32
-    ensures { result ≡ (object_at (laid_tree laid.now) object).first_cell }
-{
-    match laid.objects.get(object as usize) {
-        Some(found) => found.first_cell,
-        None => 0,
-    }
-}
-
-// How many cells an object has.
-fn size_of(laid: &Laid, object: u32) -> u32
-    ensures { result ≡ (object_at (laid_tree laid.now) object).cells }
-{
-    match laid.objects.get(object as usize) {
-        Some(found) => found.cells,
-        None => 0,
-    }
-}
-
 /// The cell at an offset of an object.
 pub(crate) fn cell_of(laid: &Laid, object: u32, offset: u32) -> usize
     ensures { result ≡ cell_of (laid_tree laid.now) object offset }
 {
-    first_cell_of(laid, object) as usize + offset as usize
-}
-
-// The type of a cell.
-fn scalar_of(laid: &Laid, cell: usize) -> Scalar
-    ensures { result ≡ (cell_at (laid_tree laid.now) cell).scalar }
-{
-    match laid.cells.get(cell) {
-        Some(found) => found.scalar,
-        None => Scalar::Pointer(0),
-    }
+    object_at(laid, object).first_cell as usize + offset as usize
 }
 
 /// The cell holds this.
@@ -72,7 +42,7 @@ fn clear_cells(laid: &Laid, first: u32, count: u32, contents: &mut Vec<Content>)
 {
     for offset in 0..count {
         let cell = first as usize + offset as usize;
-        put(contents, cell, cleared_content(scalar_of(laid, cell)));
+        put(contents, cell, cleared_content(cell_at(laid, cell).scalar));
     }
 }
 
@@ -80,7 +50,7 @@ fn clear_cells(laid: &Laid, first: u32, count: u32, contents: &mut Vec<Content>)
 pub(crate) fn clear_object(laid: &Laid, object: u32, contents: &mut Vec<Content>)
     ensures { contents.new.items ≡ object_cleared (laid_tree laid.now) object contents.old.items }
 {
-    let first = first_cell_of(laid, object);
-    let count = size_of(laid, object);
+    let first = object_at(laid, object).first_cell;
+    let count = object_at(laid, object).cells;
     clear_cells(laid, first, count, contents);
 }

@@ -14,7 +14,7 @@ mod views;
 
 pub use laws::edges_are_actions;
 pub use places::{
-    is_shared_cell, is_smashed_cell, numbers_between, object_at, open_cell, open_value,
+    is_reachable, is_shared_cell, is_smashed_cell, numbers_between, open_cell, open_value,
 };
 pub use targets::{is_among, single_of, targets_at};
 pub use views::{EdgeView, Targets};

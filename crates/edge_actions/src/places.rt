@@ -1,81 +1,15 @@
 //! What edges read of a layout.
 ghost use Rattle.std.specs.Prelude.{◌≡◌};
 ghost use Rattle.strided_dom.specs.Progression.{IsInReach};
-ghost use Rattle.tm_laid.specs.Layouts.{laid_tree, path_at, object_at, cell_at, abstract_at, is_same_scalar};
+ghost use Rattle.tm_laid.specs.Layouts.{laid_tree, abstract_at};
 ghost use Rattle.edge_actions.specs.Layouts.{is_reachable, is_shared_cell, is_smashed_cell, open_value};
 ghost use Rattle.edge_actions.specs.Layouts.{numbers_between};
 
 use pointer_dom::{AbsValue, PointerSet};
 use std::alloc::Global;
 use strided_dom::Strided;
-use tm_laid::{AbstractCell, Laid, LaidCell, LaidObject};
-use tm_terms::{Name, Place};
-use tm_typed::{Qualified, Scalar, is_same_int};
-
-/// An object; where there is none, it has no cells.
-pub fn object_at(laid: &Laid, object: u32) -> LaidObject
-    ensures { result ≡ object_at (laid_tree laid.now) object }
-{
-    match laid.objects.get(object as usize) {
-        Some(entry) => *entry,
-        None => LaidObject {
-            name: Name {
-                start: 0,
-                length: 0,
-            },
-            place: Place { line: 0, col: 0 },
-            of: Qualified {
-                number: 0,
-                constant: false,
-                volatile: false,
-            },
-            owner: None,
-            first_cell: 0,
-            cells: 0,
-            first_abstract: 0,
-            abstract_cells: 0,
-        },
-    }
-}
-
-/// A cell, and what stands in place of one that there is not.
-pub fn cell_at(laid: &Laid, cell: u64) -> LaidCell
-    ensures { result ≡ cell_at (laid_tree laid.now) cell }
-{
-    match laid.cells.get(cell as usize) {
-        Some(entry) => *entry,
-        None => LaidCell {
-            object: 0,
-            scalar: Scalar::Pointer(0),
-            abstract_cell: 0,
-        },
-    }
-}
-
-// An abstract cell, and what stands in place of one that there is not.
-fn abstract_at(laid: &Laid, cell: u32) -> AbstractCell
-    ensures { result ≡ abstract_at (laid_tree laid.now) cell }
-{
-    match laid.abstract_cells.get(cell as usize) {
-        Some(entry) => *entry,
-        None => AbstractCell {
-            object: 0,
-            offset: 0,
-            scalar: Scalar::Pointer(0),
-            smashed: false,
-        },
-    }
-}
-
-// The body in which a call path begins.
-fn body_of(laid: &Laid, path: u32) -> u32
-    ensures { result ≡ (path_at (laid_tree laid.now) path).body }
-{
-    match laid.paths.get(path as usize) {
-        Some(entry) => entry.body,
-        None => 0,
-    }
-}
+use tm_laid::{Laid, abstract_at, object_at, path_at};
+use tm_typed::Scalar;
 
 /// Whether an object has static storage or is on a call path of the task.
 pub fn is_reachable(laid: &Laid, task: u32, object: u32) -> bool
@@ -83,18 +17,7 @@ pub fn is_reachable(laid: &Laid, task: u32, object: u32) -> bool
 {
     match object_at(laid, object).owner {
         None => true,
-        Some(path) => body_of(laid, path) == task,
-    }
-}
-
-/// Whether two scalar types are the same, pointers but for `const`.
-pub fn is_same_scalar(left: Scalar, right: Scalar) -> bool
-    ensures { result ≡ is_same_scalar left right }
-{
-    match (left, right) {
-        (Scalar::Int(left), Scalar::Int(right)) => is_same_int(left, right),
-        (Scalar::Pointer(left), Scalar::Pointer(right)) => left == right,
-        _ => false,
+        Some(path) => path_at(laid, path).body == task,
     }
 }
 

@@ -6,11 +6,11 @@ ghost use Rattle.transfer_rows.specs.Accesses.{has_number, is_among, targets_at,
 ghost use Rattle.edge_actions.specs.Layouts.{spots_of, is_smashed_cell};
 ghost use Rattle.edge_actions.specs.reading.Spans.{IsSpanOf, cells_led, cell_of_type};
 
-use crate::places::{cell_at, is_reachable, is_same_scalar, is_smashed_cell, object_at};
+use crate::places::{is_reachable, is_smashed_cell};
 use crate::views::Targets;
 use pointer_dom::{Ends, Offsets, PointerSet};
 use std::alloc::Global;
-use tm_laid::Laid;
+use tm_laid::{Laid, cell_at, is_same_scalar, object_at};
 use tm_lattice::NoMemory;
 use tm_typed::Scalar;
 
@@ -71,7 +71,7 @@ fn with_cell(
     let mut targets = targets;
     let cell = cell_at(
         laid,
-        u64::from(object_at(laid, object).first_cell) + u64::from(offset),
+        object_at(laid, object).first_cell as usize + offset as usize,
     );
     if is_same_scalar(cell.scalar, scalar) {
         targets.push(cell.abstract_cell)?;

@@ -12,10 +12,10 @@ use crate::views::{After, plain};
 use calculations::{Calculated, no_classes};
 use cell_env::State;
 use concrete_values::Pointer;
-use edge_actions::{EdgeView, object_at};
+use edge_actions::EdgeView;
 use pointer_dom::{AbsValue, PointerSet};
 use std::alloc::Global;
-use tm_laid::Laid;
+use tm_laid::{Laid, object_at};
 use tm_lattice::NoMemory;
 
 /// An edge that does nothing.

@@ -18,7 +18,7 @@ pub use calculations::{
     negated, no_classes, numbers_assumed, numbers_of, operated, part, pointers_assumed,
     pointers_of, usable, value_of,
 };
-pub use edge_actions::{EdgeView, is_shared_cell, object_at, open_cell};
+pub use edge_actions::{EdgeView, is_reachable, is_shared_cell, open_cell};
 pub use givings::{give, pointer_value, skip};
 pub use loads::{load, load_any, reached};
 pub use temps::{Ending, arrived_state, given_state, live_temps, with_temp, with_temps};

@@ -10,6 +10,6 @@
 mod refining;
 mod tests;
 
-pub use edge_effects::{After, EdgeView, is_shared_cell, object_at, open_cell, pointer_value};
+pub use edge_effects::{After, EdgeView, is_reachable, is_shared_cell, open_cell, pointer_value};
 pub use refining::{met_cells, refined_state};
 pub use tests::{refine, usable};

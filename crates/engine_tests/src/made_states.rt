@@ -1,12 +1,11 @@
 //! States and stores by hand.
 use crate::numbers::{Numbers, numbers};
 use cell_env::{CellState, State, TempState};
-use edge_actions::object_at;
 use interfere_set::Store;
 use pointer_dom::{AbsValue, PointerSet};
 use state_tree::Tree;
 use std::alloc::Global;
-use tm_laid::Laid;
+use tm_laid::{Laid, object_at};
 use tm_lattice::{Keyed, Lattice, NoMemory};
 
 /// A temporary with numbers, and the cell of which it is a copy.

@@ -1,14 +1,14 @@
 //! States at which bodies begin.
 ghost use Rattle.std.specs.Prelude.{◌≡◌, ◌≤◌, IfOk, length};
 ghost use Rattle.std.specs.Option.{option_copied};
-ghost use Rattle.tm_laid.specs.Layouts.{laid_tree, path_at};
+ghost use Rattle.tm_laid.specs.Layouts.{laid_tree};
 ghost use Rattle.body_systems.specs.edge_actions.Layouts.{is_reachable};
 ghost use Rattle.body_systems.specs.program_equations.Readings.{read_layout};
 ghost use Rattle.body_systems.specs.program_equations.Entries.{entry_cell, entry_state, first_state, later_state};
 ghost use Rattle.entry_states.specs.Beginnings.{BeginsInTypes, AreInitialValues};
 ghost use Rattle.entry_states.specs.reading.Holdings.{held_value};
 
-use body_systems::{BodyState, is_shared_cell, object_at, open_cell};
+use body_systems::{BodyState, is_reachable, is_shared_cell, open_cell};
 use cell_env::{CellState, State};
 use pointer_dom::AbsValue;
 use state_tree::Tree;
@@ -24,26 +24,6 @@ pub enum Holding<'a> {
     Listed(&'a [AbsValue]),
     /// In a state.
     Kept(&'a State<AbsValue>),
-}
-
-// The body in which a call path begins.
-fn body_of(laid: &Laid, path: u32) -> u32
-    ensures { result ≡ (path_at (laid_tree laid.now) path).body }
-{
-    match laid.paths.get(path as usize) {
-        Some(entry) => entry.body,
-        None => 0,
-    }
-}
-
-// Whether an object has static storage or is on a call path of the body.
-fn is_reachable(laid: &Laid, body: u32, object: u32) -> bool
-    ensures { result ≡ is_reachable (laid_tree laid.now) body object }
-{
-    match object_at(laid, object).owner {
-        None => true,
-        Some(path) => body_of(laid, path) == body,
-    }
 }
 
 // What an abstract cell holds: nothing where that stands nowhere.

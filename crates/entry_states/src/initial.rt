@@ -2,7 +2,7 @@
 ghost use Rattle.std.specs.Prelude.{◌≡◌, ℤ, IfOk, OnOk, replicate};
 ghost use Rattle.strided_dom.specs.Progression.{IsInReach};
 ghost use Rattle.tm_laid.specs.declared.objects.Initial.TheVariants as Initials;
-ghost use Rattle.tm_laid.specs.Layouts.{laid_tree, cell_at};
+ghost use Rattle.tm_laid.specs.Layouts.{laid_tree};
 ghost use Rattle.pointer_dom.specs.Values.{no_value};
 ghost use Rattle.body_systems.specs.program_equations.Readings.{read_layout};
 ghost use Rattle.body_systems.specs.program_equations.Entries.{initial_value};
@@ -14,7 +14,7 @@ use concrete_values::Pointer;
 use pointer_dom::{AbsValue, PointerSet};
 use std::alloc::Global;
 use strided_dom::Strided;
-use tm_laid::{Initial, Laid};
+use tm_laid::{Initial, Laid, cell_at};
 use tm_lattice::{Lattice, NoMemory};
 
 // What a cell holds at first, as a set of values.
@@ -29,16 +29,6 @@ fn initial_value(alloc: Global, laid: &Laid, initial: Initial) -> Result<AbsValu
             let pointers = pointer_value(alloc, laid, Pointer::To { object, offset })?;
             Ok(AbsValue::from_pointers(pointers))
         }
-    }
-}
-
-// The abstract cell of a cell, and what stands in its place where there is no such cell.
-fn abstract_cell_of(laid: &Laid, cell: usize) -> u32
-    ensures { result ≡ (cell_at (laid_tree laid.now) cell).abstract_cell }
-{
-    match laid.cells.get(cell) {
-        Some(entry) => entry.abstract_cell,
-        None => 0,
     }
 }
 
@@ -77,7 +67,12 @@ pub fn initial_values(alloc: Global, laid: &Laid) -> Result<Vec<AbsValue>, NoMem
     let mut values = no_values(alloc, laid.abstract_cells.len())?;
     for cell in 0..laid.initial.len() {
         let value = initial_value(alloc, laid, laid.initial[cell])?;
-        join_at(alloc, &mut values, abstract_cell_of(laid, cell), &value)?;
+        join_at(
+            alloc,
+            &mut values,
+            cell_at(laid, cell).abstract_cell,
+            &value,
+        )?;
     }
     Ok(values)
 }

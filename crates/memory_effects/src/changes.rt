@@ -12,12 +12,12 @@ ghost use Rattle.edge_actions.specs.Edges.{cleared_value};
 ghost use Rattle.memory_effects.specs.reading.Changes.{change_of, kept_or, value_or};
 
 use cell_env::CellState;
-use edge_actions::{EdgeView, is_shared_cell, object_at, open_cell};
+use edge_actions::{EdgeView, is_shared_cell, open_cell};
 use interfere_set::{Store, taken_at_lock};
 use pointer_dom::AbsValue;
 use state_tree::Tree;
 use std::alloc::Global;
-use tm_laid::Laid;
+use tm_laid::{Laid, object_at};
 use tm_lattice::{Lattice, NoMemory};
 
 /// What an edge does to every cell.
@@ -40,7 +40,8 @@ fn has_32_bits(cell: u32)
     ensures { cell ≤ 4294967295 }
 {}
 
-/// The entry with the least number of those from the given one on: None exactly where there is none.
+/// The entry with the least number of those from the given one on: None exactly where there is none. Behind the last
+/// number of 32 bits there is none.
 pub fn next_cell<'a>(
     cells: &'a Tree<CellState<AbsValue>>,
     from: u64,

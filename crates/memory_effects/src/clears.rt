@@ -8,10 +8,11 @@ ghost use Rattle.edge_effects.specs.Effects.{IsAfter};
 
 use crate::changes::{Change, changed_cells};
 use cell_env::State;
-use edge_actions::{EdgeView, object_at};
+use edge_actions::EdgeView;
 use edge_effects::{After, Ending, live_temps, no_classes, plain};
 use pointer_dom::AbsValue;
 use std::alloc::Global;
+use tm_laid::object_at;
 use tm_lattice::NoMemory;
 
 /// An edge that clears an object: its cells become open, as they are before the first store, and copies of them end.

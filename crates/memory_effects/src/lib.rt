@@ -17,8 +17,9 @@ mod mutexes;
 mod stores;
 mod writes;
 
+pub use changes::next_cell;
 pub use clears::clear;
-pub use edge_actions::{EdgeView, numbers_between, object_at};
+pub use edge_actions::{EdgeView, numbers_between};
 pub use edge_effects::{
     After, Calculated, Followed, compared, complemented, converted, copied, dereferenced, element,
     give, load, load_any, moved, negated, no_classes, operated, part, pointer_value, skip,

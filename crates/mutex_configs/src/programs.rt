@@ -17,7 +17,7 @@ use crate::reached::reached;
 use flow_graph::{Graph, Graphs};
 use std::alloc::Global;
 use strided_dom::Marks;
-use tm_laid::{AbstractCell, Laid, Scale};
+use tm_laid::{AbstractCell, Laid, Scale, object_at, path_at};
 use tm_lattice::NoMemory;
 use tm_terms::{Fail, Kind, Limit, Place, Refusal};
 
@@ -94,10 +94,7 @@ fn is_own(laid: &Laid, body: u32, owner: Option<u32>) -> bool
 {
     match owner {
         None => true,
-        Some(path) => match laid.paths.get(path as usize) {
-            Some(path) => path.body == body,
-            None => body == 0,
-        },
+        Some(path) => path_at(laid, path).body == body,
     }
 }
 
@@ -105,10 +102,7 @@ fn is_own(laid: &Laid, body: u32, owner: Option<u32>) -> bool
 fn is_cell_seen(laid: &Laid, body: u32, cell: AbstractCell) -> bool
     ensures { result ≡ is_seen (laid_tree laid.now) body cell }
 {
-    match laid.objects.get(cell.object as usize) {
-        Some(object) => is_own(laid, body, object.owner),
-        None => true,
-    }
+    is_own(laid, body, object_at(laid, cell.object).owner)
 }
 
 // How many abstract cells are static or the body's own.

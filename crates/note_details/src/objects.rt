@@ -5,7 +5,7 @@ ghost use Rattle.source_names.specs.TypeWords.{type_words};
 
 use source_names::{is_volatile, member_of, push_type};
 use std::alloc::Global;
-use tm_laid::{Laid, LaidObject, Scalar};
+use tm_laid::{Laid, LaidObject, Scalar, abstract_at};
 use tm_lattice::NoMemory;
 use tm_terms::Name;
 use value_ranges::ObjectBounds;
@@ -79,12 +79,9 @@ fn note_member(
 
 // Whether an abstract cell is of an integer type.
 fn is_integer(laid: &Laid, cell: u32) -> bool {
-    match laid.abstract_cells.get(cell as usize) {
-        Some(found) => match found.scalar {
-            Scalar::Int(_) => true,
-            Scalar::Pointer(_) => false,
-        },
-        None => false,
+    match abstract_at(laid, cell).scalar {
+        Scalar::Int(_) => true,
+        Scalar::Pointer(_) => false,
     }
 }
 

@@ -10,7 +10,7 @@ use Rattle.pointer_dom.specs.OffsetSets.{OffsetSet, IsOffsetSet, HasNoOffset, no
 use Rattle.pointer_dom.specs.PointerSets.{Pointers, IsPointers, offsets_or_none, offsets_at}
 use Rattle.pointer_dom.proofs.CommonFacts.{entry_found}
 use Rattle.operand_orders.specs.Reached.{SolvedBody, IsOpen}
-use Rattle.operand_orders.specs.reading.Lists.{HasOne}
+use Rattle.operand_orders.specs.access_races.reading.Ways.{HasOne}
 use Rattle.open_choices.specs.Members.{Meets}
 use Rattle.open_choices.specs.reading.Found.{LeadsOut, LeavesIn, MovesAway, HasBegin, HasOtherBegin}
 use Rattle.open_choices.proofs.Searching.{has_entry}

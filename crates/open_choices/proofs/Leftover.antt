@@ -21,7 +21,7 @@ use Rattle.flow_graph.specs.declared.operations.Operation.TheVariants as Op
 use Rattle.post_recheck.specs.transfer_rows.StateForms.{Temp, Cell, State, temp_value, value_of, own_value, own_of}
 use Rattle.path_origins.specs.declared.origins.Life.{Life}
 use Rattle.operand_orders.specs.Reached.{SolvedBody, operation_at, HasState, IsReached}
-use Rattle.operand_orders.specs.reading.Lists.{HasOne}
+use Rattle.operand_orders.specs.access_races.reading.Ways.{HasOne}
 use Rattle.operand_orders.specs.reading.Views.{AreCopiesOf, state_from, state_at}
 use Rattle.open_choices.specs.Lifetimes.{PointsTo, StoresThrough, stores, IsLeftOver, in_cell, in_store, in_temporary}
 use Rattle.open_choices.specs.reading.Left.{address_of, IsHeldByTemp, IsLeftIn, IsHeldBehind, IsHeldByCell}

@@ -12,7 +12,7 @@ use Rattle.part_extents.specs.Parts.{inside_of}
 use Rattle.strided_dom.specs.Progression.{Progression}
 use Rattle.post_recheck.specs.transfer_rows.StateForms.{State, value_of}
 use Rattle.operand_orders.specs.Reached.{SolvedBody, targets}
-use Rattle.operand_orders.specs.reading.Lists.{HasOne}
+use Rattle.operand_orders.specs.access_races.reading.Ways.{HasOne}
 use Rattle.open_choices.specs.declared.marks.Marks.{Marks}
 use Rattle.open_choices.specs.reading.Marks.{IsMarked, AreConstants, AreEnumerated}
 use Rattle.open_choices.specs.Enumerations.{HasNegative}

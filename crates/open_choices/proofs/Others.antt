@@ -13,7 +13,7 @@ use Rattle.pointer_dom.specs.PointerSets.{Pointers, IsPointers, offsets_or_none,
 use Rattle.interfere_set.specs.Stores.{Interferences, value_or_none, left_in, left_at}
 use Rattle.post_recheck.specs.transfer_rows.Contributions.{at_task, entry_at}
 use Rattle.std.specs.Prelude.{IfSome}
-use Rattle.operand_orders.specs.reading.Lists.{HasOne}
+use Rattle.operand_orders.specs.access_races.reading.Ways.{HasOne}
 use Rattle.open_choices.specs.Lifetimes.{PointsTo}
 use Rattle.open_choices.specs.reading.Left.{AddsTo, IsOfEach, IsPointedIn, IsHeldIn, IsHeldByOthers}
 use Rattle.open_choices.proofs.Searching.{has_entry}

@@ -11,7 +11,7 @@ use Rattle.std.proofs.lemmas.List.{take_all}
 use Rattle.std.proofs.lemmas.List.Elements.{Contains-get_or}
 use Rattle.tm_lattice.specs.Tables.{Table}
 use Rattle.tm_lattice.specs.laws.Keys.{find-here, find-there}
-use Rattle.operand_orders.specs.reading.Lists.{HasOne}
+use Rattle.operand_orders.specs.access_races.reading.Ways.{HasOne}
 use Rattle.open_choices.proofs.ChoiceLists.{either, front_more, front_none}
 
 module _ {X : Type 0} (Is : X → Type 0) (xs : List X) where

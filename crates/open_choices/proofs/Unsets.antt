@@ -13,7 +13,7 @@ use Rattle.post_recheck.specs.transfer_rows.Rows.{is_stored}
 use Rattle.path_origins.specs.declared.origins.Life.{Life}
 use Rattle.operand_orders.specs.Reached.{SolvedBody, targets}
 use Rattle.operand_orders.specs.declared.scopes.ObjectLives.{ObjectLives}
-use Rattle.operand_orders.specs.reading.Lists.{list_at, HasOne}
+use Rattle.operand_orders.specs.access_races.reading.Ways.{list_at, HasOne}
 use Rattle.operand_orders.specs.reading.Scopes.{AreLivesOf}
 use Rattle.open_choices.specs.Unset.{IsUninitialised, FindsUnset}
 use Rattle.open_choices.specs.reading.Found.{AreUninitialised, LoadsUnset}

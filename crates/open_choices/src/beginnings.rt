@@ -1,13 +1,12 @@
 //! LIFETIME, where lifetimes begin: a pointer to an earlier instance is left over.
-ghost use Rattle.std.specs.Prelude.{◌≡◌, ◌≢◌, ◌⊎◌, ◌↔◌, ◌≤◌, ◌<◌, ℕ, length, Contains, IsTrue, IfOk, OnOk, MatchOption};
+ghost use Rattle.std.specs.Prelude.{◌≡◌, ◌≢◌, ◌⊎◌, ◌↔◌, ◌≤◌, ◌<◌, ℕ, length, Contains, IsTrue, IfOk, OnOk};
 ghost use Rattle.std.specs.FinMap as map;
 ghost use Rattle.std.specs.List.Sorted.{IsStrictlyIncreasing};
-ghost use Rattle.tm_lattice.specs.Tables.{IsPast, IsNext};
 ghost use Rattle.tm_laid.specs.Layouts.{laid_tree};
 ghost use Rattle.post_recheck.specs.transfer_rows.StateForms.{only_pointers};
 ghost use Rattle.text_choices.specs.Choices.{Adds};
 ghost use Rattle.operand_orders.specs.Reached.{IsReached};
-ghost use Rattle.operand_orders.specs.reading.Lists.{HasOne};
+ghost use Rattle.operand_orders.specs.access_races.reading.Ways.{HasOne};
 ghost use Rattle.operand_orders.specs.reading.Scopes.{AreLivesOf};
 ghost use Rattle.operand_orders.specs.reading.Views.{solved, IsIndexed};
 ghost use Rattle.open_choices.specs.Lifetimes.{PointsTo, IsLeftOver};
@@ -18,16 +17,16 @@ ghost use Rattle.open_choices.specs.reading.Left.{AddsTo, IsHeldBehind, IsLeftHe
 ghost use Rattle.open_choices.specs.reading.Left.{IsHeldIn};
 
 use crate::adding::add_if;
-use crate::unset::object_of;
-use cell_env::{CellState, State};
+use cell_env::State;
 use flow_graph::Operation;
 use interfere_set::Store;
+use memory_effects::next_cell;
 use operand_orders::{BodyView, ObjectLives, is_open};
 use path_origins::Life;
 use pointer_dom::{AbsValue, PointerSet};
-use state_tree::Tree;
 use std::alloc::Global;
 use text_choices::{Choice, Kind};
+use tm_laid::abstract_at;
 use tm_lattice::{Keyed, NoMemory};
 
 // Whether a value may point to an object.
@@ -106,35 +105,13 @@ fn is_left_in(
     requires { AreLivesOf view.origins.now.lives.items lives.now }
     ensures { IsTrue result ↔ IsLeftIn (solved view.entry) life cell value.now }
 {
-    is_left_at(view, lives, life, object_of(view.laid, cell), value)
-}
-
-// The number of a cell has 32 bits.
-fn has_32_bits(cell: u32)
-    ensures { cell ≤ 4294967295 }
-{}
-
-// The entry with the least number of those from the given one on.
-fn next_cell<'a>(
-    cells: &'a Tree<CellState<AbsValue>>,
-    from: u64,
-) -> Result<Option<(u32, &'a CellState<AbsValue>)>, NoMemory>
-    ensures { IfOk result (λ next. MatchOption next (IsPast cells.now from)
-        (λ entry. IsNext cells.now from entry.0 entry.1.now)) }
-{
-    if from <= u64::from(u32::MAX) {
-        return Ok(cells.entry_from(from as u32));
-    }
-    // The calls tell that no number is greater than the last of 32 bits.
-    let mut others = cells.shared()?;
-    others.remove(u32::MAX)?;
-    match others.entry_from(u32::MAX) {
-        None => Ok(None),
-        Some((cell, _)) => {
-            has_32_bits(cell);
-            Ok(cells.entry_from(cell))
-        }
-    }
+    is_left_at(
+        view,
+        lives,
+        life,
+        abstract_at(view.laid, cell).object,
+        value,
+    )
 }
 
 // Whether a cell may point so in a state.

@@ -1,12 +1,11 @@
 //! Marks of abstract cells.
 ghost use Rattle.std.specs.Prelude.{◌≡◌, ◌↔◌, IsTrue};
 ghost use Rattle.tm_laid.specs.Layouts.{laid_tree, object_at};
-ghost use Rattle.operand_orders.specs.reading.Lists.{HasOne};
+ghost use Rattle.operand_orders.specs.access_races.reading.Ways.{HasOne};
 ghost use Rattle.open_choices.specs.reading.Marks.{mark_of, IsMarked};
 
 use source_names::Inside;
-use tm_laid::Laid;
-use tm_typed::Qualified;
+use tm_laid::{Laid, object_at};
 
 /// A mark for each abstract cell, and one for what stands in place of a cell that there is not: the first one of the
 /// first object.
@@ -27,19 +26,9 @@ pub struct CellMarks {
 pub(crate) fn inside_at(laid: &Laid, object: u32, offset: u32) -> Inside
     ensures { result ≡ record { of = (object_at (laid_tree laid.now) object).of; cell = offset } }
 {
-    match laid.objects.get(object as usize) {
-        Some(found) => Inside {
-            of: found.of,
-            cell: offset,
-        },
-        None => Inside {
-            of: Qualified {
-                number: 0,
-                constant: false,
-                volatile: false,
-            },
-            cell: offset,
-        },
+    Inside {
+        of: object_at(laid, object).of,
+        cell: offset,
     }
 }
 

@@ -1,11 +1,10 @@
 //! UNSET: values that were never stored.
 ghost use Rattle.std.specs.Prelude.{◌≡◌, ◌↔◌, IsTrue, IfOk, OnOk};
 ghost use Rattle.std.specs.FinMap as map;
-ghost use Rattle.tm_laid.specs.Layouts.{laid_tree, abstract_at};
 ghost use Rattle.post_recheck.specs.transfer_rows.Rows.{is_stored};
 ghost use Rattle.text_choices.specs.Choices.{Adds};
 ghost use Rattle.operand_orders.specs.reading.Views.{solved, IsIndexed};
-ghost use Rattle.operand_orders.specs.reading.Lists.{HasOne};
+ghost use Rattle.operand_orders.specs.access_races.reading.Ways.{HasOne};
 ghost use Rattle.operand_orders.specs.reading.Scopes.{AreLivesOf};
 ghost use Rattle.open_choices.specs.Unset.{IsUninitialised, FindsUnset};
 ghost use Rattle.open_choices.specs.reading.Found.{AreUninitialised, LoadsUnset, IsOfSome, IsFallen};
@@ -16,19 +15,9 @@ use operand_orders::{BodyView, ObjectLives, is_static, is_within};
 use path_origins::Life;
 use pointer_dom::AbsValue;
 use text_choices::{Choice, Kind};
-use tm_laid::Laid;
+use tm_laid::abstract_at;
 use tm_lattice::NoMemory;
 use tm_typed::Scalar;
-
-/// The object of an abstract cell.
-pub(crate) fn object_of(laid: &Laid, cell: u32) -> u32
-    ensures { result ≡ (abstract_at (laid_tree laid.now) cell).object }
-{
-    match laid.abstract_cells.get(cell as usize) {
-        Some(found) => found.object,
-        None => 0,
-    }
-}
 
 // Whether a cell was stored since it was cleared, as far as a state tells.
 fn is_stored(state: &State<AbsValue>, cell: u32) -> bool
@@ -73,7 +62,7 @@ fn finds_unset(
     requires { AreLivesOf view.origins.now.lives.items lives.now }
     ensures { IsTrue result ↔ FindsUnset (solved view.entry) edge state.now cell }
 {
-    let object = object_of(view.laid, cell);
+    let object = abstract_at(view.laid, cell).object;
     if is_static(view.laid, object) {
         return false;
     }

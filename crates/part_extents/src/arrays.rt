@@ -10,7 +10,7 @@ use crate::extents::Extent;
 use crate::sizes::{cells_of_type, times};
 use body_builder::more;
 use source_names::{Down, Inside, step_down};
-use tm_laid::Laid;
+use tm_laid::{Laid, object_at};
 use tm_lattice::NoMemory;
 use tm_typed::Qualified;
 
@@ -66,21 +66,7 @@ fn alone(laid: &Laid, number: u32, begin: u32) -> Result<Part, NoMemory>
 fn whole(laid: &Laid, object: u32) -> Result<Part, NoMemory>
     ensures { IfOk result (λ p. part_of p ≡ whole (laid_tree laid.now) object) }
 {
-    let number = match laid.objects.get(object as usize) {
-        Some(found) => found.of.number,
-        None => 0,
-    };
-    alone(laid, number, 0)
-}
-
-// The cells of an object.
-fn object_cells(laid: &Laid, object: u32) -> u32
-    ensures { result ≡ (object_at (laid_tree laid.now) object).cells }
-{
-    match laid.objects.get(object as usize) {
-        Some(found) => found.cells,
-        None => 0,
-    }
+    alone(laid, object_at(laid, object).of.number, 0)
 }
 
 // An element of an array that begins at an offset.
@@ -196,7 +182,7 @@ fn array_with(
     ensures { IfOk result (λ found. found ≡ array_with (laid_tree laid.now) object
         (is_sought (laid_tree laid.now) sought) offset) }
 {
-    if offset < object_cells(laid, object) {
+    if offset < object_at(laid, object).cells {
         let first = whole(laid, object)?;
         array_within(laid, sought, offset, first)
     } else {

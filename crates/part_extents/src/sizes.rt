@@ -1,10 +1,10 @@
 //! The numbers of cells of types.
 ghost use Rattle.std.specs.Prelude.{◌≡◌, ◌*◌, IfOk};
 ghost use Rattle.tm_laid.specs.Layouts.{laid_tree};
-ghost use Rattle.tm_laid.specs.TypeCells.{entry_of, structure_in, summed, cell_count, cells_of_type};
+ghost use Rattle.tm_laid.specs.TypeCells.{entry_of, summed, cell_count, cells_of_type};
 
 use body_builder::more;
-use tm_laid::Laid;
+use tm_laid::{Laid, members_of};
 use tm_lattice::NoMemory;
 use tm_typed::{CType, Member};
 
@@ -15,16 +15,6 @@ pub fn type_at(laid: &Laid, number: u32) -> CType
     match laid.file.types.get(number as usize) {
         Some(entry) => entry.ctype,
         None => CType::Void,
-    }
-}
-
-// The members of a structure.
-fn members_of(laid: &Laid, structure: u32) -> &[Member]
-    ensures { result.now ≡ (structure_in (laid_tree laid.now).file structure).members }
-{
-    match laid.file.structs.get(structure as usize) {
-        Some(entry) => entry.members.as_slice(),
-        None => &[],
     }
 }
 
@@ -54,7 +44,7 @@ fn cell_count(laid: &Laid, depth: usize, number: u32) -> Result<u32, NoMemory>
             let cells = cell_count(laid, depth - 1, element)?;
             times(length, cells)
         }
-        CType::Struct(structure) => summed(laid, depth - 1, members_of(laid, structure)),
+        CType::Struct(structure) => summed(laid, depth - 1, members_of(&laid.file, structure)),
     }
 }
 

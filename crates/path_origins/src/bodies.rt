@@ -16,7 +16,7 @@ use crate::statements::{Ways, walk_statements};
 use crate::walks::Here;
 use body_builder::{more, result_type};
 use std::alloc::Global;
-use tm_laid::Laid;
+use tm_laid::{Laid, path_at};
 use tm_lattice::NoMemory;
 use tm_terms::Place;
 use tm_typed::{CType, TypedBody, TypedFunction};
@@ -62,11 +62,8 @@ fn walk_closing(to: &mut Notes, place: Place, returns: u32, is_task: bool) -> Re
 fn is_task_path(laid: &Laid, path: u32) -> bool
     ensures { result ≡ is_task_path (laid_tree laid.now) path }
 {
-    match laid.paths.get(path as usize) {
-        Some(found) => found.caller.is_none() && (found.body as usize) < laid.file.tasks.len(),
-        // What stands in place of a path that there is not has the first body.
-        None => 0 < laid.file.tasks.len(),
-    }
+    let found = path_at(laid, path);
+    found.caller.is_none() && (found.body as usize) < laid.file.tasks.len()
 }
 
 // The body of a path, whose function stands at a place.

@@ -18,7 +18,7 @@ ghost use Rattle.path_origins.specs.reading.Reading.{IsGiven, IsRead, IsReadAgai
 ghost use Rattle.path_origins.specs.Opens.{is_among};
 
 use crate::addresses::walk_address;
-use crate::lookups::{function_at, is_conversion, is_implied, object_at};
+use crate::lookups::{function_at, is_conversion, is_implied};
 use crate::notes::{
     end_scopes, end_with, note, note_against, note_body, note_end, note_fork_end, note_given,
     note_if, note_life, note_operands, note_passing, note_skips, note_value, sequence, since,
@@ -30,7 +30,7 @@ use crate::walks::{Here, Wanted};
 use body_builder::{
     callee, is_pointer_scalar, is_same_place, more, object_of, result_type, rvalue_place, type_at,
 };
-use tm_laid::Laid;
+use tm_laid::{Laid, object_at};
 use tm_lattice::NoMemory;
 use tm_terms::Place;
 use tm_typed::{CType, ObjectNumber, Qualified, Rvalue};

@@ -4,25 +4,18 @@ ghost use Rattle.tm_cint.specs.Conversions.{represents_all};
 ghost use Rattle.tm_typed.specs.TypedTrees.{rvalue_tree};
 ghost use Rattle.tm_typed.specs.Files.{no_typed_function};
 ghost use Rattle.tm_typed.specs.TypedFiles.{typed_function_tree};
-ghost use Rattle.tm_laid.specs.Layouts.{laid_tree, object_at};
+ghost use Rattle.tm_laid.specs.Layouts.{laid_tree};
 ghost use Rattle.body_builder.specs.concrete_steps.NextAction.{function_at};
 ghost use Rattle.body_builder.specs.lowering.Table.{conversion, implied};
 
 use body_builder::{function_on, is_same_place, rvalue_place};
-use tm_cint::IntType;
-use tm_laid::{Laid, LaidObject};
-use tm_terms::{Name, Place};
-use tm_typed::{Qualified, Rvalue, TypedFunction};
+use tm_cint::{IntType, represents_all};
+use tm_laid::Laid;
+use tm_terms::Place;
+use tm_typed::{Rvalue, TypedFunction};
 
 /// The place of what no expression gave.
 pub(crate) const NOWHERE: Place = Place { line: 0, col: 0 };
-
-// Whether `to` has every value of `from`.
-fn represents_all(to: IntType, from: IntType) -> bool
-    ensures { result ≡ represents_all to from }
-{
-    to.lo() <= from.lo() && from.hi() <= to.hi()
-}
 
 /// Whether a conversion makes an operation: the type has not all values of the one before.
 pub(crate) fn is_conversion(from: IntType, to: IntType) -> bool
@@ -60,30 +53,4 @@ pub(crate) fn function_at(laid: &Laid, path: u32) -> Option<&TypedFunction>
         (λ f. function_at (laid_tree laid.now) path ≡ typed_function_tree f.now) }
 {
     laid.file.functions.get(function_on(laid, path) as usize)
-}
-
-/// An object; where there is none, it has no cells.
-pub(crate) fn object_at(laid: &Laid, object: u32) -> LaidObject
-    ensures { result ≡ object_at (laid_tree laid.now) object }
-{
-    match laid.objects.get(object as usize) {
-        Some(found) => *found,
-        None => LaidObject {
-            name: Name {
-                start: 0,
-                length: 0,
-            },
-            place: NOWHERE,
-            of: Qualified {
-                number: 0,
-                constant: false,
-                volatile: false,
-            },
-            owner: None,
-            first_cell: 0,
-            cells: 0,
-            first_abstract: 0,
-            abstract_cells: 0,
-        },
-    }
 }

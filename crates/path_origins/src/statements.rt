@@ -21,7 +21,7 @@ ghost use Rattle.path_origins.specs.reading.Leaving.{is_default_label, is_defaul
 ghost use Rattle.path_origins.specs.Opens.{is_among};
 
 use crate::expressions::walk_value;
-use crate::lookups::{NOWHERE, object_at};
+use crate::lookups::NOWHERE;
 use crate::notes::{
     end_scopes, note, note_against, note_if, note_life, note_passing, note_skips, note_tests,
     sequence, since,
@@ -31,6 +31,7 @@ use crate::walks::{Here, Wanted};
 use body_builder::{is_value_type, more, object_of, result_type, rvalue_place, type_at};
 use part_extents::cell_type;
 use source_names::Inside;
+use tm_laid::object_at;
 use tm_lattice::NoMemory;
 use tm_terms::Place;
 use tm_typed::{

@@ -10,12 +10,11 @@ ghost use Rattle.path_origins.specs.Types.{number_if, is_unsigned_by_some, casts
 ghost use Rattle.path_origins.specs.Types.{either, computed, converted};
 ghost use Rattle.path_origins.specs.Expressions.{pointed_by};
 
-use crate::lookups::object_at;
 use body_builder::{is_comparison, object_of, type_at};
 use part_extents::unenumerated;
 use source_names::{Down, Inside, step_down};
 use tm_cint::{BinOp, IntType};
-use tm_laid::Laid;
+use tm_laid::{Laid, object_at};
 use tm_lattice::NoMemory;
 use tm_typed::{CType, ObjectNumber, Qualified, Scalar, is_enumerated};
 

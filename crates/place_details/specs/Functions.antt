@@ -3,7 +3,7 @@
 -- brackets (C99 6.9.1).
 use Rattle.std.specs.Prelude.{ℕ, zero, suc, ◌+◌, ◌-◌, ◌==◌, ◌&&◌, ◌||◌, Bool, nat_lt, nat_le, List, [], ◌∷◌, take, drop}
 use Rattle.std.specs.Prelude.{slice_index, if◌then◌else◌}
-use Rattle.std.specs.Char.{is_ascii_alphanumeric}
+use Rattle.tm_terms.specs.Lexis.{is_name_byte}
 use Rattle.place_details.specs.declared.code.Mode.{Mode}
 use Rattle.place_details.specs.declared.code.Mode.TheVariants.{Code, Line, Begin, Block, End, Char, Escape}
 use Rattle.place_details.specs.declared.functions.Scan.{Scan}
@@ -46,10 +46,6 @@ code_of text = code_from Code text
 
 -- ## What stands before a place of code
 
--- a byte of a name or a number
-abbrev pub is_word_byte : ℕ → Bool
-is_word_byte b = is_ascii_alphanumeric b || b == 95
-
 -- from one byte of the text to before another
 abbrev pub from_to : ℕ → ℕ → Span
 from_to start end = record { start = start; end = end }
@@ -75,13 +71,13 @@ is_outside s = s.braces == 0 && s.parens == 0
 -- the last word outside all brackets: it goes on where it ended at the byte before
 abbrev pub word_behind : Scan → ℕ → ℕ → Span
 word_behind s at b =
-    if is_outside s && is_word_byte b then from_to (if s.word.end == at then s.word.start else at) (at + 1)
+    if is_outside s && is_name_byte b then from_to (if s.word.end == at then s.word.start else at) (at + 1)
     else s.word
 
 -- the word right before the last `(` outside all brackets
 abbrev pub called_behind : Scan → ℕ → Span
 called_behind s b =
-    if is_outside s && b == 40 then (if is_word_byte s.last then s.word else nowhere) else s.called
+    if is_outside s && b == 40 then (if is_name_byte s.last then s.word else nowhere) else s.called
 
 -- the name of the function whose body is open
 abbrev pub body_behind : Scan → ℕ → Span

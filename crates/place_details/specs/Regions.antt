@@ -2,8 +2,7 @@
 use Rattle.std.specs.Prelude.{ℕ, ◌+◌, ◌-◌, ◌==◌, ◌&&◌, ◌||◌, Bool, not, nat_le, nat_lt, List, take, drop}
 use Rattle.std.specs.Prelude.{map, sum_by, slice_index, length, bytes_eq, codes, if◌then◌else◌}
 use Rattle.std.specs.List.{prefix_len}
-use Rattle.tm_terms.specs.Splices.{is_blank_in_line}
-use Rattle.place_details.specs.Functions.{is_word_byte}
+use Rattle.tm_terms.specs.Lexis.{is_blank_in_line, is_name_byte}
 use Rattle.place_details.specs.declared.regions.Region.{Region}
 use Rattle.place_details.specs.declared.regions.Region.TheVariants.{Whole, From, Within}
 
@@ -42,7 +41,7 @@ sign_length text =
 abbrev pub token_length : List ℕ → ℕ
 token_length text =
     if nat_le (slice_index text 0) 32 then 0
-    else (if is_word_byte (slice_index text 0) then prefix_len is_word_byte text
+    else (if is_name_byte (slice_index text 0) then prefix_len is_name_byte text
     else sign_length text)
 
 -- ## Regions

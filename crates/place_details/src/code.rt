@@ -3,8 +3,8 @@
 ghost use Rattle.std.specs.Prelude.{◌≡◌, length, IfOk};
 ghost use Rattle.place_details.specs.Functions.{begun_by, code_of, mode_behind, shown_in};
 
-use crate::lines::byte_at;
 use std::alloc::{AllocError, Global};
+use tm_terms::byte_at;
 
 /// Where a byte stands: in code, in a comment or a directive up to the end of its line, on the second byte that begins a
 /// comment, in one, on the second byte that ends one, in a character, or behind `\` there.

@@ -7,10 +7,10 @@ ghost use Rattle.place_details.specs.Fingerprints.{fingerprint, fingerprints_of,
 ghost use Rattle.place_details.specs.Fingerprints.{relative, solid_part, within};
 ghost use Rattle.place_details.specs.reading.Seen.{front_seen};
 
-use crate::lines::{ahead, behind};
 use sha2::{Digest, Sha256};
 use std::alloc::{AllocError, Global};
 use std::collections::HashMap;
+use tm_terms::{behind, front};
 
 /// How many bytes of a line count.
 const LONGEST_PART: usize = 1024;
@@ -19,7 +19,7 @@ const LONGEST_PART: usize = 1024;
 fn within<'a>(folder: &[u8], name: &'a [u8]) -> Option<&'a [u8]>
     ensures { option_map (λ rest. rest.now) result ≡ within folder.now name.now }
 {
-    if ahead(name, folder.len()) != folder {
+    if front(name, folder.len()) != folder {
         return None;
     }
     let rest = behind(name, folder.len());
@@ -51,22 +51,22 @@ fn is_solid(byte: u8) -> bool
 }
 
 /// Appends a part, and the byte 0 behind it.
-fn push_part(front: &mut Vec<u8>, text: &[u8]) -> Result<(), AllocError>
-    ensures { OnOk result (front.new.items ≡ front.old.items ++ part text.now) }
+fn push_part(to: &mut Vec<u8>, text: &[u8]) -> Result<(), AllocError>
+    ensures { OnOk result (to.new.items ≡ to.old.items ++ part text.now) }
 {
-    front.extend_from_slice(text)?;
-    front.push(0)?;
+    to.extend_from_slice(text)?;
+    to.push(0)?;
     Ok(())
 }
 
 /// Appends what counts of a line.
-fn push_solid(front: &mut Vec<u8>, line: &[u8]) -> Result<(), AllocError>
-    ensures { OnOk result (front.new.items ≡ front.old.items ++ solid_part line.now) }
+fn push_solid(to: &mut Vec<u8>, line: &[u8]) -> Result<(), AllocError>
+    ensures { OnOk result (to.new.items ≡ to.old.items ++ solid_part line.now) }
 {
-    let part = ahead(line, LONGEST_PART);
+    let part = front(line, LONGEST_PART);
     for byte in part {
         if is_solid(*byte) {
-            front.push(*byte)?;
+            to.push(*byte)?;
         }
     }
     Ok(())

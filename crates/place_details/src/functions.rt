@@ -1,10 +1,11 @@
 //! In which function of a text a place stands.
 
 ghost use Rattle.std.specs.Prelude.{◌≡◌, ◌<◌, ◌≤◌, ◌+◌, ◌^◌, length};
-ghost use Rattle.place_details.specs.Functions.{body_behind, bytes_in, called_behind, is_outside, is_word_byte};
+ghost use Rattle.tm_terms.specs.Lexis.{is_name_byte};
+ghost use Rattle.place_details.specs.Functions.{body_behind, bytes_in, called_behind, is_outside};
 ghost use Rattle.place_details.specs.Functions.{nothing, one_more, open_behind, scanned, step, word_behind};
 
-use crate::lines::{ahead, behind};
+use tm_terms::{behind, front};
 
 /// From one byte of a text to before another.
 #[derive(Clone, Copy)]
@@ -33,8 +34,8 @@ const NOWHERE: Span = Span { start: 0, end: 0 };
 const MOST_OPEN: usize = 1_000_000_000;
 
 /// Whether a byte belongs to a name or a number.
-pub fn is_word_byte(byte: u8) -> bool
-    ensures { result ≡ is_word_byte byte }
+pub fn is_name_byte(byte: u8) -> bool
+    ensures { result ≡ is_name_byte byte }
 {
     byte.is_ascii_alphanumeric() || byte == b'_'
 }
@@ -75,7 +76,7 @@ fn word_behind(scan: Scan, at: usize, byte: u8) -> Span
     requires { at + 1 < 2 ^ 64 }
     ensures { result ≡ word_behind scan at byte }
 {
-    if is_outside(scan) && is_word_byte(byte) {
+    if is_outside(scan) && is_name_byte(byte) {
         let start = if scan.word.end == at {
             scan.word.start
         } else {
@@ -92,7 +93,7 @@ fn called_behind(scan: Scan, byte: u8) -> Span
     ensures { result ≡ called_behind scan byte }
 {
     if is_outside(scan) && byte == b'(' {
-        if is_word_byte(scan.last) {
+        if is_name_byte(scan.last) {
             scan.word
         } else {
             NOWHERE
@@ -169,7 +170,7 @@ pub fn scan_on(code: &[u8], scan: Scan, at: usize, to: usize) -> Scan
 pub fn bytes_in(text: &[u8], span: Span) -> &[u8]
     ensures { result.now ≡ bytes_in text.now span }
 {
-    ahead(
+    front(
         behind(text, span.start),
         span.end.saturating_sub(span.start),
     )

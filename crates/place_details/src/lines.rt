@@ -1,45 +1,14 @@
 //! The lines of a text.
 
-ghost use Rattle.std.specs.Prelude.{◌≡◌, ◌≤◌, length, take, drop, slice_index, min, IfOk};
-ghost use Rattle.std.specs.List.{prefix_len};
-ghost use Rattle.tm_terms.specs.Splices.{is_in_line};
+ghost use Rattle.std.specs.Prelude.{◌≡◌, ◌≤◌, length, min, IfOk};
 ghost use Rattle.place_details.specs.TextLines.{line_from, line_of, longest_line, offset_of, place_from, start_of};
 ghost use Rattle.place_details.specs.TextLines.{starts_of};
 
 use std::alloc::{AllocError, Global};
-use tm_terms::Place;
+use tm_terms::{Place, behind, front, line_length};
 
 /// How many bytes of a line count.
 const LONGEST_LINE: usize = 16_384;
-
-/// The byte at an index, or 0 past the end.
-pub fn byte_at(text: &[u8], index: usize) -> u8
-    ensures { result ≡ slice_index text.now index }
-{
-    if index < text.len() { text[index] } else { 0 }
-}
-
-/// The first bytes of a text.
-pub fn ahead(text: &[u8], count: usize) -> &[u8]
-    ensures { result.now ≡ take count text.now }
-{
-    if count < text.len() {
-        &text[..count]
-    } else {
-        text
-    }
-}
-
-/// What follows the first bytes of a text.
-pub fn behind(text: &[u8], count: usize) -> &[u8]
-    ensures { result.now ≡ drop count text.now }
-{
-    if count < text.len() {
-        &text[count..]
-    } else {
-        &[]
-    }
-}
 
 /// Where the lines of a text begin.
 pub fn line_starts(alloc: Global, text: &[u8]) -> Result<Vec<usize>, AllocError>
@@ -53,19 +22,6 @@ pub fn line_starts(alloc: Global, text: &[u8]) -> Result<Vec<usize>, AllocError>
         }
     }
     Ok(starts)
-}
-
-/// How many bytes the first line of a text has.
-fn line_length(text: &[u8]) -> usize
-    ensures value { result ≡ prefix_len is_in_line text.now }
-    ensures within { result ≤ length text.now }
-{
-    for (i, byte) in text.iter().enumerate() {
-        if *byte == b'\n' {
-            return i;
-        }
-    }
-    text.len()
 }
 
 /// Where the line with a number begins, by where the lines of a text do.
@@ -87,7 +43,7 @@ fn line_from(text: &[u8], start: Option<usize>) -> &[u8]
     match start {
         None => &[],
         Some(start) => {
-            let line = ahead(behind(text, start), LONGEST_LINE);
+            let line = front(behind(text, start), LONGEST_LINE);
             let count = line_length(line);
             &line[..count]
         }

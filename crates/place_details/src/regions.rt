@@ -2,15 +2,15 @@
 
 ghost use Rattle.std.specs.Prelude.{◌≡◌, ◌<◌, ◌≤◌, ◌+◌, ◌^◌, length, map, IfOk};
 ghost use Rattle.std.specs.List.{prefix_len};
-ghost use Rattle.tm_terms.specs.Splices.{is_blank_in_line};
-ghost use Rattle.place_details.specs.Functions.{is_word_byte};
+ghost use Rattle.tm_terms.specs.Lexis.{is_name_byte};
 ghost use Rattle.place_details.specs.Regions.{begin_alike, column_behind, evened, is_doubled, is_pair};
 ghost use Rattle.place_details.specs.Regions.{region_at, region_behind, sign_length, takes_equals, token_length};
 ghost use Rattle.place_details.specs.Regions.{units_in};
 
-use crate::functions::is_word_byte;
-use crate::lines::{ahead, behind, byte_at};
+use crate::functions::is_name_byte;
+use source_marks::is_blank;
 use std::alloc::{AllocError, Global};
+use tm_terms::{behind, byte_at, front};
 
 /// What is known of where a place stands in its line of the file: the line alone, the column at which it begins, or that
 /// one and the column behind its token.
@@ -42,7 +42,7 @@ fn column_behind(count: usize, line: &[u8]) -> usize
     ensures { result ≡ column_behind count line.now }
 {
     let mut units: usize = 0;
-    let part = ahead(line, count);
+    let part = front(line, count);
     for byte in part {
         units += units_in(*byte);
     }
@@ -94,11 +94,11 @@ fn sign_length(text: &[u8]) -> usize
 
 /// How many bytes the word has that begins a text.
 fn word_length(text: &[u8]) -> usize
-    ensures value { result ≡ prefix_len is_word_byte text.now }
+    ensures value { result ≡ prefix_len is_name_byte text.now }
     ensures within { result ≤ length text.now }
 {
     for (i, byte) in text.iter().enumerate() {
-        if !is_word_byte(*byte) {
+        if !is_name_byte(*byte) {
             return i;
         }
     }
@@ -113,18 +113,11 @@ fn token_length(text: &[u8]) -> usize
     let first = byte_at(text, 0);
     if first <= b' ' {
         0
-    } else if is_word_byte(first) {
+    } else if is_name_byte(first) {
         word_length(text)
     } else {
         sign_length(text)
     }
-}
-
-/// Whether a byte is a blank of a line.
-fn is_blank(byte: u8) -> bool
-    ensures { result ≡ is_blank_in_line byte }
-{
-    byte == b' ' || (b'\t' <= byte && byte <= b'\r' && byte != b'\n')
 }
 
 /// A byte of a line as the preprocessor may write it.
@@ -149,8 +142,8 @@ fn evened_part(alloc: Global, part: &[u8]) -> Result<Vec<u8>, AllocError>
 fn begin_alike(alloc: Global, count: usize, line: &[u8], other: &[u8]) -> Result<bool, AllocError>
     ensures { IfOk result (λ alike. alike ≡ begin_alike count line.now other.now) }
 {
-    let one = evened_part(alloc, ahead(line, count))?;
-    let two = evened_part(alloc, ahead(other, count))?;
+    let one = evened_part(alloc, front(line, count))?;
+    let two = evened_part(alloc, front(other, count))?;
     Ok(one.as_slice() == two.as_slice())
 }
 

@@ -1,9 +1,9 @@
 //! Runs of bytes at the front of a text.
 
-ghost use Rattle.std.specs.Prelude.{◌≡◌, ◌<◌, ◌≤◌, true, drop, length, slice_index};
+ghost use Rattle.std.specs.Prelude.{◌≡◌, ◌<◌, ◌≤◌, true, length, slice_index};
 ghost use Rattle.std.specs.List.{prefix_len};
 ghost use Rattle.tm_terms.specs.Lexis.{is_name_byte};
-ghost use Rattle.tm_terms.specs.Splices.{is_blank, is_in_line};
+ghost use Rattle.tm_terms.specs.Splices.{is_blank};
 ghost use Rattle.refusal_hints.specs.Words.{is_word_byte};
 
 /// Whether a byte is a blank.
@@ -39,36 +39,4 @@ pub fn word_length(text: &[u8]) -> usize
         }
     }
     text.len()
-}
-
-/// How many bytes the first line of a text has.
-pub fn line_length(text: &[u8]) -> usize
-    ensures value { result ≡ prefix_len is_in_line text.now }
-    ensures within { result ≤ length text.now }
-{
-    for (i, byte) in text.iter().enumerate() {
-        if *byte == b'\n' {
-            return i;
-        }
-    }
-    text.len()
-}
-
-/// The byte at an index, or 0 past the end.
-pub fn byte_at(text: &[u8], index: usize) -> u8
-    ensures value { result ≡ slice_index text.now index }
-    ensures inside { 0 < result → index < length text.now }
-{
-    if index < text.len() { text[index] } else { 0 }
-}
-
-/// What follows the first bytes of a text.
-pub fn behind(text: &[u8], count: usize) -> &[u8]
-    ensures { result.now ≡ drop count text.now }
-{
-    if count < text.len() {
-        &text[count..]
-    } else {
-        &[]
-    }
 }

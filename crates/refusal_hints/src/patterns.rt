@@ -7,8 +7,9 @@ ghost use Rattle.refusal_hints.specs.Patterns.{is_character, is_e, is_in, is_inn
 ghost use Rattle.refusal_hints.specs.Patterns.{is_name, is_number, is_prefixed, is_sign};
 ghost use Rattle.refusal_hints.specs.reading.Seen.{words_seen};
 
-use crate::bytes::{byte_at, is_name_byte};
+use crate::bytes::is_name_byte;
 use crate::classes::{is_keyword, is_listed};
+use tm_terms::byte_at;
 
 /// Whether a word is a name, and no keyword.
 fn is_name(word: &[u8]) -> bool

@@ -14,11 +14,11 @@ ghost use Rattle.row_checks.specs.Passing.{is_cleared_in, is_tested_in, is_locke
 use crate::handed::is_handed_in;
 use crate::traces::{Traces, copies_of, may_copy, may_pend};
 use cell_placings::CellSet;
-use edge_actions::{EdgeView, is_shared_cell, object_at};
+use edge_actions::{EdgeView, is_shared_cell};
 use edge_effects::After;
 use flow_graph::{Operation, Test};
 use interfere_set::Store;
-use tm_laid::Laid;
+use tm_laid::{Laid, object_at};
 
 // Whether all of these cells are in the set.
 fn are_in(set: &CellSet, cells: &[usize]) -> bool

@@ -3,7 +3,7 @@ ghost use Rattle.std.specs.Prelude.{◌≡◌, ◌<◌, ◌↔◌, ℕ, IsTrue, 
 ghost use Rattle.cell_placings.specs.CellLists.{is_in, cells_at};
 ghost use Rattle.slot_numbers.specs.Numbered.{IsNumberable};
 
-use cell_placings::{CellGraph, CellPlacing, CellSet};
+use cell_placings::{CellGraph, CellPlacing, CellSet, cells_at};
 
 /// Whether all cells that count are placed, and edges touch none but these and look at none but these.
 pub fn is_numberable(graph: &CellGraph, placing: &CellPlacing, cells: &CellSet) -> bool
@@ -36,7 +36,7 @@ fn are_counted(sets: &[CellSet], count: usize, cells: &CellSet) -> bool
         → is_in cells.now x ≡ true) }
 {
     for k in 0..count {
-        let listed = cells_of(sets, k);
+        let listed = cells_at(sets, k);
         if !are_among(listed, cells) {
             return false;
         }
@@ -54,24 +54,4 @@ fn are_among(listed: &[usize], cells: &CellSet) -> bool
         }
     }
     true
-}
-
-/// The cells of the set of this number.
-pub fn cells_of(sets: &[CellSet], at: usize) -> &[usize]
-    ensures { result.now ≡ cells_at sets.now at }
-{
-    match sets.get(at) {
-        None => &[],
-        Some(set) => set.cells(),
-    }
-}
-
-/// Whether the set of this number has a cell.
-pub fn has_cell(sets: &[CellSet], at: usize, cell: usize) -> bool
-    ensures { result ≡ is_in (cells_at sets.now at) cell }
-{
-    match sets.get(at) {
-        None => false,
-        Some(set) => set.has(cell),
-    }
 }

@@ -6,10 +6,9 @@ ghost use Rattle.slot_numbers.specs.Names.{rule_named};
 ghost use Rattle.slot_numbers.specs.Numberings.{rule_of, along_edge};
 ghost use Rattle.slot_numbers.specs.Numbered.{AreVariables, AreFlows, AreEnds};
 
-use crate::checks::has_cell;
 use crate::names::{FlowingCell, Rule};
 use crate::variable_numbers::VariableNumbers;
-use cell_placings::{CellGraph, CellPlacing, CellSet};
+use cell_placings::{CellGraph, CellPlacing, CellSet, has_cell};
 use std::alloc::Global;
 use tm_lattice::NoMemory;
 

@@ -10,12 +10,11 @@ ghost use Rattle.slot_numbers.specs.Numberings.{number_of, has_slot};
 ghost use Rattle.slot_numbers.specs.Numbered.{IsNumberable, AreVariables, AreFlows, IsRuleOf, sources_on};
 ghost use Rattle.slot_numbers.specs.reading.Building.{AreReaders, AreNoted};
 
-use crate::checks::cells_of;
 use crate::flows::rule_at;
 use crate::names::{FlowingCell, Rule};
 use crate::number_lists::{NumberList, no_lists};
 use crate::variable_numbers::VariableNumbers;
-use cell_placings::{CellGraph, CellPlacing, CellSet};
+use cell_placings::{CellGraph, CellPlacing, CellSet, cells_at};
 use std::alloc::Global;
 use tm_lattice::NoMemory;
 
@@ -89,7 +88,7 @@ fn row_sources(
         (cells_at graph.now.looked.items edge))) }
 {
     let from = graph.links[edge].from;
-    let looked = cells_of(&graph.looked, edge);
+    let looked = cells_at(&graph.looked, edge);
     let mut list = NumberList::new(alloc);
     list.push(from)?;
     push_kept(&mut list, placing, variables, from, looked)?;

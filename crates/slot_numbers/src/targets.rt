@@ -10,12 +10,11 @@ ghost use Rattle.slot_numbers.specs.Numberings.{number_of, has_slot};
 ghost use Rattle.slot_numbers.specs.Numbered.{IsNumberable, AreVariables, AreFlows, IsRuleOf, targets_on};
 ghost use Rattle.slot_numbers.specs.reading.Building.{AreTargets};
 
-use crate::checks::cells_of;
 use crate::flows::rule_at;
 use crate::names::{FlowingCell, Rule};
 use crate::number_lists::NumberList;
 use crate::variable_numbers::{VariableNumbers, total};
-use cell_placings::{CellGraph, CellPlacing, CellSet};
+use cell_placings::{CellGraph, CellPlacing, CellSet, cells_at};
 use std::alloc::Global;
 use tm_lattice::NoMemory;
 
@@ -103,7 +102,7 @@ fn row_targets(
         ∷ map (slot_at (to_of graph.now.links.items edge)) (cells_at graph.now.touched.items edge))) }
 {
     let to = graph.links[edge].to;
-    let touched = cells_of(&graph.touched, edge);
+    let touched = cells_at(&graph.touched, edge);
     let mut list = NumberList::new(alloc);
     list.push(to)?;
     list.push(variables.number_of_edge(edge))?;

@@ -11,5 +11,6 @@ mod marks;
 mod names;
 mod origins;
 
+pub use lines::{first_line, is_blank};
 pub use names::name_bytes;
 pub use origins::{MarkFail, Origin, line_origins};

@@ -1,14 +1,16 @@
 //! Runs of bytes, and the lines of a text.
 
-ghost use Rattle.std.specs.Prelude.{◌≡◌, ◌<◌, ◌≤◌, ◌∷◌, length, drop, slice_index, IfSome};
+ghost use Rattle.std.specs.Prelude.{◌≡◌, ◌<◌, ◌≤◌, ◌∷◌, length, drop, IfSome};
 ghost use Rattle.std.specs.List.{prefix_len};
 ghost use Rattle.std.specs.Char.{is_ascii_digit};
-ghost use Rattle.tm_terms.specs.Splices.{is_blank_in_line, is_in_line};
+ghost use Rattle.tm_terms.specs.Splices.{is_blank_in_line};
 ghost use Rattle.source_marks.specs.Marks.{lines_of};
 ghost use Rattle.source_marks.specs.reading.Seen.{lines_behind};
 
+use tm_terms::{behind, line_length};
+
 /// Whether a byte is a blank of a line.
-fn is_blank(byte: u8) -> bool
+pub fn is_blank(byte: u8) -> bool
     ensures { result ≡ is_blank_in_line byte }
 {
     byte == b' ' || (b'\t' <= byte && byte <= b'\r' && byte != b'\n')
@@ -40,19 +42,6 @@ pub fn digits(text: &[u8]) -> usize
     text.len()
 }
 
-/// How many bytes the first line of a text has.
-fn line_length(text: &[u8]) -> usize
-    ensures value { result ≡ prefix_len is_in_line text.now }
-    ensures within { result ≤ length text.now }
-{
-    for (i, byte) in text.iter().enumerate() {
-        if *byte == b'\n' {
-            return i;
-        }
-    }
-    text.len()
-}
-
 /// The first line of a text, and what stands behind the byte 10 that ends it, if one does.
 pub fn first_line(text: &[u8]) -> (&[u8], Option<&[u8]>)
     ensures lines { lines_of text.now ≡ result.0.now ∷ lines_behind result.1 }
@@ -73,23 +62,4 @@ pub fn behind_blanks(line: &[u8]) -> &[u8]
 {
     let count = blanks(line);
     &line[count..]
-}
-
-/// The byte at an index, or 0 past the end.
-pub fn byte_at(text: &[u8], index: usize) -> u8
-    ensures value { result ≡ slice_index text.now index }
-    ensures inside { 0 < result → index < length text.now }
-{
-    if index < text.len() { text[index] } else { 0 }
-}
-
-/// What follows the first bytes of a text.
-pub fn behind(text: &[u8], count: usize) -> &[u8]
-    ensures { result.now ≡ drop count text.now }
-{
-    if count < text.len() {
-        &text[count..]
-    } else {
-        &[]
-    }
 }

@@ -9,7 +9,8 @@ ghost use Rattle.source_marks.specs.Marks.{begins_mark, behind_hash, greatest_li
 ghost use Rattle.source_marks.specs.Marks.{name_end, name_of, number_of, quoted};
 ghost use Rattle.source_marks.specs.reading.Seen.{mark_seen, name_seen};
 
-use crate::lines::{behind_blanks, blanks, byte_at, digits};
+use crate::lines::{behind_blanks, blanks, digits};
+use tm_terms::byte_at;
 
 /// The greatest number of a line.
 const GREATEST_LINE: u64 = 2_147_483_647;

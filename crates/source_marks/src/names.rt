@@ -4,9 +4,9 @@ ghost use Rattle.std.specs.Prelude.{◌≡◌, ◌<◌, length, IfOk};
 ghost use Rattle.source_marks.specs.Names.{decoded, is_octal, letter_of, octal_of, spelled_first};
 ghost use Rattle.source_marks.specs.reading.Seen.{spelled_seen};
 
-use crate::lines::{behind, byte_at};
 use std::alloc::{AllocError, Global};
 use tm_lattice::NoMemory;
+use tm_terms::{behind, byte_at};
 
 /// Whether a byte is an octal digit.
 fn is_octal(byte: u8) -> bool

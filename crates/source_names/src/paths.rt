@@ -5,7 +5,7 @@ ghost use Rattle.source_names.specs.Paths.{call_at, calls_back, path_shown, func
 ghost use Rattle.source_names.specs.Paths.{shown_path, lists_of};
 
 use std::alloc::Global;
-use tm_laid::{Caller, Laid};
+use tm_laid::{Laid, path_at};
 use tm_lattice::NoMemory;
 use tm_terms::{Name, Place};
 
@@ -33,36 +33,6 @@ fn call_at(places: &[Vec<Place>], function: u32, site: u32) -> Place
     }
 }
 
-// The body in which a path begins.
-fn body_at(laid: &Laid, path: u32) -> u32
-    ensures { result ≡ (path_at (laid_tree laid.now) path).body }
-{
-    match laid.paths.get(path as usize) {
-        Some(here) => here.body,
-        None => 0,
-    }
-}
-
-// The number of the function in which a path ends.
-fn function_at(laid: &Laid, path: u32) -> u32
-    ensures { result ≡ (path_at (laid_tree laid.now) path).function }
-{
-    match laid.paths.get(path as usize) {
-        Some(here) => here.function,
-        None => 0,
-    }
-}
-
-// The call that leads to the end of a path.
-fn caller_at(laid: &Laid, path: u32) -> Option<Caller>
-    ensures { result ≡ (path_at (laid_tree laid.now) path).caller }
-{
-    match laid.paths.get(path as usize) {
-        Some(here) => here.caller,
-        None => None,
-    }
-}
-
 // The places of the calls of a path, the innermost first. No chain of calls is longer than there are functions.
 fn calls_back(
     alloc: Global,
@@ -76,9 +46,9 @@ fn calls_back(
     let mut calls = Vec::new(alloc);
     let mut at = path;
     for _step in 0..laid.file.functions.len() {
-        match caller_at(laid, at) {
+        match path_at(laid, at).caller {
             Some(caller) => {
-                calls.push(call_at(places, function_at(laid, caller.path), caller.site))?;
+                calls.push(call_at(places, path_at(laid, caller.path).function, caller.site))?;
                 at = caller.path;
             }
             None => return Ok(calls),
@@ -100,7 +70,7 @@ fn noted_path(
     let mut calls = calls_back(alloc, laid, places, path)?;
     calls.reverse();
     Ok(NotedPath {
-        task: body_at(laid, path),
+        task: path_at(laid, path).body,
         calls,
     })
 }
@@ -158,7 +128,11 @@ pub fn function_of(laid: &Laid, path: Option<u32>) -> Name
         length: 0,
     };
     match path {
-        Some(path) => match laid.file.functions.get(function_at(laid, path) as usize) {
+        Some(path) => match laid
+            .file
+            .functions
+            .get(path_at(laid, path).function as usize)
+        {
             Some(function) => function.name,
             None => nobody,
         },

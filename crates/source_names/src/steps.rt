@@ -2,10 +2,11 @@
 ghost use Rattle.std.specs.Prelude.{◌≡◌, option_map};
 ghost use Rattle.tm_typed.specs.TypedFiles.{typed_file_tree};
 ghost use Rattle.tm_typed.specs.Scopes.{structure, cells_of};
-ghost use Rattle.tm_laid.specs.TypeCells.{entry_of, structure_in};
+ghost use Rattle.tm_laid.specs.TypeCells.{structure_in};
 ghost use Rattle.tm_laid.specs.Layable.{tables_of};
 ghost use Rattle.source_names.specs.Steps.{at_least_one, last_begun, to_member, to_element, step_down};
 
+use tm_laid::{members_of, structure_cells, type_at};
 use tm_terms::Name;
 use tm_typed::{CType, Member, Qualified, TypedFile};
 
@@ -28,36 +29,6 @@ pub enum Down {
         name: Name,
         inside: Inside,
     },
-}
-
-/// The type at a row of the table.
-pub(crate) fn type_at(file: &TypedFile, number: u32) -> CType
-    ensures { result ≡ (entry_of (typed_file_tree file.now) number).ctype }
-{
-    match file.types.get(number as usize) {
-        Some(entry) => entry.ctype,
-        None => CType::Void,
-    }
-}
-
-// The members of a structure.
-fn members_of(file: &TypedFile, structure: u32) -> &[Member]
-    ensures { result.now ≡ (structure_in (typed_file_tree file.now) structure).members }
-{
-    match file.structs.get(structure as usize) {
-        Some(entry) => entry.members.as_slice(),
-        None => &[],
-    }
-}
-
-// The scalar cells of a structure.
-fn structure_cells(file: &TypedFile, number: u32) -> u32
-    ensures { result ≡ (structure (tables_of (typed_file_tree file.now)) number).cells }
-{
-    match file.structs.get(number as usize) {
-        Some(entry) => entry.cells,
-        None => 0,
-    }
 }
 
 // The scalar cells of a type.

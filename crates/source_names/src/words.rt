@@ -6,9 +6,9 @@ ghost use Rattle.source_names.specs.TypeWords.{qualifier_words, no_tag, tag_word
 ghost use Rattle.source_names.specs.TypeWords.{pointed, measured, one_read, all_read, nothing_read, type_words};
 ghost use Rattle.source_names.specs.reading.Suffixes.{outside_of, is_base};
 
-use crate::steps::type_at;
 use notes_json::{push_bytes, push_number, text_of, type_text};
 use std::alloc::Global;
+use tm_laid::type_at;
 use tm_lattice::NoMemory;
 use tm_terms::Name;
 use tm_typed::{CType, Qualified, TypedFile};

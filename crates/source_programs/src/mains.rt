@@ -1,23 +1,9 @@
 //! The name that is spelled `main`.
 
-ghost use Rattle.std.specs.Prelude.{◌≡◌, drop, take};
+ghost use Rattle.std.specs.Prelude.{◌≡◌};
 ghost use Rattle.source_programs.specs.LaidSources.{is_main, main_in};
 
-use tm_terms::{Name, Shape, Token};
-
-/// The bytes behind the first n.
-fn behind(bytes: &[u8], n: usize) -> &[u8]
-    ensures { result.now ≡ drop n bytes.now }
-{
-    if n < bytes.len() { &bytes[n..] } else { &[] }
-}
-
-/// The first n bytes.
-fn front(bytes: &[u8], n: usize) -> &[u8]
-    ensures { result.now ≡ take n bytes.now }
-{
-    if n < bytes.len() { &bytes[..n] } else { bytes }
-}
+use tm_terms::{Name, Shape, Token, behind, front};
 
 /// Whether a name is spelled `main`.
 fn is_main(bytes: &[u8], name: Name) -> bool

@@ -15,11 +15,9 @@ ghost use Rattle.task_interpreter.specs.reading.Lists.{leading_ran, values_at, A
 ghost use Rattle.task_interpreter.specs.reading.Seats.{seat_of};
 
 use crate::answers::{Flow, Gave, acted, fell, last};
-use crate::objects::{
-    body_of, callee, depth_of, first_path, function_of, parameter, result_of, scalar_at,
-};
+use crate::objects::{body_of, depth_of, parameter, result_of, scalar_at};
 use concrete_values::{Answer, Next, base, nothing, store_at, truth_value};
-use tm_laid::Laid;
+use tm_laid::{Laid, callee, first_path, path_at};
 use tm_terms::Place;
 use tm_typed::Rvalue;
 
@@ -169,7 +167,7 @@ impl Here<'_> {
             }),
             Some(body) => match given!(inside.block(&body.statements, at)) {
                 Flow::Goes(at) => {
-                    let of = result_of(self.laid, function_of(self.laid, self.path));
+                    let of = result_of(self.laid, path_at(self.laid, self.path).function);
                     fell(self.laid, self.answers, of, at)
                 }
                 Flow::Breaks(_) => Err(Next::Misfit),

@@ -4,36 +4,13 @@ ghost use Rattle.tm_typed.specs.declared.scopes.ObjectNumber.TheVariants.{Local}
 ghost use Rattle.tm_typed.specs.TypedStatements.{given_tree};
 ghost use Rattle.tm_typed.specs.Files.{no_typed_function};
 ghost use Rattle.tm_typed.specs.TypedFiles.{typed_body_tree};
-ghost use Rattle.tm_laid.specs.Layouts.{laid_tree, path_at, object_at, first_path, callee, object_of};
+ghost use Rattle.tm_laid.specs.Layouts.{laid_tree, object_at, object_of};
 ghost use Rattle.concrete_steps.specs.Places.{result_type};
 ghost use Rattle.concrete_steps.specs.NextAction.{function_at, scalar_at, zero_of, is_given, rest_of};
 
 use concrete_values::{Pointer, Value};
-use tm_laid::Laid;
+use tm_laid::{Laid, cell_at, path_at};
 use tm_typed::{CType, GivenCell, ObjectNumber, Scalar, TypedBody};
-
-/// The path of a body.
-pub(crate) fn first_path(laid: &Laid, body: u32) -> u32
-    ensures { result ≡ first_path (laid_tree laid.now) body }
-{
-    match laid.first_paths.get(body as usize) {
-        Some(path) => *path,
-        None => 0,
-    }
-}
-
-/// The path that goes on from a path by one of its calls.
-pub(crate) fn callee(laid: &Laid, path: u32, site: u32) -> u32
-    ensures { result ≡ callee (laid_tree laid.now) path site }
-{
-    match laid.callees.get(path as usize) {
-        Some(callees) => match callees.get(site as usize) {
-            Some(callee) => *callee,
-            None => 0,
-        },
-        None => 0,
-    }
-}
 
 // The number of the first parameter or local object of a path.
 fn first_object(laid: &Laid, path: u32) -> u32
@@ -98,10 +75,7 @@ pub(crate) fn scalar_at(laid: &Laid, object: u64, cell: u32) -> Scalar
     ensures { result ≡ scalar_at (laid_tree laid.now) object cell }
 {
     let index = first_cell(laid, object) as usize + cell as usize;
-    match laid.cells.get(index) {
-        Some(entry) => entry.scalar,
-        None => Scalar::Pointer(0),
-    }
+    cell_at(laid, index).scalar
 }
 
 /// Zero, or the null pointer.
@@ -111,16 +85,6 @@ pub(crate) fn zero_of(scalar: Scalar) -> Value
     match scalar {
         Scalar::Int(_) => Value::Number(0),
         Scalar::Pointer(_) => Value::Pointer(Pointer::Null),
-    }
-}
-
-/// The function of a path.
-pub(crate) fn function_of(laid: &Laid, path: u32) -> u32
-    ensures { result ≡ (path_at (laid_tree laid.now) path).function }
-{
-    match laid.paths.get(path as usize) {
-        Some(entry) => entry.function,
-        None => 0,
     }
 }
 
@@ -156,7 +120,11 @@ pub(crate) fn depth_of(laid: &Laid) -> usize
 pub(crate) fn body_of(laid: &Laid, path: u32) -> Option<&TypedBody>
     ensures { option_map typed_body_tree (option_copied result) ≡ (function_at (laid_tree laid.now) path).body }
 {
-    match laid.file.functions.get(function_of(laid, path) as usize) {
+    match laid
+        .file
+        .functions
+        .get(path_at(laid, path).function as usize)
+    {
         Some(entry) => match &entry.body {
             Some(body) => Some(body),
             None => None,

@@ -13,7 +13,7 @@ use crate::integers::{integer, negated};
 use crate::kinds::Choice;
 use crate::spots::{Spot, by_cast, first_element, member_if, moved_from};
 use crate::static_names::StaticNames;
-use tm_laid::Laid;
+use tm_laid::{Laid, object_at};
 use tm_lattice::NoMemory;
 use tm_terms::{Access, Binary, Expr, Infix, Name, Place, Prefix};
 
@@ -32,21 +32,13 @@ fn static_spot(laid: &Laid, number: usize) -> Spot
     ensures { spot_of result ≡ static_spot (laid_tree laid.now) number }
 {
     let object = static_object(laid, number);
-    match laid.objects.get(object as usize) {
-        Some(found) => Spot {
-            object,
-            offset: 0,
-            of: found.of.number,
-            constant: found.of.constant,
-            cast: false,
-        },
-        None => Spot {
-            object,
-            offset: 0,
-            of: 0,
-            constant: false,
-            cast: false,
-        },
+    let of = object_at(laid, object).of;
+    Spot {
+        object,
+        offset: 0,
+        of: of.number,
+        constant: of.constant,
+        cast: false,
     }
 }
 

@@ -53,7 +53,7 @@ fn mixed(signed: IntType, unsigned: IntType) -> IntType
 {
     if rank(signed) <= rank(unsigned) {
         unsigned
-    } else if can_represent(signed, unsigned) {
+    } else if represents_all(signed, unsigned) {
         signed
     } else {
         unsigned_type(signed)
@@ -61,7 +61,7 @@ fn mixed(signed: IntType, unsigned: IntType) -> IntType
 }
 
 /// Whether `by` has every value of `of`.
-fn can_represent(by: IntType, of: IntType) -> bool
+pub fn represents_all(by: IntType, of: IntType) -> bool
     ensures { result ≡ represents_all by of }
 {
     by.lo() <= of.lo() && of.hi() <= by.hi()

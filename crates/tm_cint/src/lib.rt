@@ -10,7 +10,7 @@ mod int_types;
 mod laws;
 mod operators;
 
-pub use conversions::{convert, promote, usual};
+pub use conversions::{convert, promote, represents_all, usual};
 pub use int_types::IntType;
 pub use laws::{
     conversion_is_congruent, conversion_keeps_values, converted_value_is_in_its_type,

@@ -8,6 +8,7 @@
 mod cells;
 mod layouts;
 mod lives;
+mod lookups;
 mod objects;
 mod paths;
 mod scales;
@@ -15,6 +16,10 @@ mod scales;
 pub use cells::{AbstractCell, LaidCell};
 pub use layouts::Laid;
 pub use lives::is_alive;
+pub use lookups::{
+    abstract_at, callee, cell_at, first_path, is_same_scalar, members_of, object_at, path_at,
+    structure_cells, type_at,
+};
 pub use objects::{DeclaredObject, Initial, LaidObject};
 pub use paths::{CallPath, Caller};
 pub use scales::Scale;

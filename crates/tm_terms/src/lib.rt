@@ -7,6 +7,7 @@
 #![tactic(auto)]
 
 mod alarms;
+mod bytes;
 mod exprs;
 pub mod limits;
 mod places;
@@ -16,6 +17,7 @@ mod tokens;
 mod types_named;
 
 pub use alarms::{Alarm, Report};
+pub use bytes::{behind, byte_at, front, line_length};
 pub use exprs::{Access, Binary, Expr, Infix, Level, Postfix, Prefix};
 pub use places::Place;
 pub use refusals::{Fail, Kind, Limit, Refusal};

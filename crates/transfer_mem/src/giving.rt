@@ -16,13 +16,13 @@ use concrete_values::Value;
 use flow_graph::Operation;
 use memory_effects::{
     Calculated, EdgeView, Followed, compared, complemented, converted, copied, dereferenced,
-    element, moved, negated, no_classes, numbers_between, object_at, operated, part, pointer_value,
+    element, moved, negated, no_classes, numbers_between, operated, part, pointer_value,
 };
 use pointer_dom::{AbsValue, PointerSet};
 use std::alloc::Global;
 use strided_dom::Strided;
 use tm_cint::IntType;
-use tm_laid::Laid;
+use tm_laid::{Laid, object_at};
 use tm_lattice::NoMemory;
 use tm_typed::Unary;
 

@@ -13,6 +13,6 @@ mod giving;
 mod laws;
 
 pub use applying::apply;
-pub use edge_filters::{After, EdgeView, is_shared_cell, object_at, open_cell, pointer_value};
+pub use edge_filters::{After, EdgeView, is_reachable, is_shared_cell, open_cell, pointer_value};
 pub use giving::{Given, calculated};
 pub use laws::{edges_give_states, edges_rise};

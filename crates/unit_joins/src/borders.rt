@@ -1,15 +1,13 @@
 //! The units of a text: its first line says how many they are, and a line of its own stands before each.
 
-ghost use Rattle.std.specs.Prelude.{◌≡◌, ◌<◌, ◌≤◌, ◌++◌, IfErr, IfOk, ◌∷◌, IfSome, OnOk, drop, length, string_bytes};
-ghost use Rattle.std.specs.List.{prefix_len};
+ghost use Rattle.std.specs.Prelude.{◌≡◌, ◌<◌, ◌≤◌, ◌++◌, IfErr, IfOk, ◌∷◌, OnOk, length, string_bytes};
 ghost use Rattle.source_marks.specs.Marks.{lines_of};
-ghost use Rattle.source_marks.specs.reading.Seen.{lines_behind};
 ghost use Rattle.tm_terms.specs.Limits.{limit_number};
-ghost use Rattle.tm_terms.specs.Splices.{is_in_line};
 ghost use Rattle.tm_terms.specs.declared.refusals.Limit.TheVariants as Limits;
 ghost use Rattle.unit_joins.specs.Causes.{IsCause};
 ghost use Rattle.unit_joins.specs.Parts.{AreBorders, border_at, border_numbers, head_text};
 
+use source_marks::first_line;
 use std::alloc::{AllocError, Global};
 use unit_plans::{Cause, JoinFail};
 
@@ -18,44 +16,6 @@ const BORDER: &[u8] = b"#pragma unit";
 
 /// The most units of a text.
 const UNITS: usize = 64;
-
-/// How many bytes the first line of a text has.
-fn line_length(text: &[u8]) -> usize
-    ensures value { result ≡ prefix_len is_in_line text.now }
-    ensures within { result ≤ length text.now }
-{
-    for (i, byte) in text.iter().enumerate() {
-        if *byte == b'\n' {
-            return i;
-        }
-    }
-    text.len()
-}
-
-/// What follows the first bytes of a text.
-fn behind(text: &[u8], count: usize) -> &[u8]
-    ensures { result.now ≡ drop count text.now }
-{
-    if count < text.len() {
-        &text[count..]
-    } else {
-        &[]
-    }
-}
-
-/// The first line of a text, and what stands behind the byte 10 that ends it, if one does.
-fn first_line(text: &[u8]) -> (&[u8], Option<&[u8]>)
-    ensures lines { lines_of text.now ≡ result.0.now ∷ lines_behind result.1 }
-    ensures smaller { IfSome result.1 (λ rest. length rest.now < length text.now) }
-{
-    let count = line_length(text);
-    let line = &text[..count];
-    if count == text.len() {
-        (line, None)
-    } else {
-        (line, Some(behind(text, count + 1)))
-    }
-}
 
 /// Notes the number of a line, if it stands before a unit.
 fn note(borders: &mut Vec<u32>, line: &[u8], number: u32) -> Result<(), AllocError>

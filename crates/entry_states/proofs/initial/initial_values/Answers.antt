@@ -1,4 +1,4 @@
-use Rattle.std.proofs.Common.{arith}
+use Rattle.std.proofs.Common.{arith, ap}
 use Rattle.tm_laid.specs.Layouts.{laid_tree}
 use Rattle.body_systems.specs.program_equations.Readings.{read_layout}
 use Rattle.entry_states.proofs.Joins.{none_joined, next_joined, all_joined, reaches}
@@ -17,10 +17,10 @@ loop-cell-init c =
 
 pub loop-cell-preserved : goal.loop-cell-preserved
 loop-cell-preserved c =
-    next_joined (read_layout (laid_tree c.args.laid.now)) c.loop-cell.cell c.abstract_cell_of.result c.index.result.now
+    next_joined (read_layout (laid_tree c.args.laid.now)) c.loop-cell.cell c.cell_at.result.abstract_cell c.index.result.now
     c.in_ok-value.value c.loop-cell.values.items c.join_at.new.values.items
     (let a = c.loop-cell-test.true in let b = c.len-cell-end.ensures in let d = c.args.laid.now.initial.ok.0 in omega (arith, a, b, d))
-    c.index.ensures c.in_ok-value.ensures c.abstract_cell_of.ensures c.in_ok-join_at.ensures c.loop-cell.invariant
+    c.index.ensures c.in_ok-value.ensures (ap (λ d. d.abstract_cell) c.cell_at.ensures) c.in_ok-join_at.ensures c.loop-cell.invariant
 
 pub returns : goal.returns
 returns c =

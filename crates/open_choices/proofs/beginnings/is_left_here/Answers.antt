@@ -1,7 +1,7 @@
 use Rattle.std.proofs.Common.{◌≤◌, length, get_or, ap, sym, subst, ◌∙◌, arith}
 use Rattle.std.proofs.lemmas.List.{get_or_default}
 use Rattle.operand_orders.specs.Reached.{operation_at}
-use Rattle.operand_orders.specs.reading.Lists.{HasOne}
+use Rattle.operand_orders.specs.access_races.reading.Ways.{HasOne}
 use Rattle.operand_orders.specs.reading.Views.{solved}
 use Rattle.open_choices.specs.reading.Left.{address_of, IsHeldBehind}
 use Rattle.open_choices.proofs.Leftover.{behind_here, here_behind}

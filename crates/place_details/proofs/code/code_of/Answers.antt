@@ -9,7 +9,7 @@ loop-i-preserved c =
     let long = ap length c.in_ok-push.ensures.items ∙ length_push c.loop-i.code.items c.shown_in.result in (
       shown_more (code_of c.args.text.now) c.loop-i.code.items c.push.new.self.items c.args.text.now c.loop-i.i c.loop-i.mode
           c.mode_behind-next.result c.loop-i-test.true c.loop-i.invariant.0
-          (c.mode_behind-next.ensures ∙ ap (mode_behind c.loop-i.mode _) c.byte_at.ensures)
+          (c.mode_behind-next.ensures ∙ ap (mode_behind c.loop-i.mode _) c.byte_at.ensures.value)
           (c.in_ok-push.ensures.items ∙ ap (λ b. c.loop-i.code.items ++ b ∷ []) c.shown_in.ensures),
       omega (arith, long, c.loop-i.invariant.1),
     )

@@ -117,7 +117,7 @@ body-returns-in-Goes t c =
     let inside = seat laid answers (c.args.self.depth - 1) c.args.self.path in
     let code = sym c.body_of.ensures ∙ ap (λ (o : Option (Bor TypedBody)). option_map typed_body_tree (option_copied o)) c.in-Some.is in
     c.fell.ensures
-    ∙ ap (λ of. fell laid answers of c.in-Goes.at) (c.result_of-of.ensures ∙ ap (λ f. result_type laid (get_or laid.file.functions f no_typed_function)) c.function_of.ensures)
+    ∙ ap (λ of. fell laid answers of c.in-Goes.at) (c.result_of-of.ensures ∙ ap (λ f. result_type laid (get_or laid.file.functions f no_typed_function)) (ap (λ p. p.function) c.path_at.ensures))
     ∙ sym (some_code laid answers c.args.self.depth c.args.self.path c.args.at c.in-Some.body.now (Ok (Goes c.in-Goes.at)) (omega (arith, c.if-self-eq0.false)) code
     (ap (λ (xs : List TypedStatement). listed_ran inside xs c.args.at) (sym c.deref.ensures.value) ∙ sym c.block.ensures ∙ c.in-Ok.is ∙ ap Ok c.in-Goes.is))
 

@@ -1,7 +1,7 @@
 use Rattle.std.proofs.Common.{length, sym, ap, arith}
 use Rattle.std.proofs.lemmas.List.Sums.{prefix_len_is}
 use Rattle.tm_terms.specs.Splices.{is_in_line}
-use Rattle.unit_joins.proofs.borders.line_length.Goals as goal
+use Rattle.tm_terms.proofs.bytes.line_length.Goals as goal
 
 pub returns-then-byte-eq10-clause-value : goal.returns-then-byte-eq10-clause-value
 returns-then-byte-eq10-clause-value c =
