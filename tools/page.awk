@@ -4,7 +4,7 @@
 # they are suppressed, both empty where nothing is compared; the report, a line `LINE:COL CLASS` for each alarm; the
 # notes on races, on other alarms and on rings, as `notes` writes them; the answer of `ranges`; the text; for each of
 # its lines the line of the file that it comes from; the list of assumptions; those of it that are marked, in the same
-# order; and the report with its notes, as reasons.awk writes it. `name` of the environment is the name of the file,
+# order; and the report with its notes, as reasons.awk writes it for a page. `name` of the environment is the name of the file,
 # `spelled` the same as a line mark spells it; `folder` is where the four texts go; `baseline` is the name of the old
 # log, or nothing. It is read behind openings.awk.
 #
@@ -138,41 +138,17 @@ function read_range(    at, text) {
     range_at[at] = (range_at[at] == "" ? "in all runs " : range_at[at] ", ") text
 }
 
-# Reads the report with its notes: a warning for each alarm, and behind it its notes.
-function read_reason(    at, place) {
-    if (FNR == 1) expect_warning()
-    if (alarm < alarms && substr($0, 1, length(warning)) == warning) {
-        sentence[alarm + 1] = substr($0, length(warning) + 1)
-        sub(/ \[[A-Z]+\]$/, "", sentence[alarm + 1])
-        end_notes()
-        alarm++
-        shown_here = shown[place_of[alarm]]
-        expect_warning()
+# Reads the report with its notes: a line with the warning for each alarm, and one with its notes.
+function read_reason(    warning) {
+    if (FNR % 2 == 0) {
+        if (is_told) notes[alarm] = $0
         return
     }
-    at = index($0, ": note: ")
-    if (!at || !alarm) return
-    place = substr($0, 1, at - 1)
-    if (place == shown_here) noted = noted NOTE substr($0, at + 8) NOTE_END
-    else noted = noted link_to(place) substr($0, at + 8) NOTE_END
-}
-
-# What the line of the next alarm begins with.
-function expect_warning() {
     warning = shown[place_of[alarm + 1]] ": warning: "
-}
-
-# The notes of an alarm are whole.
-function end_notes() {
-    if (alarm) notes[alarm] = noted
-    noted = ""
-}
-
-# What a note at another place begins with.
-function link_to(place) {
-    if (!(place in links)) links[place] = NOTE \
-        (place in line_of ? LINK line_of[place] LINKED place LINK_END : place) ": "
-    return links[place]
+    is_told = alarm < alarms && substr($0, 1, length(warning)) == warning
+    if (!is_told) return
+    sentence[++alarm] = substr($0, length(warning) + 1)
+    sub(/ \[[A-Z]+\]$/, "", sentence[alarm])
 }
 
 # Reads the priorities of tasks that begin in a line, where they are numbers: notes on races and rings do not tell them.
@@ -218,11 +194,7 @@ function read_text(    digits, rest, is_mark) {
 }
 
 part == 1 { places[FNR] = $0; next }
-part == 2 {
-    shown[places[FNR]] = $0
-    if (!($0 in line_of)) line_of[$0] = line_at(places[FNR])
-    next
-}
+part == 2 { shown[places[FNR]] = $0; next }
 part == 3 && NF == 8 { for (it = 1; it < NF; it += 2) standing[$it] = $(it + 1); next }
 part == 3 { stands[FNR] = $1; next }
 part == 4 { why[FNR] = $0; next }
@@ -403,7 +375,6 @@ function begun(name) {
 }
 
 END {
-    end_notes()
     place_alarms()
     place_openings()
     write_tables(begun("tables"))

@@ -72,9 +72,8 @@ sum_of_sources() {
 
 # What the first lines of a stamp have to be: the sum of the sources, and those of the programs.
 stamp_of() { # SUM PROGRAM..
-    local it
     printf '%s\n' "$1"
-    for it in "${@:2}"; do sha256sum <"$it" | cut -d ' ' -f 1; done
+    sha256sum -- "${@:2}" | sed 's/^\\\{0,1\}\([0-9a-f]*\) .*/\1/'
 }
 
 # A line of a stamp behind these: the first names the kit.

@@ -1,7 +1,9 @@
 # Writes the lines of a report in its files, and below each why its alarm stands there. It reads eight parts: the places
 # of the notes, `LINE:COL`, in a line each; these places in their files, line by line; the notes on races, those on the
 # other alarms and the advice on these, as `notes` writes them; the ways to alarms, as `ways.awk` writes them; the
-# report as it counts the lines of the text, and as its files do.
+# report as it counts the lines of the text, and as its files do. Where `form` of the environment is `page`, each line of
+# the report has one line behind it with all that is told of it, as a page shows it there: with the markup that page.awk
+# knows.
 
 BEGIN {
     # Bounds of types (C99 5.2.4.2.1), and those that the types long and unsigned long have instead.
@@ -12,6 +14,8 @@ BEGIN {
     longs["INT_MAX"] = "LONG_MAX"
     longs["UINT_MAX"] = "ULONG_MAX"
     MOST = 8
+    PAGE = ENVIRON["form"] == "page"
+    LINK = "\033"; LINKED = "\034"; LINK_END = "\035"; NOTE = "\036"; NOTE_END = "\037"
 }
 
 # The words from one field to another, with commas, or what stands for none.
@@ -32,8 +36,22 @@ function range(low, high, step, type) {
     return named(low, type) (high == low ? "" : " to " named(high, type) (step > 1 ? " in steps of " step : ""))
 }
 
-function note(place, text) {
-    print shown[place] ": note: " text
+# What a note at a place begins with, where the alarm stands here.
+function begun_at(place, here,    at) {
+    at = shown[place]
+    if (!PAGE) return at ": note: "
+    if (at == shown[here]) return NOTE
+    if (!(at in links)) links[at] = NOTE (at in line_of ? LINK line_of[at] LINKED at LINK_END : at) ": "
+    return links[at]
+}
+
+# What it ends with.
+function ended() {
+    return PAGE ? NOTE_END : "\n"
+}
+
+function note(at, text) {
+    printf "%s", begun_at(at, place) text ended()
 }
 
 # The values of an operand, or what stands for those that are no numbers.
@@ -299,8 +317,8 @@ function read_access(    last) {
 # Reads an access that races: LINE:COL races TASK stores|loads OBJECT MEMBER holds MUTEX .. with COUNT
 function read_race() {
     raced = $1 " " ++races[$1]
-    race_notes[raced] = shown[$1] ": note: " $3 " " $4 " " $5 ($6 == "." ? "" : $6) " here, holds " \
-        listed(8, NF - 2, "nothing") ", and races with " counted_accesses($NF)
+    race_notes[raced] = begun_at($1, $1) $3 " " $4 " " $5 ($6 == "." ? "" : $6) " here, holds " \
+        listed(8, NF - 2, "nothing") ", and races with " counted_accesses($NF) ended()
 }
 
 function counted_accesses(number) {
@@ -310,8 +328,8 @@ function counted_accesses(number) {
 # Reads what it races with elsewhere, since what it races with here has a line of its own:
 # LINE:COL with LINE:COL TASK stores|loads holds MUTEX ..
 function read_partner() {
-    if ($3 != $1) race_notes[raced] = race_notes[raced] "\n" shown[$3] ": note: " $4 " " $5 " it here, holds " \
-        listed(7, NF, "nothing")
+    if ($3 != $1) race_notes[raced] = race_notes[raced] begun_at($3, $1) $4 " " $5 " it here, holds " \
+        listed(7, NF, "nothing") ended()
 }
 
 # Tells of the objects that are raced for here, of each once, of each access here, and of what it races with elsewhere.
@@ -322,13 +340,17 @@ function tell_race(    at, numbers_of, group) {
         if (!told[group]++)
             note(of[group], name[group] " is declared here; " racing[group] " of its " accesses[group] " accesses race")
     }
-    for (at = 1; at <= races[place]; at++) print race_notes[place " " at]
+    for (at = 1; at <= races[place]; at++) printf "%s", race_notes[place " " at]
 }
 
 # ----- The parts -----
 
 part == 1 { places[FNR] = $0; next }
-part == 2 { shown[places[FNR]] = $0; next }
+part == 2 {
+    shown[places[FNR]] = $0
+    if (PAGE && !($0 in line_of)) line_of[$0] = substr(places[FNR], 1, index(places[FNR], ":") - 1)
+    next
+}
 part == 3 && NF == 4 && $3 == "RACES" {
     of[++group] = $1
     name[group] = $2
@@ -353,4 +375,5 @@ part == 8 {
         tell_way(place " " class)
     }
     tell_paths(place " " class)
+    if (PAGE) print ""
 }

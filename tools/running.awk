@@ -1,21 +1,23 @@
 # Tells what of a source cannot run as it may be meant, where a look at its words is sure of it: of a `main` that does
 # not end, so that no task runs, `endless LINE`; or else of each task that runs at most once, in a source in which a
-# less urgent task loops, `once LINE NAME`. It reads the words of a preprocessed source that the analyser accepts: a
-# line `LINE:BYTE:WORD` for each name, number and other byte, as `grep -nbo` writes it.
+# less urgent task loops, `once LINE NAME`. It reads the words of a preprocessed source: a line `LINE:BYTE:WORD` for each
+# name, number and other byte, as `grep -nbo` writes it. What it tells counts only of a source that the analyser accepts;
+# of any other it ends too, since it may be begun before the analyser has answered.
 #
 # It follows no types, no values and no macros. A body that may go on, or whose way is not plain, gets no line: a task
 # runs at most once where neither its body nor that of a function named in it, and so on, has a loop or a __yield;
 # `main` does not end where a loop stands in it, or in a function that it calls, under no condition, whose own
 # condition is a number, with no `break` of its own and no `return` before its end.
 
+BEGIN { FS = ":" }
+
 {
-    split($0, parts, ":")
-    line = parts[1]
-    word = substr($0, length(line) + length(parts[2]) + 3)
+    line = $1
+    word = NF > 3 ? ":" : $3
     is_first = line != last_line
-    is_next = parts[2] == last_byte + 1
+    is_next = $2 == last_byte + 1
     last_line = line
-    last_byte = parts[2]
+    last_byte = $2
     if (in_comment) {
         if (is_next && before == "*" && word == "/") in_comment = 0
         before = in_comment ? word : ""
@@ -42,7 +44,7 @@
 }
 
 END {
-    find_ends()
+    if (!find_ends()) exit
     find_functions()
     find_calls()
     if (tasks && ("main" in first) && endless("main")) {
@@ -55,16 +57,18 @@ END {
     }
 }
 
-# The word that closes each bracket.
+# The word that closes each bracket; whether each has one.
 function find_ends(   i, word, depth, open) {
     for (i = 1; i <= count; i++) {
         word = words[i]
         if (word == "(" || word == "{" || word == "[") open[++depth] = i
         else if (word == ")" || word == "}" || word == "]") {
+            if (!depth) return 0
             begins[i] = open[depth--]
             ends[begins[i]] = i
         }
     }
+    return !depth
 }
 
 # The functions that have bodies: where their names stand and where their bodies do. And the tasks with their
@@ -72,7 +76,7 @@ function find_ends(   i, word, depth, open) {
 function find_functions(   i, priority) {
     priority = ""
     for (i = 1; i <= count; i++) {
-        if (words[i] == "__task") {
+        if (words[i] == "__task" && words[i + 1] == "(") {
             priority = words[i + 2]
             if (ends[i + 1] != i + 3 || priority !~ /^(0|[1-9][0-9]*)$/) is_open = 1
             i = ends[i + 1]
@@ -178,7 +182,7 @@ function end_of_endless_loop(i,   head, begin, begin_of_condition, end_of_condit
 
 # The first semicolon from here on that stands in no brackets.
 function next_semicolon(i) {
-    while (words[i] != ";") i = (i in ends) ? ends[i] + 1 : i + 1
+    while (i <= count && words[i] != ";") i = (i in ends) ? ends[i] + 1 : i + 1
     return i
 }
 

@@ -5,6 +5,7 @@
 # The checks that `rt try` compiles into a program, as of indices and sums, stay in it.
 set -eu
 
+mkdir -p -- "$1"
 folder=$(readlink -f -- "$1")
 shift
 [ $# -gt 0 ] || set -- analyse_main report_view

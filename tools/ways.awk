@@ -19,15 +19,17 @@
 # with, eight accesses at most are told, each once. Several sentences of one alarm that would be equal are numbered: a
 # log has no two equal places or paths of an alarm, also where a macro stands at both.
 #
-# It reads three parts: the alarms of the report, `LINE:COL CLASS`, and twice the notes, which may be those of more
-# alarms: first the names of what their numbers mean, which stand at their end, and then the alarms. It is read behind
-# notes.awk.
+# It reads three parts: the alarms of the report, `LINE:COL CLASS`; the end of the notes, from the number of their alarms
+# on, behind which stand the names of what their numbers mean; and the alarms of the notes, of which there may be more
+# than in the report, from some byte on. Those of them are told of that begin in the first `size` bytes of this part. It
+# is read behind notes.awk.
 
 BEGIN {
     begin_notes()
     MOST = 8
     WAYS = ENVIRON["ways"]
     LOG = ENVIRON["log_ways"]
+    SIZE = ENVIRON["size"] + 0
     if (WAYS != "") printf "" > WAYS
     if (LOG != "") printf "" > LOG
     last_mutex = last_object = last_task = group = -1
@@ -40,13 +42,7 @@ function member_of(text, name) {
 
 # ----- Names -----
 
-# The end of the alarms, behind which the lists of names stand.
-function is_last() {
-    return index($0, "],\"count\":")
-}
-
 function read_names() {
-    if (section == "" && !is_last()) return
     if (section == "mutexes") mutex[++last_mutex] = old_name($8)
     else if (section == "tasks") task[++last_task] = old_name($10)
     else if (section == "races") {
@@ -203,9 +199,19 @@ function tell_log(    it, with, text, sentence, count) {
 
 part == 1 { listed[FNR] = $0; is_listed[$0] = 1; last_listed = FNR; next }
 part == 2 { read_names(); next }
+# (what writes this part writes all of it)
+is_read { next }
 {
-    read_alarms()
-    if (is_last()) exit
+    # Each alarm begins with one of two members.
+    if (substr($0, 1, 11) == "\"accesses\":" || substr($0, 1, 9) == "\"always\":") {
+        is_read = bytes >= SIZE
+        if (is_read) next
+        begun = 1
+    }
+    bytes += length($0) + 1
+    if (begun) read_alarms()
+    # (behind the last alarm stands their number)
+    is_read = index($0, "],\"count\":")
 }
 END {
     end_alarm()
