@@ -4,9 +4,9 @@
 # they are suppressed, both empty where nothing is compared; the report, a line `LINE:COL CLASS` for each alarm; the
 # notes on races, on other alarms and on rings, as `notes` writes them; the answer of `ranges`; the text; for each of
 # its lines the line of the file that it comes from; the list of assumptions; those of it that are marked, in the same
-# order; and the report with its notes, as reasons.awk writes it for a page. `name` of the environment is the name of the file,
-# `spelled` the same as a line mark spells it; `folder` is where the four texts go; `baseline` is the name of the old
-# log, or nothing. It is read behind openings.awk.
+# order; and the report with its notes, as reasons.awk writes it for a page. `name` of the environment is the name of
+# the file, `spelled` the same as a line mark spells it; `folder` is where the four texts go; `baseline` is the name of
+# the old log, or nothing. It is read behind openings.awk.
 #
 # In a composed text each byte from 13 to 31 stands for markup (docs/PROGRAM.md, "The program `report_page`").
 

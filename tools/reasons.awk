@@ -1,9 +1,9 @@
 # Writes the lines of a report in its files, and below each why its alarm stands there. It reads eight parts: the places
 # of the notes, `LINE:COL`, in a line each; these places in their files, line by line; the notes on races, those on the
 # other alarms and the advice on these, as `notes` writes them; the ways to alarms, as `ways.awk` writes them; the
-# report as it counts the lines of the text, and as its files do. Where `form` of the environment is `page`, each line of
-# the report has one line behind it with all that is told of it, as a page shows it there: with the markup that page.awk
-# knows.
+# report as it counts the lines of the text, and as its files do. Where `form` of the environment is `page`, each line
+# of the report has one line behind it with all that is told of it, as a page shows it there: with the markup that
+# page.awk knows.
 
 BEGIN {
     # Bounds of types (C99 5.2.4.2.1), and those that the types long and unsigned long have instead.

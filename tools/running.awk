@@ -1,8 +1,8 @@
 # Tells what of a source cannot run as it may be meant, where a look at its words is sure of it: of a `main` that does
 # not end, so that no task runs, `endless LINE`; or else of each task that runs at most once, in a source in which a
-# less urgent task loops, `once LINE NAME`. It reads the words of a preprocessed source: a line `LINE:BYTE:WORD` for each
-# name, number and other byte, as `grep -nbo` writes it. What it tells counts only of a source that the analyser accepts;
-# of any other it ends too, since it may be begun before the analyser has answered.
+# less urgent task loops, `once LINE NAME`. It reads the words of a preprocessed source: a line `LINE:BYTE:WORD` for
+# each name, number and other byte, as `grep -nbo` writes it. What it tells counts only of a source that the analyser
+# accepts; of any other it ends too, since it is begun before the analyser has answered.
 #
 # It follows no types, no values and no macros. A body that may go on, or whose way is not plain, gets no line: a task
 # runs at most once where neither its body nor that of a function named in it, and so on, has a loop or a __yield;

@@ -19,10 +19,10 @@
 # with, eight accesses at most are told, each once. Several sentences of one alarm that would be equal are numbered: a
 # log has no two equal places or paths of an alarm, also where a macro stands at both.
 #
-# It reads three parts: the alarms of the report, `LINE:COL CLASS`; the end of the notes, from the number of their alarms
-# on, behind which stand the names of what their numbers mean; and the alarms of the notes, of which there may be more
-# than in the report, from some byte on. Those of them are told of that begin in the first `size` bytes of this part. It
-# is read behind notes.awk.
+# It reads three parts: the alarms of the report, `LINE:COL CLASS`; the end of the notes, from the number of their
+# alarms on, behind which stand the names of what their numbers mean; and the alarms of the notes, of which there may be
+# more than in the report, from some byte on. Those of them are told of that begin in the first `size` bytes of this
+# part. It is read behind notes.awk.
 
 BEGIN {
     begin_notes()
