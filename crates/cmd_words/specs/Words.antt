@@ -119,6 +119,10 @@ numbers_in arguments = filter_map number_given arguments
 abbrev pub from_one : ℕ → ℕ → Option ℕ
 from_one most n = if nat_le 1 n && nat_le n most then Some n else None
 
+-- the number of workers that a word asks for: `--workers=` and a number from 1 to 16
+abbrev pub workers_named : List ℕ → Option ℕ
+workers_named word = option_and_then (from_one 16) (option_and_then number_of (after_prefix (codes "--workers=") word))
+
 -- the number of workers, by those that were asked for: 1 where none was
 abbrev pub workers_by : List ℕ → Option ℕ
 workers_by [] = Some 1

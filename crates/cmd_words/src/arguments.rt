@@ -111,7 +111,7 @@ pub fn numbers_in(alloc: Global, arguments: &[Argument]) -> Result<Vec<u32>, NoM
 }
 
 /// What stands behind `--workers=` in a word that begins so.
-fn value_of(word: &str) -> Option<&str>
+pub(crate) fn workers_value(word: &str) -> Option<&str>
     ensures { option_map (λ value. value.now) result ≡ after_prefix (codes "--workers=") word.now }
 {
     word.strip_prefix("--workers=")
@@ -128,7 +128,7 @@ fn read_workers(text: &str) -> Option<Argument>
 fn read_value_or_number(word: &str) -> Option<Argument>
     ensures { result ≡ value_or_number (after_prefix (codes "--workers=") word.now) word.now }
 {
-    match value_of(word) {
+    match workers_value(word) {
         Some(value) => read_workers(value),
         None => read_number(word).map(Argument::Number),
     }

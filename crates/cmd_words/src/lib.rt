@@ -12,4 +12,4 @@ mod words;
 
 pub use commands::{AnalyseWords, Command, DemoWords, Thresholds};
 pub use numbers::{are_digits, read_number};
-pub use words::read_words;
+pub use words::{read_words, workers_named};

@@ -3,11 +3,13 @@
 ghost use Rattle.std.specs.Prelude.{◌≡◌, IfOk, IfSome, length, option_and_then};
 ghost use Rattle.cmd_words.specs.Words.{IsWithin, analyse_of, arguments_of, command_of, demo_of, from_one, generate_of};
 ghost use Rattle.cmd_words.specs.Words.{alone, named_command, size_by, size_in, texts_of, workers_by, workers_in};
+ghost use Rattle.cmd_words.specs.Words.{workers_named};
 
 use crate::arguments::{
-    Argument, history_count, json_count, numbers_in, read_arguments, workers_asked,
+    Argument, history_count, json_count, numbers_in, read_arguments, workers_asked, workers_value,
 };
 use crate::commands::{AnalyseWords, Command, DemoWords, Thresholds};
+use crate::numbers::read_number;
 use std::alloc::Global;
 use tm_lattice::NoMemory;
 
@@ -26,6 +28,15 @@ fn from_one(most: u32, number: u32) -> Option<u32>
     } else {
         None
     }
+}
+
+/// The number of workers that a word asks for: `--workers=` and a number from 1 to 16.
+pub fn workers_named(word: &str) -> Option<u32>
+    ensures { result ≡ workers_named word.now }
+{
+    let value = workers_value(word)?;
+    let workers = read_number(value)?;
+    from_one(MOST_WORKERS, workers)
 }
 
 /// How many workers there are, by the numbers that were asked for.

@@ -1,5 +1,7 @@
 -- How a call of a program ends.
 use Rattle.std.specs.Prelude.{◌≡◌, ◌⊎◌, ℕ, Bool, true, false}
+use Rattle.std.specs.declared.io.ErrorKind.{ErrorKind}
+use Rattle.std.specs.declared.io.ErrorKind.TheVariants.{OutOfMemory}
 use Rattle.tm_io.specs.declared.sinks.Stop.{Stop}
 use Rattle.tm_io.specs.declared.sinks.Stop.TheVariants.{Failed as StopFailed, NoMemory as StopNoMemory}
 use Rattle.program_streams.specs.declared.input.InputError.{InputError}
@@ -21,6 +23,11 @@ status_number NoMemory = 6
 -- the number with which a program ends that the system does not give its words
 abbrev pub no_words : ℕ
 no_words = 7
+
+-- and where it does not give them for this reason: memory may run out while they are copied
+abbrev pub number_without_words : ErrorKind → ℕ
+number_without_words OutOfMemory = status_number NoMemory
+number_without_words _ = no_words
 
 -- the statuses that come with a whole text
 abbrev pub IsWhole : Status → Type 0

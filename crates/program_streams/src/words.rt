@@ -1,7 +1,7 @@
 //! The words that a program is given, and what it says of words that are no command.
 
 ghost use Rattle.std.specs.Prelude.{◌≡◌, ◌⊎◌, ℕ, IsErrOf};
-ghost use Rattle.program_streams.specs.Statuses.{no_words, status_number};
+ghost use Rattle.program_streams.specs.Statuses.{no_words, number_without_words, status_number};
 
 use crate::statuses::Status;
 use std::env;
@@ -13,7 +13,7 @@ const NO_WORDS: u8 = 7;
 
 /// The number where the words cannot be had for this reason: memory may run out while they are copied.
 fn number_without_words(reason: ErrorKind) -> u8
-    ensures { (result ≡ status_number Status.NoMemory) ⊎ (result ≡ no_words) }
+    ensures { result ≡ number_without_words reason }
 {
     match reason {
         ErrorKind::OutOfMemory => Status::NoMemory.number(),
