@@ -54,6 +54,22 @@ impl<V: Lattice> SharedTable<V> {
         }
     }
 
+    /// The same, without a search where the key's entry has this number among the entries, counted from 0.
+    pub fn get_near(&self, key: u32, number: usize) -> Option<&V>
+        ensures { option_copied result ≡ map.get self.now key }
+    {
+        match &self.entries {
+            None => None,
+            Some(entries) => {
+                let listed = entries.entries();
+                if number < listed.len() && listed[number].0 == key {
+                    return Some(&listed[number].1);
+                }
+                entries.get(key)
+            }
+        }
+    }
+
     /// The entry with the least key of those from the given one on: None exactly where there is none.
     pub fn entry_from(&self, key: u32) -> Option<(u32, &V)>
         ensures { MatchOption result (IsPast self.now key) (λ entry. IsNext self.now key entry.0 entry.1.now) }

@@ -85,9 +85,11 @@ impl<V: Lattice> Tree<V> {
     pub fn get(&self, key: u32) -> Option<&V>
         ensures { option_copied result ≡ map.get self.now key }
     {
-        match self.parts.get(part_of(key)) {
+        // Where no key of a part or below it is absent, the number of its entry is known.
+        let number = part_of(key);
+        match self.parts.get_near(number, number as usize) {
             None => None,
-            Some(part) => part.get(key),
+            Some(part) => part.get_near(key, (key % 64) as usize),
         }
     }
 
