@@ -5,3 +5,4 @@ pub mod FileTables
 pub mod Joining
 pub mod Arguments
 pub mod ExpressionLaw
+pub mod Arms

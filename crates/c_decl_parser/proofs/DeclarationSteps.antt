@@ -6,6 +6,7 @@ use Rattle.tm_terms.specs.declared.tokens.Token.{Token}
 use Rattle.tm_terms.specs.declared.types_named.PointerWord.{PointerWord}
 use Rattle.tm_terms.specs.ExprTrees.{Tree}
 use Rattle.tm_terms.specs.ExprSpelling.{is_type_name_list}
+use Rattle.c_expr_parser.specs.declared.marks.Mark.{Mark}
 use Rattle.c_expr_parser.specs.declared.marks.Mark.TheVariants as Marks
 use Rattle.c_expr_parser.specs.reading.Parts.{then_read, and_after, after}
 use Rattle.tm_trees.specs.DeclarationTrees.{LengthTree, DeclaratorTree, a_declared_name, a_nested, declared_name, SpecifierTree, count_as, as_specifiers, an_expression, a_list, as_values, InitDeclaratorTree}
@@ -13,8 +14,42 @@ use Rattle.tm_trees.specs.DeclarationSpelling.{with_declared}
 use Rattle.c_decl_parser.specs.declared.reads.Read.{Read}
 use Rattle.c_decl_parser.specs.declared.reads.Read.TheVariants.{Found, Stuck}
 use Rattle.c_decl_parser.specs.reading.Parts.{seen, place_after, declared_at, expression, until}
-use Rattle.c_decl_parser.specs.reading.Repetitions.{separated_by, in_braces}
+use Rattle.c_decl_parser.specs.reading.Parts.{until_by}
+use Rattle.c_decl_parser.specs.reading.Repetitions.{separated_by, in_braces, one_or_more}
 use Rattle.c_decl_parser.specs.reading.DeclarationDescent.{lengths_by, lengths_from, lengths, named_by, nested_by, direct_by, declarator_after, declarator, pointers, value_by, value, initialiser, init_declarators, init_declarator_after, local_after, typedef_after, typedefs_from}
+use Rattle.c_decl_parser.specs.reading.DeclarationDescent.{init_declarator, init_declarators_by}
+
+-- ## What is read behind something
+
+module _ {A B : Type 0} (go : A → List Token → Option B) (o : Option (A × List Token)) where
+  pub read_none : o ≡ None → None ≡ then_read o go
+  read_none e = sym (ap (λ o. then_read o go) e)
+
+  pub read_some : (x : A) (rest : List Token) → o ≡ Some (x, rest) → go x rest ≡ then_read o go
+  read_some x rest e = sym (ap (λ o. then_read o go) e)
+
+-- ## Expressions up to a mark
+
+module _ (types : List Name) (allowed at : ℕ) (mark : Mark) (ts : List Token) where
+  pub until_at_once : (rest : List Token) → after mark ts ≡ Some rest
+      → until types allowed at mark ts ≡ Some (None, rest)
+  unfolding until
+  until_at_once rest e = ap (λ o. until_by types allowed at mark o ts) e
+
+  pub until_none : after mark ts ≡ None → expression types allowed at ts ≡ None → until types allowed at mark ts ≡ None
+  unfolding until
+  until_none e c =
+      ap (λ o. until_by types allowed at mark o ts) e
+      ∙ ap (λ o. then_read o (λ t a. and_after (after mark a) (λ rest. Some (Some t, rest)))) c
+
+  pub until_read : (t : Tree) (a : List Token) (o : Option (List Token))
+      → after mark ts ≡ None → expression types allowed at ts ≡ Some (t, a) → after mark a ≡ o
+      → until types allowed at mark ts ≡ and_after o (λ rest. Some (Some t, rest))
+  unfolding until
+  until_read t a o e c d =
+      ap (λ o. until_by types allowed at mark o ts) e
+      ∙ ap (λ o. then_read o (λ t a. and_after (after mark a) (λ rest. Some (Some t, rest)))) c
+      ∙ ap (λ o. and_after o (λ rest. Some (Some t, rest))) d
 
 -- ## Lengths of arrays
 
@@ -58,7 +93,48 @@ module _ (member : Bool) (types : List Name) where
       ∙ ap (nested_by types m words) f
       ∙ ap (λ o. and_after o (λ b. then_read (lengths types m b) (λ sizes more. Some (a_nested words d sizes, more)))) g)
 
+module _ (member : Bool) (types : List Name) (n : ℕ) (words : List PointerWord) (ts : List Token) where
+  pub declarator_low : n ≡ 0 → None ≡ declarator_after member types n words ts
+  unfolding declarator_after
+  declarator_low e = sym (ap (λ k. declarator_after member types k words ts) e)
+
+  pub declarator_unnamed : (m : ℕ) → n ≡ suc m → after Marks.OpenParenthesis ts ≡ None
+      → declared_at member types ts ≡ None → None ≡ declarator_after member types n words ts
+  unfolding declarator_after
+  declarator_unnamed m e c d = sym (
+      ap (λ k. declarator_after member types k words ts) e
+      ∙ ap (λ o. direct_by member types m (declarator_after member types m) words o ts) c
+      ∙ ap (named_by types m words) d)
+
+  pub declarator_stuck : (m : ℕ) (a : List Token) → n ≡ suc m → after Marks.OpenParenthesis ts ≡ Some a
+      → declarator member types m a ≡ None → None ≡ declarator_after member types n words ts
+  unfolding declarator_after
+  declarator_stuck m a e c f = sym (
+      ap (λ k. declarator_after member types k words ts) e
+      ∙ ap (λ o. direct_by member types m (declarator_after member types m) words o ts) c
+      ∙ ap (nested_by types m words) f)
+
+  pub declarator_open : (m : ℕ) (a : List Token) (d : DeclaratorTree) (b : List Token) → n ≡ suc m
+      → after Marks.OpenParenthesis ts ≡ Some a → declarator member types m a ≡ Some (d, b)
+      → after Marks.CloseParenthesis b ≡ None → None ≡ declarator_after member types n words ts
+  unfolding declarator_after
+  declarator_open m a d b e c f g = sym (
+      ap (λ k. declarator_after member types k words ts) e
+      ∙ ap (λ o. direct_by member types m (declarator_after member types m) words o ts) c
+      ∙ ap (nested_by types m words) f
+      ∙ ap (λ o. and_after o (λ b. then_read (lengths types m b)
+      (λ sizes more. Some (a_nested words d sizes, more)))) g)
+
+pub declarator_behind : (member : Bool) (types : List Name) (n : ℕ) (ts : List Token) (words : List PointerWord)
+    (rest : List Token) → (words, rest) ≡ pointers ts
+    → declarator_after member types n words rest ≡ declarator member types n ts
+declarator_behind member types n ts words rest e = ap (λ x. declarator_after member types n x.0 x.1) e
+
 -- ## Values
+
+pub value_low : (types : List Name) (n : ℕ) (ts : List Token) → n ≡ 0 → None ≡ value types n ts
+unfolding value
+value_low types n ts e = sym (ap (λ k. value types k ts) e)
 
 module _ (types : List Name) (n m : ℕ) (e : n ≡ suc m) where
   pub value_expression : (ts : List Token) → place_after Marks.OpenBrace ts ≡ None → then_read (expression types n 1 ts) (λ t rest. Some (an_expression t, rest)) ≡ value types n ts
@@ -96,6 +172,28 @@ module _ (types : List Name) (allowed : ℕ) (found : List SpecifierTree) (ts : 
   pub local_unnamed : is_type_name_list (count_as (as_specifiers found)) ≡ false → None ≡ local_after types allowed found ts
   local_unnamed e =
       ap (λ b. cond b (then_read (init_declarators types allowed ts) (λ declarators rest. Some (record { specifiers = as_specifiers found; declarators = declarators }, rest))) None) (sym e)
+
+module _ (types : List Name) (allowed : ℕ) (ts : List Token) where
+  pub none_declared : (rest : List Token) → after Marks.Semicolon ts ≡ Some rest
+      → init_declarators types allowed ts ≡ Some ([], rest)
+  unfolding init_declarators
+  none_declared rest e = ap (λ o. init_declarators_by types allowed o ts) e
+
+  pub declared_none : after Marks.Semicolon ts ≡ None → one_or_more (init_declarator types allowed) ts ≡ None
+      → init_declarators types allowed ts ≡ None
+  unfolding init_declarators
+  declared_none e c =
+      ap (λ o. init_declarators_by types allowed o ts) e
+      ∙ ap (λ o. then_read o (λ found a. and_after (after Marks.Semicolon a) (λ rest. Some (found, rest)))) c
+
+  pub declared_read : (found : List InitDeclaratorTree) (a : List Token) (o : Option (List Token))
+      → after Marks.Semicolon ts ≡ None → one_or_more (init_declarator types allowed) ts ≡ Some (found, a)
+      → after Marks.Semicolon a ≡ o → init_declarators types allowed ts ≡ and_after o (λ rest. Some (found, rest))
+  unfolding init_declarators
+  declared_read found a o e c d =
+      ap (λ o. init_declarators_by types allowed o ts) e
+      ∙ ap (λ o. then_read o (λ found a. and_after (after Marks.Semicolon a) (λ rest. Some (found, rest)))) c
+      ∙ ap (λ o. and_after o (λ rest. Some (found, rest))) d
 
 -- ## Typedefs
 

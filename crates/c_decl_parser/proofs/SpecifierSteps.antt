@@ -9,13 +9,14 @@ use Rattle.tm_terms.specs.declared.types_named.TagKind.{TagKind}
 use Rattle.tm_terms.specs.ExprTrees.{Tree}
 use Rattle.tm_terms.specs.ExprSpelling.{is_type_spec, is_type_name_list}
 use Rattle.c_expr_parser.specs.declared.marks.Mark.TheVariants as Marks
-use Rattle.c_expr_parser.specs.reading.Parts.{then_read, and_after, after}
+use Rattle.c_expr_parser.specs.reading.Parts.{then_read, and_after, after, spec_at}
 use Rattle.tm_trees.specs.declared.declarations.Tag.{Tag}
 use Rattle.tm_trees.specs.declared.declarations.Specifier.{Specifier}
 use Rattle.tm_trees.specs.DeclarationTrees.{SpecifierTree, specifier_tree, counts_as, count_as, as_specifiers}
 use Rattle.c_decl_parser.specs.reading.Parts.{declared_at}
 use Rattle.c_decl_parser.specs.reading.Repetitions.{one_or_more}
 use Rattle.c_decl_parser.specs.reading.DeclarationDescent.{Opened, declarator, constant, enumerator, specifier, specifiers_by, specifiers_from, body_by, member_after, specifiers, body, member}
+use Rattle.c_decl_parser.specs.reading.DeclarationDescent.{opened, plain_by, specifier_by, found_specifier}
 
 abbrev pub counts_of : List Specifier → List Spec
 counts_of specifiers = count_as (as_specifiers (map specifier_tree specifiers))
@@ -70,6 +71,34 @@ module _ (types : List Name) (allowed : ℕ) (read : Opened → List Token → O
   specifiers_next n m seen found ts s rest e c =
       ap (λ k. specifiers_from types allowed read k seen found ts) e
       ∙ ap (λ o. specifiers_by o (found, ts) (λ s rest. specifiers_from types allowed read m (seen || is_type_spec (counts_as s).word) (found ++ s ∷ []) rest)) c
+
+module _ (types : List Name) (n : ℕ) (e : n ≡ 0) where
+  pub specifiers_low : (ts : List Token) → None ≡ specifiers types n ts
+  unfolding specifiers
+  specifiers_low ts = sym (ap (λ k. specifiers types k ts) e)
+
+  pub body_low : (o : Opened) (ts : List Token) → None ≡ body types n o ts
+  unfolding body
+  body_low o ts = sym (ap (λ k. body types k o ts) e)
+
+  pub member_low : (ts : List Token) → None ≡ member types n ts
+  unfolding member
+  member_low ts = sym (ap (λ k. member types k ts) e)
+
+module _ (types : List Name) (seen : Bool) (allowed : ℕ) (ts : List Token) where
+  abbrev Body : Type 0
+  Body = Opened → List Token → Option (SpecifierTree × List Token)
+
+  pub specifier_plain : (read : Body) → opened ts ≡ None
+      → plain_by allowed (spec_at types seen ts) ≡ specifier types seen allowed read ts
+  unfolding specifier
+  specifier_plain read e = sym (ap (λ o. specifier_by types seen allowed read o ts) e)
+
+  pub specifier_opened : (read : Body) (o : Opened) (a : List Token) (found : Option (SpecifierTree × List Token))
+      → opened ts ≡ Some (o, a) → read o a ≡ found → found_specifier found ≡ specifier types seen allowed read ts
+  unfolding specifier
+  specifier_opened read o a found e c =
+      sym (ap (λ o. specifier_by types seen allowed read o ts) e ∙ ap found_specifier c)
 
 module _ (types : List Name) (n m : ℕ) (e : n ≡ suc m) where
   pub specifiers_is : (ts : List Token) → specifiers_from types m (body types m) (length ts) false [] ts ≡ specifiers types n ts

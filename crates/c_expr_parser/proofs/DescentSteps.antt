@@ -4,14 +4,18 @@ use Rattle.tm_terms.specs.declared.places.Place.{Place}
 use Rattle.tm_terms.specs.declared.tokens.Name.{Name}
 use Rattle.tm_terms.specs.declared.tokens.Token.{Token}
 use Rattle.tm_terms.specs.declared.exprs.Access.{Access}
+use Rattle.tm_terms.specs.declared.exprs.Infix.{Infix}
 use Rattle.tm_terms.specs.declared.exprs.Postfix.{Postfix}
 use Rattle.tm_terms.specs.declared.exprs.Expr.{Expr}
 use Rattle.tm_terms.specs.declared.exprs.Level.TheVariants as Levels
-use Rattle.tm_terms.specs.ExprTrees.{Tree, a_postfix, Arguments, no_arguments, and_argument, rank, height, arguments_height, tree_of, as_arguments}
+use Rattle.tm_terms.specs.ExprTrees.{Tree, an_infix, a_subscript, in_parentheses, a_postfix, right_level, Arguments}
+use Rattle.tm_terms.specs.ExprTrees.{no_arguments, and_argument, rank, height, arguments_height, tree_of}
+use Rattle.tm_terms.specs.ExprTrees.{as_arguments}
 use Rattle.c_expr_parser.specs.declared.marks.Mark.TheVariants as Marks
 use Rattle.c_expr_parser.specs.declared.marks.Opener.TheVariants as Openers
-use Rattle.c_expr_parser.specs.reading.Parts.{then_read, after, name_at}
-use Rattle.c_expr_parser.specs.reading.Descent.{Part, push_argument, more_by, arguments_from, form, continued_member, continued, step, steps_by, steps, from_form, reads}
+use Rattle.c_expr_parser.specs.reading.Parts.{then_read, and_after, after, name_at}
+use Rattle.c_expr_parser.specs.reading.Descent.{Part, push_argument, more_by, arguments_from, form, inside_form}
+use Rattle.c_expr_parser.specs.reading.Descent.{continued_member, continued, step, steps_by, steps, from_form, reads}
 
 -- an argument more in the vector
 pub pushed : (es es' : List Expr) (e : Expr) → es' ≡ es ++ e ∷ [] → as_arguments es' ≡ push_argument (as_arguments es) (tree_of e)
@@ -67,6 +71,43 @@ module _ (read : Part) where
   pub postfix_is : (op : Postfix) (t : Tree) (p : Place) (ts : List Token) → continued read (Openers.Postfix op) t p ts ≡ Some (a_postfix t op p, ts)
   unfolding continued
   postfix_is op t p ts = refl
+
+  pub inside_none : (ts : List Token) → read (rank Levels.Comma) ts ≡ None → inside_form read ts ≡ None
+  unfolding inside_form
+  inside_none ts e = ap (λ o. then_read o (λ t rest. and_after (after Marks.CloseParenthesis rest) (λ next. Some
+      (in_parentheses t, next)))) e
+
+  pub inside_by : (ts : List Token) (t : Tree) (rest : List Token) (o : Option (List Token))
+      → read (rank Levels.Comma) ts ≡ Some (t, rest) → after Marks.CloseParenthesis rest ≡ o
+      → inside_form read ts ≡ and_after o (λ next. Some (in_parentheses t, next))
+  unfolding inside_form
+  inside_by ts t rest o e c =
+      ap (λ o. then_read o (λ t rest. and_after (after Marks.CloseParenthesis rest) (λ next. Some (
+        in_parentheses
+            t,
+        next,
+      )))) e
+      ∙ ap (λ o. and_after o (λ next. Some (in_parentheses t, next))) c
+
+  pub infix_by : (op : Infix) (t : Tree) (p : Place) (ts : List Token) (o : Option (Tree × List Token))
+      → read (right_level op) ts ≡ o → continued read (Openers.Infix op) t p ts
+      ≡ then_read o (λ r rest. Some (an_infix t op p r, rest))
+  unfolding continued
+  infix_by op t p ts o e = ap (λ o. then_read o (λ r rest. Some (an_infix t op p r, rest))) e
+
+  pub subscript_none : (t : Tree) (p : Place) (ts : List Token) → read (rank Levels.Comma) ts ≡ None
+      → continued read Openers.Subscript t p ts ≡ None
+  unfolding continued
+  subscript_none t p ts e = ap (λ o. then_read o (λ i a. and_after (after Marks.CloseBracket a) (λ rest. Some
+      (a_subscript t p i, rest)))) e
+
+  pub subscript_by : (t : Tree) (p : Place) (ts : List Token) (i : Tree) (a : List Token) (o : Option (List Token))
+      → read (rank Levels.Comma) ts ≡ Some (i, a) → after Marks.CloseBracket a ≡ o
+      → continued read Openers.Subscript t p ts ≡ and_after o (λ rest. Some (a_subscript t p i, rest))
+  unfolding continued
+  subscript_by t p ts i a o e c =
+      ap (λ o. then_read o (λ i a. and_after (after Marks.CloseBracket a) (λ rest. Some (a_subscript t p i, rest)))) e
+      ∙ ap (λ o. and_after o (λ rest. Some (a_subscript t p i, rest))) c
 
   pub steps_stop : (at h n : ℕ) (t : Tree) (ts : List Token) → step read at h t ts ≡ None → steps read at h n t ts ≡ (t, ts)
   unfolding steps

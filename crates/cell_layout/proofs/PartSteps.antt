@@ -1,8 +1,9 @@
 -- Parts of objects are laid out one after the other.
 use Rattle.std.proofs.Common.{◌≡◌, refl, ap, sym, subst, ◌∙◌, ℕ, zero, suc, ◌+◌, ◌-◌, ◌*◌, ◌<◌, ◌≤◌, Bool, true, false, cond, not, ◌&&◌, ◌||◌, List, [], ◌∷◌, ◌++◌, map, drop, reverse, append_assoc, append-nil, arith}
+use Rattle.std.proofs.Common.{length}
 use Rattle.std.specs.Prelude.{All}
 use Rattle.std.proofs.lemmas.Bool.{leb-true}
-use Rattle.std.proofs.lemmas.List.{map-append, reverse-append, reverse-reverse}
+use Rattle.std.proofs.lemmas.List.{map-append, reverse-append, reverse-reverse, drop_all}
 use Rattle.std.proofs.lemmas.List.Elements.{All-nil, All-cons, All-head, All-tail, All-append}
 use Rattle.tm_terms.specs.tm_cint.declared.int_types.IntType.{IntType}
 use Rattle.tm_typed.specs.declared.types.Qualified.{Qualified}
@@ -386,11 +387,12 @@ elements_more file part e n i c a later parts new next then lt x y z f is before
     rest : Bool → ℕ → ℕ → List TypePart
     rest b offset start = element_parts e next.smashed b s (cells_of_type file e) step (n - (i + 1)) offset start
 
-pub elements_all : (file : TypedFileTree) (part : TypePart) (e n i : ℕ) (parts : List TypePart) (next : TypePart) → i ≡ n → AreElements file part e n i parts next → parts ≡ inner_parts file part (Types.Array e n)
-elements_all file part e n i parts next same done =
+pub elements_all : (file : TypedFileTree) (part : TypePart) (e n i : ℕ) (parts : List TypePart) (next : TypePart)
+    → n ≤ i → AreElements file part e n i parts next → parts ≡ inner_parts file part (Types.Array e n)
+elements_all file part e n i parts next end done =
     sym (append-nil parts)
     ∙ ap (λ k. parts ++ element_parts e next.smashed next.leading (part.leading && not (is_smashed n)) (cells_of_type file e) (cond (is_smashed n) 0 (abstract_cells_of_type file e)) k next.offset next.abstract_cell)
-    (let z : 0 ≡ n - i = omega (arith, same) in z)
+    (let z : 0 ≡ n - i = omega (arith, end) in z)
     ∙ done.whole
 
 -- ## Members of a structure, one after the other
@@ -450,6 +452,15 @@ members_more file part k i c a m parts new next then more x y f is before = subs
 
     rest : ℕ → ℕ → List TypePart
     rest offset start = member_parts file next.smashed part.leading (drop (i + 1) (structure_in file k).members) offset start
+
+pub members_all : (file : TypedFileTree) (part : TypePart) (k i : ℕ) (parts : List TypePart) (next : TypePart)
+    → length (structure_in file k).members ≤ i → AreMembers file part k i parts next
+    → parts ≡ inner_parts file part (Types.Struct k)
+members_all file part k i parts next end done =
+    sym (append-nil parts)
+    ∙ ap (λ ms. parts ++ member_parts file next.smashed part.leading ms next.offset next.abstract_cell)
+    (sym (drop_all i (structure_in file k).members end))
+    ∙ done.whole
 
 -- ## Objects
 

@@ -3,6 +3,7 @@ use Rattle.std.proofs.Common.{◌≡◌, refl, ap, sym, subst, ◌∙◌, ℕ, z
 use Rattle.std.specs.Prelude.{All}
 use Rattle.std.proofs.lemmas.Bool.{cases_lt, ltb-false}
 use Rattle.std.proofs.lemmas.List.{drop_more, length-append, reverse-append, reverse-reverse, length_push, get_or_past}
+use Rattle.std.proofs.lemmas.List.{drop_all}
 use Rattle.std.proofs.lemmas.List.Elements.{All-nil, All-cons, All-head, All-tail, All-append}
 use Rattle.tm_terms.specs.declared.refusals.Limit.TheVariants as Limits
 use Rattle.tm_typed.specs.CallGraph.{calls_in}
@@ -113,6 +114,14 @@ body_more body i fs ws all lt e =
 pub record AreNumbers (file : TypedFileTree) (calls : List ℕ) (first i : ℕ) (numbers : List ℕ) (number : ℕ) : Type 0 where
   pub whole : numbers ++ numbers_from number (trees_of (tree_of file) (drop i calls)) ≡ numbers_from first (trees_of (tree_of file) calls)
   pub next : number + sum_of (size_of file) (drop i calls) ≡ first + sum_of (size_of file) calls
+
+pub numbers_all : (file : TypedFileTree) (calls : List ℕ) (first i : ℕ) (numbers : List ℕ) (number : ℕ)
+    → length calls ≤ i → AreNumbers file calls first i numbers number
+    → numbers ≡ numbers_from first (trees_of (tree_of file) calls)
+numbers_all file calls first i numbers number end done =
+    sym (append-nil numbers)
+    ∙ ap (λ cs. numbers ++ numbers_from number (trees_of (tree_of file) cs)) (sym (drop_all i calls end))
+    ∙ done.whole
 
 pub numbers_more : (file : TypedFileTree) (order calls : List ℕ) (first i : ℕ) (numbers : List ℕ) (number total : ℕ) → i < length calls
     → total ≡ size_of file (get_or calls i 0) → AreNumbers file calls first i numbers number → AreNumbers file calls first (i + 1) (numbers ++ number ∷ []) (number + total)

@@ -37,6 +37,14 @@ statics_more statics i object objects new all lt is e before =
     ∙ ap (λ xs. objects ++ xs) (sym (here_first (record { name = object.name; place = object.place; of = object.of; owner = None }) (static_objects rest) object.defined))
     ∙ ap (λ ss. objects ++ static_objects ss) (sym (statics_open statics i object lt is)) ∙ before
 
+pub statics_all : (statics : List TypedStatic) (i : ℕ) (objects all : List DeclaredObject) → length statics ≤ i
+    → objects ++ static_objects (drop i (map typed_static_tree statics)) ≡ all → objects ≡ all
+statics_all statics i objects all end before =
+    let n = length-map statics typed_static_tree in
+    sym (append-nil objects)
+    ∙ ap (λ ss. objects ++ static_objects ss) (sym (drop_all i (map typed_static_tree statics) (omega (arith, n, end))))
+    ∙ before
+
 pub static_numbers_more : (statics : List TypedStatic) (i : ℕ) (object : TypedStatic) (number next : ℕ) (numbers new all : List ℕ) → i < length statics → object ≡ get_or statics i object
     → new ≡ numbers ++ number ∷ [] → next ≡ cond object.defined (suc number) number → numbers ++ static_numbers number (drop i (map typed_static_tree statics)) ≡ all
     → new ++ static_numbers next (drop (i + 1) (map typed_static_tree statics)) ≡ all

@@ -1,4 +1,5 @@
 pub mod Ascending
 pub mod Parts
 pub mod Reach
+pub mod Steps
 pub mod low

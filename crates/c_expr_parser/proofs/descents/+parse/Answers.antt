@@ -8,7 +8,10 @@ use Rattle.c_expr_parser.specs.declared.found.Tried.{Tried}
 use Rattle.c_expr_parser.specs.reading.Parts.{after}
 use Rattle.c_expr_parser.specs.reading.Founds.{pair_of, seen_found, IfFound, IsStep, IsLow}
 use Rattle.c_expr_parser.specs.reading.Descent.{more_by, reads, continued, step}
-use Rattle.c_expr_parser.proofs.DescentSteps.{pushed, pushed_height, arguments_none, arguments_done, arguments_comma, arguments_closed, member_is, postfix_is, steps_stop, steps_done, steps_next, reads_some}
+use Rattle.c_expr_parser.proofs.DescentSteps.{inside_none, inside_by, infix_by, subscript_none, subscript_by, pushed}
+use Rattle.c_expr_parser.proofs.DescentSteps.{pushed_height, arguments_none, arguments_done, arguments_comma}
+use Rattle.c_expr_parser.proofs.DescentSteps.{arguments_closed, member_is, postfix_is, steps_stop, steps_done}
+use Rattle.c_expr_parser.proofs.DescentSteps.{steps_next, reads_some}
 use Rattle.c_expr_parser.proofs.descents.+parse.Goals as goal
 
 pub arguments_from-returns-in-Stuck-clause-value : goal.arguments_from-returns-in-Stuck-clause-value
@@ -94,3 +97,55 @@ steps-operators-preserved t c =
 pub steps-returns-clause-value : goal.steps-returns-clause-value
 steps-returns-clause-value t c =
     sym (steps_done (reads c.args.types.now c.args.allowed) c.args.at c.args.allowed (c.args.allowed + 1 - c.operators._i) (tree_of c.operators.found.expr.value) c.operators.found.rest.now (omega arith)) ∙ c.operators.invariant.same
+
+pub continue_infix-returns-in-Stuck-clause-value : goal.continue_infix-returns-in-Stuck-clause-value
+continue_infix-returns-in-Stuck-clause-value t c =
+    let read = reads c.args.types.now c.args.allowed in
+    let none = ap (λ k. read k c.args.tokens.now) (sym c.right_level.ensures) ∙ sym c.in_ok-stuck.ensures.value
+    ∙ ap seen_found c.in-Stuck.is in (
+      sym (infix_by read c.args.operator (tree_of c.args.left.expr.value) c.args.place c.args.tokens.now None none),
+      c.stuck_at.ensures.pair,
+    )
+
+pub continue_infix-returns-in_ok-infix-in-Found-clause-value :
+    goal.continue_infix-returns-in_ok-infix-in-Found-clause-value
+continue_infix-returns-in_ok-infix-in-Found-clause-value t c =
+    let read = reads c.args.types.now c.args.allowed in
+    let one = ap (λ k. read k c.args.tokens.now) (sym c.right_level.ensures) ∙ sym c.in_ok-stuck.ensures.value
+    ∙ ap seen_found c.in-Found.is in
+    ap Some c.in_ok-infix-in-Found.ensures.pair
+    ∙ sym (infix_by read c.args.operator (tree_of c.args.left.expr.value) c.args.place c.args.tokens.now (Some
+    (pair_of c.in-Found.right)) one)
+
+pub continue_subscript-returns-in-Stuck-clause-value : goal.continue_subscript-returns-in-Stuck-clause-value
+continue_subscript-returns-in-Stuck-clause-value t c =
+    let read = reads c.args.types.now c.args.allowed in
+    let none = ap (λ k. read k c.args.tokens.now) (sym c.rank.ensures) ∙ sym c.in_ok-stuck.ensures.value
+    ∙ ap seen_found c.in-Stuck.is in (
+      sym (subscript_none read (tree_of c.args.array.expr.value) c.args.place c.args.tokens.now none),
+      c.stuck_at.ensures.pair,
+    )
+
+pub inside_form-returns-in-Stuck-clause-value : goal.inside_form-returns-in-Stuck-clause-value
+inside_form-returns-in-Stuck-clause-value t c =
+    let read = reads c.args.types.now c.args.allowed in
+    sym (inside_none read c.args.tokens.now (ap (λ k. read k c.args.tokens.now) (sym c.rank.ensures)
+    ∙ sym c.in_ok-at.ensures.value ∙ ap seen_found c.in-Stuck.is))
+
+pub inside_form-returns-in-None-clause-value : goal.inside_form-returns-in-None-clause-value
+inside_form-returns-in-None-clause-value t c =
+    let read = reads c.args.types.now c.args.allowed in
+    let one = ap (λ k. read k c.args.tokens.now) (sym c.rank.ensures) ∙ sym c.in_ok-at.ensures.value
+    ∙ ap seen_found c.in-Found.is in
+    sym (inside_by read c.args.tokens.now (tree_of c.in-Found.inside.expr.value) c.in-Found.inside.rest.now None
+    one (sym c.in-None.ensures))
+
+pub continue_subscript-returns-in-None-clause-value : goal.continue_subscript-returns-in-None-clause-value
+continue_subscript-returns-in-None-clause-value t c =
+    let read = reads c.args.types.now c.args.allowed in
+    let one = ap (λ k. read k c.args.tokens.now) (sym c.rank.ensures) ∙ sym c.in_ok-stuck.ensures.value
+    ∙ ap seen_found c.in-Found.is in (
+      sym (subscript_by read (tree_of c.args.array.expr.value) c.args.place c.args.tokens.now (tree_of
+          c.in-Found.index.expr.value) c.in-Found.index.rest.now None one (sym c.in-None.ensures)),
+      c.stuck_at-in-None.ensures.pair,
+    )

@@ -1,7 +1,8 @@
 use Rattle.std.proofs.Common.{◌∙◌, ◌&&◌, ◌||◌, ap, sym, subst, not, Bool, List, arith}
 use Rattle.tm_typed.specs.TypedFiles.{typed_file_tree}
 use Rattle.cell_layout.specs.declared.cells.TypePart.{TypePart}
-use Rattle.cell_layout.proofs.PartSteps.{AreElements, elements_first, element_cells, element_abstracts, elements_room, elements_more}
+use Rattle.cell_layout.proofs.PartSteps.{AreElements, elements_first, element_cells, element_abstracts, elements_room}
+use Rattle.cell_layout.proofs.PartSteps.{elements_more, elements_all}
 use Rattle.cell_layout.proofs.cells.elements.Goals as goal
 
 pub loop-number-init : goal.loop-number-init
@@ -46,3 +47,8 @@ loop-number-preserved c =
     elements_more file c.args.part c.args.element c.args.length c.loop-number.number c.cell_column-cells.result c.abstract_step-abstract_cells.result c.stays_leading-later.result c.loop-number.parts.items
     c.push.new.self.items c.loop-number.next c.behind-next.result c.loop-number-test.true x y
     (c.stays_leading-later.ensures ∙ ap (λ (b : Bool). c.args.part.leading && not b) c.is_long-smashed.ensures) c.in_ok-push.ensures.items c.behind-next.ensures c.loop-number.invariant
+
+pub returns : goal.returns
+returns c =
+    elements_all (typed_file_tree c.args.file.now) c.args.part c.args.element c.args.length c.loop-number.number
+    c.loop-number.parts.items c.loop-number.next (omega (arith, c.loop-number-test.false)) c.loop-number.invariant

@@ -4,7 +4,7 @@ use Rattle.tm_typed.specs.declared.scopes.Member.{Member}
 use Rattle.tm_typed.specs.TypedFiles.{typed_file_tree}
 use Rattle.tm_laid.specs.TypeCells.{structure_in}
 use Rattle.cell_layout.specs.declared.cells.TypePart.{TypePart}
-use Rattle.cell_layout.proofs.PartSteps.{AreMembers, members_first, member_room, members_more}
+use Rattle.cell_layout.proofs.PartSteps.{AreMembers, members_first, member_room, members_more, members_all}
 use Rattle.cell_layout.proofs.cells.members.Goals as goal
 
 absent : Member
@@ -53,3 +53,10 @@ loop-member-preserved c =
     o c.cell_column.ensures c.abstract_column.ensures c.loop-member.invariant in
     members_more file c.args.part c.args.k i c.cell_column.result c.abstract_column.result m c.loop-member.parts.items c.push.new.self.items c.loop-member.next c.behind-next.result
     o r.0 r.1 c.in_ok-push.ensures.items c.behind-next.ensures c.loop-member.invariant
+
+pub returns : goal.returns
+returns c =
+    let a = c.loop-member-test.false in
+    let b = ap length c.members_of-member-items.ensures in
+    members_all (typed_file_tree c.args.file.now) c.args.part c.args.k c.loop-member.member-index
+    c.loop-member.parts.items c.loop-member.next (omega (arith, a, b)) c.loop-member.invariant

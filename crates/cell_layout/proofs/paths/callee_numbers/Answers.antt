@@ -7,7 +7,7 @@ use Rattle.tm_laid.specs.Layable.{IsLayable}
 use Rattle.tm_terms.specs.declared.refusals.Limit.TheVariants as Limits
 use Rattle.cell_layout.specs.reading.Counts.{AreTotals, sum_of}
 use Rattle.cell_layout.specs.reading.Waits.{size_of}
-use Rattle.cell_layout.proofs.PathSteps.{AreNumbers, numbers_more, exact, size_opens}
+use Rattle.cell_layout.proofs.PathSteps.{AreNumbers, numbers_more, numbers_all, exact, size_opens}
 use Rattle.cell_layout.proofs.paths.callee_numbers.Goals as goal
 
 step : (file : TypedFileTree) (order totals items : List ℕ) (f first i number total : ℕ) (numbers new : List ℕ) → IsLayable file order → AreTotals file Limits.Paths totals → size_of file f ≤ 65536
@@ -43,3 +43,11 @@ loop-callee-preserved c =
     let P : List ℕ → Type 0 = λ ns. AreNumbers file calls c.args.first (c.loop-callee.callee-index + 1) ns (c.loop-callee.number + c.total_at-number.result) in
     subst P (sym c.in_ok-push.ensures.items)
     (numbers_more file c.args.file.now.order.items calls c.args.first c.loop-callee.callee-index c.loop-callee.numbers.items c.loop-callee.number c.total_at-number.result s.1 s.0 c.loop-callee.invariant)
+
+pub returns : goal.returns
+returns c =
+    let calls : List ℕ = calls_in (typed_file_tree c.args.file.now).calls c.args.function in
+    let a = c.loop-callee-test.false in
+    let b = ap length c.calls_of-callee-items.ensures in
+    numbers_all (typed_file_tree c.args.file.now) calls c.args.first c.loop-callee.callee-index
+    c.loop-callee.numbers.items c.loop-callee.number (omega (arith, a, b)) c.loop-callee.invariant

@@ -51,6 +51,9 @@ between-requires-clause-low c =
     let r = above c.args.s.lo c.args.s.hi c.args.s.stride c.requires.ends c.if-s.false in
     rw (kept c.requires.ends.low, kept_stride f.1, kept r) r
 
+pub between-requires-clause-high : goal.between-requires-clause-high
+between-requires-clause-high c = rw (kept c.requires.ends.high) c.requires.ends.high
+
 pub between-requires-clause-ordered : goal.between-requires-clause-ordered
 between-requires-clause-ordered c =
     let f = far c.args.s.lo c.args.s.hi c.args.s.stride c.requires.ends c.if-s.false in
@@ -76,6 +79,9 @@ pub overflow_sub-s : goal.overflow_sub-s
 overflow_sub-s c =
     let f = far c.args.s.lo c.args.s.hi c.args.s.stride c.requires.ends c.if-s.false in
     rw (kept c.requires.ends.high, kept_stride f.1) (reach_fits _ (under c.args.s.lo c.args.s.hi c.args.s.stride c.requires.ends c.if-s.false))
+
+pub between-requires-then-v-s-2-clause-low : goal.between-requires-then-v-s-2-clause-low
+between-requires-then-v-s-2-clause-low c = rw (kept c.requires.ends.low) c.requires.ends.low
 
 pub between-requires-then-v-s-2-clause-high : goal.between-requires-then-v-s-2-clause-high
 between-requires-then-v-s-2-clause-high c =
@@ -114,6 +120,15 @@ two_apart lo hi m d ordered e f = omega (arith, ints)
 more_apart : (lo hi : ℤ) (m d : ℕ) → d ≡ nat_abs (hi -ℤ lo) → (d ≡ 2 * m → ⊥) → hi ≢ lo +ℤ pos (2 * m)
 more_apart lo hi m d e f g = f (omega (arith, ints))
 
+pub between-requires-then-abs_diff-s-clause-low : goal.between-requires-then-abs_diff-s-clause-low
+between-requires-then-abs_diff-s-clause-low c = rw (kept c.requires.ends.low) c.requires.ends.low
+
+pub between-requires-then-abs_diff-s-clause-high : goal.between-requires-then-abs_diff-s-clause-high
+between-requires-then-abs_diff-s-clause-high c = rw (kept c.requires.ends.high) c.requires.ends.high
+
+pub between-requires-then-abs_diff-s-clause-ordered : goal.between-requires-then-abs_diff-s-clause-ordered
+between-requires-then-abs_diff-s-clause-ordered c = rw (kept c.requires.ends.low, kept c.requires.ends.high) c.requires.ends.ordered
+
 pub between-requires-then-abs_diff-s-clause-congruent : goal.between-requires-then-abs_diff-s-clause-congruent
 between-requires-then-abs_diff-s-clause-congruent c =
     let d = rw (kept c.requires.ends.low, kept c.requires.ends.high) at c.abs_diff.ensures in
@@ -128,6 +143,18 @@ returns-then-abs_diff-s c =
     λ a h. without_middle a c.between-then-abs_diff-s.result c.args.s.lo c.args.s.hi c.args.s.stride c.args.v h
     (differ c.args.s.lo c.args.s.hi c.args.s.stride c.requires.ends c.if-s.false)
     (λ e. c.if-v-s.false (ap (of_z w128) e)) (λ e. c.if-v-s-2.false (ap (of_z w128) e)) c.requires.member three exact
+
+pub between-requires-2-clause-low : goal.between-requires-2-clause-low
+between-requires-2-clause-low c = rw (kept c.requires.ends.low) c.requires.ends.low
+
+pub between-requires-2-clause-high : goal.between-requires-2-clause-high
+between-requires-2-clause-high c = rw (kept c.requires.ends.high) c.requires.ends.high
+
+pub between-requires-2-clause-ordered : goal.between-requires-2-clause-ordered
+between-requires-2-clause-ordered c = rw (kept c.requires.ends.low, kept c.requires.ends.high) c.requires.ends.ordered
+
+pub between-requires-2-clause-congruent : goal.between-requires-2-clause-congruent
+between-requires-2-clause-congruent c = rw (kept c.requires.ends.high, kept c.requires.ends.low) c.requires.ends.congruent
 
 pub returns : goal.returns
 returns c =

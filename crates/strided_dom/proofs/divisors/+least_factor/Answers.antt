@@ -7,6 +7,12 @@ in_range : {t : _} (c : In-Some t) → c.args.m / c.args.a * c.in-Some.k + c.arg
 in_range c =
     solution_step_below c.args.a c.args.c c.args.m c.in-Some.k c.in-Some.w (omega arith) (omega arith) c.requires.rest c.in-Some.ensures.below c.in-Some.ensures.answer
 
+pub overflow_mul-result : goal.overflow_mul-result
+overflow_mul-result t c = omega (arith, in_range c)
+
+pub overflow_add-result : goal.overflow_add-result
+overflow_add-result t c = omega (arith, in_range c)
+
 pub overflow_add-result-in-Some : goal.overflow_add-result-in-Some
 overflow_add-result-in-Some t c = omega (arith, in_range c)
 

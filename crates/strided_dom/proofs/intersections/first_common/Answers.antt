@@ -59,6 +59,12 @@ added steps m far lo' top low high e some near =
     let q : far / m * m + far % m ≡ far = omega arith in
     (omega (arith, ints, a, q, low.low, high.high), record { low = omega (arith, ints, low.low); high = omega (arith, ints, a, q, high.high) })
 
+pub overflow_mul-result : goal.overflow_mul-result
+overflow_mul-result c =
+    let f = rw (kept c.requires.high, kept c.requires.right) at c.abs_diff.ensures in
+    let t = apart c.args.top c.args.t.lo c.abs_diff.result c.requires.ordered f in
+    omega (arith, (added c.in-Some.steps c.args.t.stride c.abs_diff.result c.args.t.lo c.args.top c.requires.right c.requires.high t (omega arith) c.if-steps-abs_diff.false).0)
+
 pub overflow_cast-result : goal.overflow_cast-result
 overflow_cast-result c =
     let f = rw (kept c.requires.high, kept c.requires.right) at c.abs_diff.ensures in

@@ -1,16 +1,11 @@
-use Rattle.std.proofs.Common.{◌≡◌, ◌∙◌, List, [], ◌∷◌, ◌++◌, ℤ, ap, append_assoc, arith}
+use Rattle.std.proofs.Common.{◌∙◌, arith}
 use Rattle.std.specs.Int.{w128}
 use Rattle.std.proofs.lemmas.Int.{ints, to_z-of_z}
 use Rattle.tm_cint.specs.declared.int_types.IntType.TheVariants as Ints
 use Rattle.thresholds.specs.Thresholds.{ends_of}
 use Rattle.thresholds.proofs.Parts.{part_more, parts_end}
+use Rattle.thresholds.proofs.Steps.{two_more}
 use Rattle.thresholds.proofs.lists.push_types.Goals as goal
-
-two_more : (old mid new : List ℤ) (a b x y : ℤ) → mid ≡ old ++ a ∷ [] → new ≡ mid ++ b ∷ [] → a ≡ x → b ≡ y
-    → new ≡ old ++ x ∷ y ∷ []
-two_more old mid new a b x y first second is_x is_y =
-    second ∙ ap (λ l. l ++ b ∷ []) first ∙ append_assoc old (a ∷ []) (b ∷ [])
-    ∙ ap (λ z. old ++ z ∷ b ∷ []) is_x ∙ ap (λ z. old ++ x ∷ z ∷ []) is_y
 
 pub loop-of-preserved : goal.loop-of-preserved
 loop-of-preserved c = (

@@ -1,12 +1,33 @@
-use Rattle.std.proofs.Common.{◌≡◌, ◌∷◌, ◌+◌, set, true, Some, sym, ap, subst, ◌∙◌, refl, arith}
+use Rattle.std.proofs.Common.{◌≡◌, ◌∷◌, ◌+◌, ◌<◌, length, map, set, true, Some, sym, ap, subst, ◌∙◌, refl, arith}
 use Rattle.std.specs.Prelude.{not, ◌==◌, ◌↔◌, if◌then◌else◌}
 use Rattle.std.specs.Arc.{arc_value}
 use Rattle.store_core.specs.Histories.{Publish, version_of, lent_to, with_added, store_of, store_at, MayPublish}
-use Rattle.store_core.specs.Events.{past_of}
+use Rattle.std.proofs.lemmas.List.{length-map, length-reverse}
+use Rattle.store_core.specs.Events.{past_of, plain_event}
 use Rattle.store_core.proofs.Pasts.{loan_of}
 use Rattle.store_core.proofs.Keeping.{past_push, core_published, kept_set, risen}
 use Rattle.store_core.proofs.cores.StoreCore.accept.Given as given
 use Rattle.store_core.proofs.cores.StoreCore.accept.Goals as goal
+
+pub next_version-after-requires : goal.next_version-after-requires
+next_version-after-requires g c =
+    let core = c.self.invariant in
+    let events = c.self.inside.history.items in
+    let counted = c.legal_histories.ensures.counted (arc_value c.self.inside.program) c.self.inside.workers (past_of events)
+    core.is_program core.legal in
+    let long : length (past_of events) ≡ length events =
+    length-reverse (map plain_event events) ∙ length-map events plain_event in
+    omega (arith, counted, core.version_is, long, c.self.inside.history.ok.0)
+
+pub index_mut-requires-2 : goal.index_mut-requires-2
+index_mut-requires-2 g c =
+    let core = c.self.invariant in
+    let brought = c.contribution.inside in
+    let same_program : arc_value brought.program ≡ arc_value c.self.inside.program =
+    ap (λ b. b.program) c.contribution.view_is ∙ c.requires.program ∙ ap (λ k. k.program) (sym c.self.view_is) in
+    let exists : brought.task < g.P.Passer.task_count (arc_value c.self.inside.program) =
+    subst (λ p. brought.task < g.P.Passer.task_count p) same_program c.contribution.invariant.1 in
+    omega (arith, exists, core.slot_count, c.self.inside.slots.ok.0)
 
 pub index_mut-requires : goal.index_mut-requires
 index_mut-requires g c =

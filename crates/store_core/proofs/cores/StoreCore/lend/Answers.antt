@@ -6,6 +6,17 @@ use Rattle.store_core.specs.Events.{past_of}
 use Rattle.store_core.proofs.Keeping.{past_push, core_read, kept_below, kept_in, kept_set}
 use Rattle.store_core.proofs.cores.StoreCore.lend.Goals as goal
 
+pub index_mut-requires : goal.index_mut-requires
+index_mut-requires g c =
+    let core = c.self.invariant in
+    omega (arith, core.loan_count, ap (λ k. k.workers) c.self.view_is, c.requires.may.worker_exists, c.self.inside.loans.ok.0)
+
+pub index_mut-requires-2 : goal.index_mut-requires-2
+index_mut-requires-2 g c =
+    let core = c.self.invariant in
+    let tasks = ap (λ k. g.P.Passer.task_count k.program) c.self.view_is in
+    omega (arith, core.slot_count, tasks, c.requires.may.task_exists, c.self.inside.slots.ok.0)
+
 pub invariant_of-self-2 : goal.invariant_of-self-2
 invariant_of-self-2 g c =
     let core = c.self.invariant in
