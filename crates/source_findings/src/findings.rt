@@ -1,8 +1,10 @@
 //! The answers of `waits` and `ranges`: what the least solution of a source tells.
 
 ghost use Rattle.std.specs.Prelude.{◌≡◌, ◌<◌, ◌++◌, IfOk, OnOk, length};
-ghost use Rattle.tm_terms.specs.Spelling.{text_of};
 ghost use Rattle.tm_terms.specs.Texts.{refusal_text};
+ghost use Rattle.value_ranges.specs.Ranges.{AreRanges};
+ghost use Rattle.value_ranges.specs.Places.{AreDead};
+ghost use Rattle.program_solutions.specs.program_equations.Solutions.{tables_of};
 ghost use Rattle.program_solutions.specs.program_systems.ReadPrograms.{program_of};
 ghost use Rattle.program_solutions.specs.LeastReports.{IsLeastPair};
 ghost use Rattle.source_findings.specs.Findings.{HasFinding, waits_status};
@@ -16,8 +18,8 @@ use solution_lines::{push_dead_places, push_range, waits_text};
 use std::alloc::Global as Heap;
 use tm_laid::LaidObject;
 use tm_lattice::NoMemory;
-use tm_terms::{Fail, Name, Place, Refusal, behind, front, refusal_line};
-use value_ranges::{ObjectBounds, ranges};
+use tm_terms::{Fail, Place, Refusal, refusal_line, text_of};
+use value_ranges::{ObjectBounds, Ranges, ranges};
 
 /// What is asked of a least solution.
 #[derive(Clone, Copy)]
@@ -60,13 +62,6 @@ fn waits_reply(alloc: Heap, analysis: &Analysis, found: &Solution) -> Result<Fin
     })
 }
 
-/// The bytes of a name.
-fn text_of(bytes: &[u8], name: Name) -> &[u8]
-    ensures { result.now ≡ text_of bytes.now name }
-{
-    front(behind(bytes, name.start as usize), name.length as usize)
-}
-
 /// Appends the line of an object.
 fn push_bounds(
     alloc: Heap,
@@ -89,6 +84,33 @@ fn push_bounds(
     )
 }
 
+/// What a least solution tells of objects and places, where its ranges and dead places are found.
+pub fn told_ranges(
+    alloc: Heap,
+    bytes: &[u8],
+    analysis: &Analysis,
+    found: &Solution,
+    ranges: &Ranges,
+) -> Result<FindingReply, NoMemory>
+    requires bounds { AreRanges (program_of analysis.now) (tables_of found.now.tables) found.now.store
+        ranges.now.bounds.items }
+    requires dead { AreDead (program_of analysis.now) (tables_of found.now.tables) ranges.now.dead.items }
+    ensures { IfOk result (λ reply.
+        TellsRangesOf (program_of analysis.now) bytes.now found.now reply.status reply.text.items) }
+{
+    let _found = found;
+    let (program, _) = analysis.parts();
+    let mut text = Vec::new(alloc);
+    for bounds in &ranges.bounds {
+        push_bounds(alloc, &mut text, bytes, &program.laid.objects, *bounds)?;
+    }
+    push_dead_places(alloc, &mut text, &ranges.dead)?;
+    Ok(FindingReply {
+        status: Status::NoAlarm,
+        text,
+    })
+}
+
 /// What a least solution tells of objects and places.
 fn ranges_reply(
     alloc: Heap,
@@ -101,16 +123,8 @@ fn ranges_reply(
         TellsRangesOf (program_of analysis.now) bytes.now found.now reply.status reply.text.items) }
 {
     let (program, facts) = analysis.parts();
-    let told = ranges(alloc, program, facts, found.tables(), found.store())?;
-    let mut text = Vec::new(alloc);
-    for bounds in &told.bounds {
-        push_bounds(alloc, &mut text, bytes, &program.laid.objects, *bounds)?;
-    }
-    push_dead_places(alloc, &mut text, &told.dead)?;
-    Ok(FindingReply {
-        status: Status::NoAlarm,
-        text,
-    })
+    let ranges = ranges(alloc, program, facts, found.tables(), found.store())?;
+    told_ranges(alloc, bytes, analysis, found, &ranges)
 }
 
 /// What is asked of a least solution. What that promises of the runs of a source of the program, the answer of

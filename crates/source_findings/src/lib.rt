@@ -15,6 +15,6 @@ mod refusal_lines;
 
 pub use certificate_check::check_source;
 pub use certificates::certificate_of;
-pub use findings::{Finding, FindingReply, finding_of, told_of};
+pub use findings::{Finding, FindingReply, finding_of, told_of, told_ranges};
 pub use laws::{usual_refusals_are_told_alike, written_is_certified};
 pub use refusal_lines::refusal_line_on;

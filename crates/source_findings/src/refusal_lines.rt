@@ -1,30 +1,12 @@
 //! The line of a refusal on a scale.
 
 ghost use Rattle.std.specs.Prelude.{◌≡◌, IfOk, string_bytes};
-ghost use Rattle.tm_terms.specs.Texts.{limit_text};
 ghost use Rattle.source_findings.specs.RefusalTexts.{limit_line_on, refusal_text_on};
 
 use std::alloc::Global as Heap;
 use tm_laid::Scale;
 use tm_lattice::NoMemory;
-use tm_terms::{Limit, Refusal, refusal_line};
-
-/// The word of a limit in a refusal.
-fn limit_word(limit: Limit) -> &'static str
-    ensures { result.now ≡ limit_text limit }
-{
-    match limit {
-        Limit::Source => "source",
-        Limit::Tokens => "tokens",
-        Limit::Tasks => "tasks",
-        Limit::Mutexes => "mutexes",
-        Limit::Paths => "paths",
-        Limit::Cells => "cells",
-        Limit::Abstract => "abstract",
-        Limit::Nodes => "nodes",
-        Limit::Work => "work",
-    }
-}
+use tm_terms::{Limit, Refusal, limit_word, refusal_line};
 
 /// The line of a refusal that a limit makes.
 fn limit_line_on(alloc: Heap, scale: Scale, limit: Limit) -> Result<String, NoMemory>

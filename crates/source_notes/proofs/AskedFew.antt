@@ -4,12 +4,12 @@ use Rattle.std.specs.Prelude.{option_and_then}
 use Rattle.std.specs.Str.{bytes_eq}
 use Rattle.std.proofs.lemmas.Bool.{and_parts, leb-true, cond_both}
 use Rattle.cmd_words.specs.Numbers.{number_of}
-use Rattle.cmd_words.specs.Words.{after_prefix, from_one}
+use Rattle.cmd_words.specs.Words.{after_prefix, from_one, workers_named}
 use Rattle.tm_laid.specs.declared.scales.Scale.{Scale}
 use Rattle.tm_laid.specs.declared.scales.Scale.TheVariants.{Usual, Large}
 use Rattle.source_notes.specs.declared.answers.Note.{Note}
 use Rattle.source_notes.specs.declared.words.AskedNotes.{AskedNotes}
-use Rattle.source_notes.specs.Words.{AsksFew, asked_behind, asked_on, note_of, noted, workers_of}
+use Rattle.source_notes.specs.Words.{AsksFew, asked_behind, asked_on, note_of, noted}
 
 abbrev IsFew : ℕ → Type 0
 IsFew n = (1 ≤ n) × (n ≤ 16)
@@ -24,7 +24,7 @@ read_few : (o : Option ℕ) → IfSome (option_and_then (from_one 16) o) IsFew
 read_few None = tt
 read_few (Some n) = from_few n
 
-workers_few : (word : List ℕ) → IfSome (workers_of word) IsFew
+workers_few : (word : List ℕ) → IfSome (workers_named word) IsFew
 workers_few word = read_few (option_and_then number_of (after_prefix (codes "--workers=") word))
 
 mapped_few : (f : Note → AskedNotes) → ((note : Note) → AsksFew (f note)) → (o : Option Note) → IfSome (option_map f o) AsksFew
@@ -42,7 +42,7 @@ by_few scale word (Some n) few = noted_few scale n word few
 on_few : (scale : Scale) (words : List (List ℕ)) → IfSome (asked_on scale words) AsksFew
 on_few scale [] = tt
 on_few scale (word ∷ []) = noted_few scale 1 word (lit≤ tt, lit≤ tt)
-on_few scale (workers ∷ word ∷ []) = by_few scale word (workers_of workers) (workers_few workers)
+on_few scale (workers ∷ word ∷ []) = by_few scale word (workers_named workers) (workers_few workers)
 on_few scale (workers ∷ word ∷ other ∷ words) = tt
 
 pub behind_few : (words : List (List ℕ)) → IfSome (asked_behind words) AsksFew

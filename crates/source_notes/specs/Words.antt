@@ -3,8 +3,7 @@
 --     notes [large] [--workers=N] report|rings|races|alarms|causes|notes|assumptions|parts
 use Rattle.std.specs.Prelude.{ℕ, ◌≤◌, Bool, false, List, [], ◌∷◌, codes, Option, Some, None, option_map, option_and_then}
 use Rattle.std.specs.Prelude.{bytes_eq, if◌then◌else◌}
-use Rattle.cmd_words.specs.Numbers.{number_of}
-use Rattle.cmd_words.specs.Words.{after_prefix, from_one}
+use Rattle.cmd_words.specs.Words.{workers_named}
 use Rattle.tm_laid.specs.declared.scales.Scale.{Scale}
 use Rattle.tm_laid.specs.declared.scales.Scale.TheVariants.{Usual, Large}
 use Rattle.source_notes.specs.declared.answers.Note.{Note}
@@ -30,14 +29,10 @@ abbrev pub noted : Scale → ℕ → List ℕ → Option AskedNotes
 noted scale workers word =
     option_map (λ note. record { scale = scale; workers = workers; note = note }) (note_of word)
 
--- the number of workers that a word asks for: `--workers=` and a number from 1 to 16
-abbrev pub workers_of : List ℕ → Option ℕ
-workers_of word = option_and_then (from_one 16) (option_and_then number_of (after_prefix (codes "--workers=") word))
-
 -- On a scale one word asks for notes by one worker, and one behind `--workers=N` for notes by so many.
 abbrev pub asked_on : Scale → List (List ℕ) → Option AskedNotes
 asked_on scale (word ∷ []) = noted scale 1 word
-asked_on scale (workers ∷ word ∷ []) = option_and_then (λ n. noted scale n word) (workers_of workers)
+asked_on scale (workers ∷ word ∷ []) = option_and_then (λ n. noted scale n word) (workers_named workers)
 asked_on scale _ = None
 
 -- The scale is the large one where the first word is `large`, and else the usual one.

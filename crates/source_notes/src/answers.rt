@@ -5,9 +5,13 @@ ghost use Rattle.tm_terms.specs.declared.refusals.Limit.TheVariants as Limits;
 ghost use Rattle.tm_laid.specs.tm_typed.TypedFiles.{typed_file_tree};
 ghost use Rattle.tm_laid.specs.Layable.{IsLayable};
 ghost use Rattle.tm_laid.specs.Layouts.{laid_tree};
+ghost use Rattle.worker_solutions.specs.program_equations.Solutions.{tables_of};
 ghost use Rattle.worker_solutions.specs.program_systems.ReadPrograms.{program_of};
 ghost use Rattle.worker_solutions.specs.program_solutions.LeastReports.{IsLeastPair};
 ghost use Rattle.source_assumptions.specs.reading.Told.{IsOpened, TellsAssumptionsOf};
+ghost use Rattle.program_reports.specs.Reports.{IsReport};
+ghost use Rattle.access_groups.specs.Groups.{AreGroups};
+ghost use Rattle.alarm_contexts.specs.Contexts.{AreContexts};
 ghost use Rattle.source_notes.specs.Notes.{HasNotes, rings_status, races_status, alarms_status, report_status};
 ghost use Rattle.source_notes.specs.reading.Told.{TellsRingsOf, TellsRacesOf, TellsAlarmsOf, TellsCausesOf};
 ghost use Rattle.source_notes.specs.reading.Told.{TellsNotesOf, AreContents};
@@ -102,7 +106,7 @@ fn alarms_status(alarms: &[AlarmContexts]) -> Status
 }
 
 /// Whether there is an alarm in a report.
-pub(crate) fn report_status(report: &[Alarm]) -> Status
+fn report_status(report: &[Alarm]) -> Status
     ensures { result ≡ report_status report.now }
 {
     if report.is_empty() {
@@ -112,22 +116,33 @@ pub(crate) fn report_status(report: &[Alarm]) -> Status
     }
 }
 
-/// The report of a least solution.
-pub(crate) fn report_reply(
+/// What a least solution tells as its report, where that is found.
+pub(crate) fn told_report(
     alloc: Heap,
     analysis: &Analysis,
     found: &Solution,
+    report: &[Alarm],
 ) -> Result<NoteReply, NoMemory>
+    requires { IsReport (program_of analysis.now) (tables_of found.now.tables) report.now }
+    ensures { IfOk result (λ reply. TellsReportOf (program_of analysis.now) found.now reply.status reply.text.items) }
+{
+    let _analysis = analysis;
+    let _found = found;
+    let line = report_json(alloc, report)?;
+    Ok(NoteReply {
+        status: report_status(report),
+        text: line.into_bytes(),
+    })
+}
+
+/// The report of a least solution.
+fn report_reply(alloc: Heap, analysis: &Analysis, found: &Solution) -> Result<NoteReply, NoMemory>
     requires { IsLeastPair (program_of analysis.now) found.now }
     ensures { IfOk result (λ reply. TellsReportOf (program_of analysis.now) found.now reply.status reply.text.items) }
 {
     let (program, facts) = analysis.parts();
     let report = judge(alloc, program, facts, found.tables(), found.store())?;
-    let line = report_json(alloc, &report.alarms)?;
-    Ok(NoteReply {
-        status: report_status(&report.alarms),
-        text: line.into_bytes(),
-    })
+    told_report(alloc, analysis, found, &report.alarms)
 }
 
 /// What a least solution tells of rings.
@@ -151,8 +166,30 @@ pub(crate) fn rings_reply(
     })
 }
 
+/// What a least solution tells of races, where their groups are found.
+pub(crate) fn told_races(
+    alloc: Heap,
+    bytes: &[u8],
+    names: &Names,
+    analysis: &Analysis,
+    found: &Solution,
+    groups: &[AccessGroup],
+) -> Result<NoteReply, NoMemory>
+    requires { AreGroups (program_of analysis.now) (tables_of found.now.tables) groups.now }
+    ensures { IfOk result (λ reply. TellsRacesOf (program_of analysis.now) bytes.now names.now.objects.items
+        names.now.tasks.items names.now.mutexes.items found.now reply.status reply.text.items) }
+{
+    let _analysis = analysis;
+    let _found = found;
+    let text = groups_text(alloc, bytes, names, groups)?;
+    Ok(NoteReply {
+        status: races_status(groups),
+        text,
+    })
+}
+
 /// What a least solution tells of races.
-pub(crate) fn races_reply(
+fn races_reply(
     alloc: Heap,
     bytes: &[u8],
     names: &Names,
@@ -165,15 +202,33 @@ pub(crate) fn races_reply(
 {
     let (program, facts) = analysis.parts();
     let groups = groups(alloc, program, facts, found.tables(), found.store())?;
-    let text = groups_text(alloc, bytes, names, &groups)?;
+    told_races(alloc, bytes, names, analysis, found, &groups)
+}
+
+/// What a least solution tells of alarms, where their contexts are found.
+pub(crate) fn told_alarms(
+    alloc: Heap,
+    bytes: &[u8],
+    names: &Names,
+    analysis: &Analysis,
+    found: &Solution,
+    alarms: &[AlarmContexts],
+) -> Result<NoteReply, NoMemory>
+    requires { AreContexts (program_of analysis.now) (tables_of found.now.tables) alarms.now }
+    ensures { IfOk result (λ reply. TellsAlarmsOf (program_of analysis.now) bytes.now names.now
+        found.now reply.status reply.text.items) }
+{
+    let _found = found;
+    let (program, facts) = analysis.parts();
+    let text = alarms_text(alloc, bytes, names, program, facts, alarms)?;
     Ok(NoteReply {
-        status: races_status(&groups),
+        status: alarms_status(alarms),
         text,
     })
 }
 
 /// What a least solution tells of alarms.
-pub(crate) fn alarms_reply(
+fn alarms_reply(
     alloc: Heap,
     bytes: &[u8],
     names: &Names,
@@ -186,15 +241,44 @@ pub(crate) fn alarms_reply(
 {
     let (program, facts) = analysis.parts();
     let alarms = alarm_contexts(alloc, program, facts, found.tables(), found.store())?;
-    let text = alarms_text(alloc, bytes, names, program, facts, &alarms)?;
+    told_alarms(alloc, bytes, names, analysis, found, &alarms)
+}
+
+/// Advice on the alarms of a least solution, where their contexts and the groups of its races are found.
+pub(crate) fn told_causes(
+    alloc: Heap,
+    bytes: &[u8],
+    names: &Names,
+    analysis: &Analysis,
+    found: &Solution,
+    alarms: &[AlarmContexts],
+    groups: &[AccessGroup],
+) -> Result<NoteReply, NoMemory>
+    requires least { IsLeastPair (program_of analysis.now) found.now }
+    requires alarms { AreContexts (program_of analysis.now) (tables_of found.now.tables) alarms.now }
+    requires groups { AreGroups (program_of analysis.now) (tables_of found.now.tables) groups.now }
+    ensures { IfOk result (λ reply. TellsCausesOf (program_of analysis.now) bytes.now names.now
+        found.now reply.status reply.text.items) }
+{
+    let (program, facts) = analysis.parts();
+    let advices = advice_on_alarms(
+        alloc,
+        program,
+        facts,
+        found.tables(),
+        found.store(),
+        alarms,
+        groups,
+    )?;
+    let text = causes_text(alloc, bytes, names, program, facts, alarms, &advices)?;
     Ok(NoteReply {
-        status: alarms_status(&alarms),
+        status: alarms_status(alarms),
         text,
     })
 }
 
 /// Advice on the alarms of a least solution.
-pub(crate) fn causes_reply(
+fn causes_reply(
     alloc: Heap,
     bytes: &[u8],
     names: &Names,
@@ -208,20 +292,7 @@ pub(crate) fn causes_reply(
     let (program, facts) = analysis.parts();
     let alarms = alarm_contexts(alloc, program, facts, found.tables(), found.store())?;
     let groups = groups(alloc, program, facts, found.tables(), found.store())?;
-    let advices = advice_on_alarms(
-        alloc,
-        program,
-        facts,
-        found.tables(),
-        found.store(),
-        &alarms,
-        &groups,
-    )?;
-    let text = causes_text(alloc, bytes, names, program, facts, &alarms, &advices)?;
-    Ok(NoteReply {
-        status: alarms_status(&alarms),
-        text,
-    })
+    told_causes(alloc, bytes, names, analysis, found, &alarms, &groups)
 }
 
 /// The numbers of the objects that advice on these alarms names.
@@ -246,7 +317,7 @@ fn advised_objects(
 }
 
 /// All that a least solution tells.
-fn contents_of(
+pub(crate) fn contents_of(
     alloc: Heap,
     bytes: &[u8],
     analysis: &Analysis,
@@ -293,8 +364,30 @@ fn contents_of(
     })
 }
 
+/// All notes on a least solution, where their contents are found.
+pub(crate) fn told_notes(
+    alloc: Heap,
+    bytes: &[u8],
+    declared: &Declared,
+    analysis: &Analysis,
+    found: &Solution,
+    contents: &Contents,
+) -> Result<NoteReply, NoMemory>
+    requires { AreContents (program_of analysis.now) found.now contents.now }
+    ensures { IfOk result (λ reply. TellsNotesOf (program_of analysis.now) bytes.now declared.now
+        found.now reply.status reply.text.items) }
+{
+    let _found = found;
+    let (program, facts) = analysis.parts();
+    let text = notes_text(alloc, bytes, declared, program, facts, contents)?;
+    Ok(NoteReply {
+        status: report_status(&contents.report.alarms),
+        text,
+    })
+}
+
 /// All notes on a least solution.
-pub(crate) fn whole_reply(
+fn whole_reply(
     alloc: Heap,
     bytes: &[u8],
     declared: &Declared,
@@ -305,13 +398,8 @@ pub(crate) fn whole_reply(
     ensures { IfOk result (λ reply. TellsNotesOf (program_of analysis.now) bytes.now declared.now
         found.now reply.status reply.text.items) }
 {
-    let (program, facts) = analysis.parts();
     let contents = contents_of(alloc, bytes, analysis, found)?;
-    let text = notes_text(alloc, bytes, declared, program, facts, &contents)?;
-    Ok(NoteReply {
-        status: report_status(&contents.report.alarms),
-        text,
-    })
+    told_notes(alloc, bytes, declared, analysis, found, &contents)
 }
 
 /// What a least solution tells of assumptions, where so much is read off the source.

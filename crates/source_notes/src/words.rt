@@ -1,15 +1,10 @@
 //! The words of a command line that ask for notes.
 ghost use Rattle.std.specs.Prelude.{◌≡◌, map, codes, string_bytes, option_map, IfSome};
-ghost use Rattle.cmd_words.specs.Words.{after_prefix};
 ghost use Rattle.source_notes.specs.Words.{AsksFew, asked_behind, asked_notes, asked_on, asks_notes, note_of, noted};
-ghost use Rattle.source_notes.specs.Words.{workers_of};
 
 use crate::answers::Note;
-use cmd_words::read_number;
+use cmd_words::workers_named;
 use tm_laid::Scale;
-
-/// The most workers.
-const MOST_WORKERS: u32 = 16;
 
 /// What words that ask for notes ask for.
 #[derive(Clone, Copy)]
@@ -59,26 +54,6 @@ fn noted(scale: Scale, workers: u32, word: &str) -> Option<AskedNotes>
     })
 }
 
-/// What stands behind `--workers=` in a word that begins so.
-fn value_of(word: &str) -> Option<&str>
-    ensures { option_map (λ value. value.now) result ≡ after_prefix (codes "--workers=") word.now }
-{
-    word.strip_prefix("--workers=")
-}
-
-/// The number of workers that a word asks for.
-fn workers_of(word: &str) -> Option<u32>
-    ensures { result ≡ workers_of word.now }
-{
-    let value = value_of(word)?;
-    let workers = read_number(value)?;
-    if 1 <= workers && workers <= MOST_WORKERS {
-        Some(workers)
-    } else {
-        None
-    }
-}
-
 /// What words ask for on a scale.
 fn asked_on(scale: Scale, words: &[String]) -> Option<AskedNotes>
     ensures { result ≡ asked_on scale (map (λ w. string_bytes w) words.now) }
@@ -86,7 +61,7 @@ fn asked_on(scale: Scale, words: &[String]) -> Option<AskedNotes>
     match words {
         [word] => noted(scale, 1, word.as_str()),
         [workers, word] => {
-            let workers = workers_of(workers.as_str())?;
+            let workers = workers_named(workers.as_str())?;
             noted(scale, workers, word.as_str())
         }
         _ => None,

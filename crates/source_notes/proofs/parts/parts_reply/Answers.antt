@@ -6,8 +6,8 @@ use Rattle.source_notes.proofs.parts.parts_reply.Goals as goal
 pub returns : goal.returns
 returns c =
     let report = c.in_ok-status.ensures in
-    let waits = c.in_ok-push_finding.ensures in
-    let ranges = c.in_ok-push_finding-2.ensures in
+    let waits = c.in_ok-push_waits.ensures in
+    let ranges = c.in_ok-push_ranges.ensures in
     let rings = c.in_ok-push_rings.ensures in
     let races = c.in_ok-push_races.ensures in
     let alarms = c.in_ok-push_alarms.ensures in

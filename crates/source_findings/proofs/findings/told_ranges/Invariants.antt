@@ -1,7 +1,7 @@
 use Rattle.std.proofs.Common.{◌≡◌, take}
 use Rattle.std.specs.List.{flat_map}
 use Rattle.source_findings.specs.Tellings.{bounds_line_of}
-use Rattle.source_findings.proofs.findings.ranges_reply.Given as goal
+use Rattle.source_findings.proofs.findings.told_ranges.Given as goal
 
 -- the lines of the objects so far are written
 abbrev pub invariant-loop-bounds : goal.invariant-loop-bounds
