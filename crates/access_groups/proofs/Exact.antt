@@ -27,7 +27,7 @@ use Rattle.access_groups.specs.reading.Sites.{access_of, IsSiteBelow, IsSiteUpTo
 use Rattle.access_groups.specs.reading.Noted.{IsNotedIn}
 use Rattle.access_groups.specs.reading.Merging.{IsMerged, HasAlikeRacing, AreMerged, HasRacing}
 use Rattle.access_groups.specs.reading.Grouping.{AreGroupsOf}
-use Rattle.access_groups.proofs.Rising.{none, first, later, cases}
+use Rattle.access_races.proofs.Rising.{none, first, later, cases}
 use Rattle.access_groups.proofs.Sorting.{AreAlike, alike, keys_same}
 use Rattle.access_groups.proofs.Alike as alikes
 use Rattle.access_groups.proofs.Noted.{same_truth}

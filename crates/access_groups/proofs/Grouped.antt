@@ -12,7 +12,7 @@ use Rattle.access_races.specs.reading.Ways.{list_at}
 use Rattle.access_groups.specs.reading.Merging.{AreMerged, HasRacing}
 use Rattle.access_groups.specs.reading.Grouping.{IsGrouped, AreGroupsOf}
 use Rattle.access_groups.specs.reading.Grouping.IsGrouped.{none_races, one_races}
-use Rattle.access_groups.proofs.Rising.{none, rising_push}
+use Rattle.access_races.proofs.Rising.{none, rising_push}
 
 abbrev Before : AccessGroup → AccessGroup → Type 0
 Before g h = g.object < h.object

@@ -1,7 +1,6 @@
--- Lists that rise (Rising), the order of accesses (Sorting), how they are merged (Merged) and grouped (Grouped); the
+-- The order of accesses (Sorting), how they are merged (Merged) and grouped (Grouped); the
 -- accesses of copies (Targets) and tasks (Adding), and what is noted of them (Noted); accesses that are alike (Alike);
 -- the groups are those of the tables (Exact), and there is one list of them (One).
-pub mod Rising
 pub mod Sorting
 pub mod Merged
 pub mod Grouped

@@ -10,11 +10,12 @@ use Rattle.std.proofs.lemmas.Nat.Bits.{bit_at_and, bit_at-lt}
 use Rattle.mutex_configs.specs.Sets.{has}
 use Rattle.access_races.proofs.Joins.{either}
 use Rattle.access_groups.specs.declared.object_access.ObjectAccess.{ObjectAccess}
-use Rattle.access_groups.specs.Order.{sort_key, IsBefore, AreRising}
+use Rattle.access_races.specs.Rising.{AreRising}
+use Rattle.access_groups.specs.Order.{sort_key, IsBefore}
 use Rattle.access_groups.specs.reading.Merging.{joined, IsAdded, Precedes}
 use Rattle.access_groups.specs.reading.Merging.{IsMerged, AreMerged, HasRacing}
 use Rattle.access_groups.specs.reading.Merging.IsAdded.{begins, joins, follows}
-use Rattle.access_groups.proofs.Rising.{none, first, cases, rising_push, rising_front, rising_last}
+use Rattle.access_races.proofs.Rising.{none, first, cases, rising_push, rising_front, rising_last}
 use Rattle.access_groups.proofs.Sorting.{is_before_trans, before_alike, not_alike}
 
 -- ## Sets

@@ -27,11 +27,12 @@ use Rattle.program_reports.specs.Reports.IsAlarm.{faulty, racing}
 use Rattle.program_reports.specs.reading.Found.{is_writing}
 use Rattle.access_groups.specs.declared.object_access.ObjectAccess.{ObjectAccess}
 use Rattle.access_groups.specs.declared.object_access.AccessGroup.{AccessGroup}
-use Rattle.access_groups.specs.Order.{IsBefore, AreRising}
+use Rattle.access_races.specs.Rising.{AreRising}
+use Rattle.access_groups.specs.Order.{IsBefore}
 use Rattle.access_groups.specs.Groups.{object_in, IsAccessAt, IsRacingThere, IsFoundFree, IsObjectAccess}
 use Rattle.access_groups.specs.Groups.{AreObjectAccesses}
 use Rattle.access_groups.specs.Groups.{AreGroups, contents, HasRacingAt}
-use Rattle.access_groups.proofs.Rising.{none, first, later, cases, equal_lists}
+use Rattle.access_races.proofs.Rising.{none, first, later, cases, equal_lists}
 use Rattle.access_groups.proofs.Sorting.{AreAlike, alike, is_before_trans, never_before}
 use Rattle.access_groups.proofs.Noted.{same_truth}
 use Rattle.access_groups.proofs.Targets.{writes, is_write}

@@ -11,9 +11,10 @@ use Rattle.tm_terms.specs.declared.places.Place.{Place}
 use Rattle.access_races.proofs.Joins.{either}
 use Rattle.access_groups.specs.declared.object_access.ObjectAccess.{ObjectAccess}
 use Rattle.access_groups.specs.contracts.object_access.ObjectAccessOrd.TheImpl.{cmp-value}
-use Rattle.access_groups.specs.Order.{sort_key, AreBefore, IsBefore, AreRising}
+use Rattle.access_races.specs.Rising.{AreRising}
+use Rattle.access_groups.specs.Order.{sort_key, AreBefore, IsBefore}
 use Rattle.access_groups.specs.reading.Merging.{Precedes}
-use Rattle.access_groups.proofs.Rising.{none, cases}
+use Rattle.access_races.proofs.Rising.{none, cases}
 
 -- ## The order of keys
 

@@ -16,7 +16,8 @@ use Rattle.program_reports.specs.post_recheck.program_equations.Programs.{Progra
 use Rattle.program_reports.specs.Reports.{place_of, IsWriting, operation_in, left_in, IsAccess, AreRacing}
 use Rattle.access_groups.specs.declared.object_access.ObjectAccess.{ObjectAccess}
 use Rattle.access_groups.specs.declared.object_access.AccessGroup.{AccessGroup}
-use Rattle.access_groups.specs.Order.{sort_key, IsBefore, AreRising}
+use Rattle.access_races.specs.Rising.{AreRising}
+use Rattle.access_groups.specs.Order.{sort_key, IsBefore}
 
 module _ (p : ProgramBodies) where
   -- the object of an abstract cell

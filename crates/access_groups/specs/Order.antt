@@ -1,5 +1,5 @@
 -- The order of an object's accesses.
-use Rattle.std.specs.Prelude.{◌≡◌, ◌⊎◌, ℕ, ◌<◌, cond, List, [], ◌∷◌, Contains}
+use Rattle.std.specs.Prelude.{◌≡◌, ◌⊎◌, ℕ, ◌<◌, cond, List, [], ◌∷◌}
 use Rattle.access_groups.specs.declared.object_access.ObjectAccess.{ObjectAccess}
 
 -- what decides: the line, then the column, then the task, then whether it stores, then the mutexes that are held
@@ -13,8 +13,3 @@ AreBefore ms ns = ⊥
 
 abbrev pub IsBefore : ObjectAccess → ObjectAccess → Type 0
 IsBefore e f = AreBefore (sort_key e) (sort_key f)
-
--- each comes before all behind it
-abbrev pub AreRising : {X : Type 0} → (X → X → Type 0) → List X → Type 0
-AreRising Before [] = Unit {0}
-AreRising {X} Before (x ∷ xs) = ((y : X) → Contains xs y → Before x y) × AreRising Before xs

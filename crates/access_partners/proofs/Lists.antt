@@ -15,7 +15,7 @@ use Rattle.std.proofs.lemmas.List.Sorted.{Contains-permutation, IsPermutation-sy
 use Rattle.std.proofs.lemmas.Map.Keys.{IsStrictlyIncreasing-dedup}
 use Rattle.access_races.proofs.Joins.{either, grown, pushed, one_more}
 use Rattle.access_races.specs.reading.Ways.{list_at, HasOne}
-use Rattle.access_groups.proofs.Rising.{none, first, later}
+use Rattle.access_races.proofs.Rising.{none, first, later}
 use Rattle.access_partners.specs.Lists.{AreListed, AreThose, AreEach}
 use Rattle.access_partners.specs.Lists.AreThose.{none as no_more, kept, left_out}
 use Rattle.access_partners.specs.reading.Pairs.{kept_by}

@@ -7,9 +7,10 @@ use Rattle.std.proofs.lemmas.Bool.{true≢false, cases_eq, cases_lt, and_parts, 
 use Rattle.std.proofs.lemmas.Bool.{ltb-true, lt-ltb, eqb-true, eq-eqb}
 use Rattle.access_races.proofs.Joins.{either, grown, one_more}
 use Rattle.access_groups.specs.declared.object_access.ObjectAccess.{ObjectAccess}
-use Rattle.access_groups.specs.Order.{sort_key, AreBefore, IsBefore, AreRising}
+use Rattle.access_races.specs.Rising.{AreRising}
+use Rattle.access_groups.specs.Order.{sort_key, AreBefore, IsBefore}
 use Rattle.access_races.specs.reading.Ways.{list_at}
-use Rattle.access_groups.proofs.Rising.{none}
+use Rattle.access_races.proofs.Rising.{none}
 use Rattle.access_groups.proofs.Sorting.{is_before_trans, not_alike}
 use Rattle.access_groups.specs.declared.site.Site.{Site}
 use Rattle.access_groups.specs.reading.Sites.{no_site, access_of}

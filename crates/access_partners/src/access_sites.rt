@@ -1,6 +1,7 @@
 //! What makes each access of an object.
 ghost use Rattle.std.specs.Prelude.{◌≡◌, ◌<◌, length, IfOk, OnOk, IfSome, IfNone};
-ghost use Rattle.access_groups.specs.Order.{IsBefore, AreRising};
+ghost use Rattle.access_races.specs.Rising.{AreRising};
+ghost use Rattle.access_groups.specs.Order.{IsBefore};
 ghost use Rattle.access_groups.specs.reading.Sites.{access_of};
 ghost use Rattle.access_partners.specs.reading.Accesses.{AreSitesBy};
 ghost use Rattle.access_partners.specs.reading.Search.{before_by_kind, is_before, IsFirstNotBefore, IsIndex, HasNoIndex, AreEmpty, IsSiteAdded};

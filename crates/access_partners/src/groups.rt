@@ -1,7 +1,8 @@
 //! What is told of the accesses of groups.
 ghost use Rattle.std.specs.Prelude.{◌≡◌, length, All, IfOk};
 ghost use Rattle.access_groups.specs.declared.object_access.AccessGroup.{AccessGroup as AGroup};
-ghost use Rattle.access_groups.specs.Order.{IsBefore, AreRising};
+ghost use Rattle.access_races.specs.Rising.{AreRising};
+ghost use Rattle.access_groups.specs.Order.{IsBefore};
 ghost use Rattle.access_partners.specs.Lists.{AreEach};
 ghost use Rattle.access_partners.specs.reading.Found.{AreListedDetails, AreFound, AreFoundOf};
 

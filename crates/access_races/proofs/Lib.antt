@@ -1,4 +1,5 @@
 pub mod Joins
+pub mod Rising
 pub mod Cells
 mod Fronts
 mod Exact

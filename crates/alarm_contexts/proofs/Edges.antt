@@ -7,10 +7,11 @@ use Rattle.std.proofs.lemmas.Option.{slice_get_within, get_or_from_slice_get}
 use Rattle.std.proofs.lemmas.List.Elements.{Contains-append_left, Contains-push, Contains-push_cases}
 use Rattle.access_races.proofs.Joins.{either}
 use Rattle.alarm_contexts.specs.declared.alarm_context.ContextEdge.{ContextEdge}
-use Rattle.alarm_contexts.specs.Order.{AreRising, IsEdgeBefore}
+use Rattle.access_races.specs.Rising.{AreRising}
+use Rattle.alarm_contexts.specs.Order.{IsEdgeBefore}
 use Rattle.alarm_contexts.specs.reading.Merging.{IsLast, IsEdgeAdded}
 use Rattle.alarm_contexts.specs.reading.Merging.IsEdgeAdded.{stands, follows}
-use Rattle.alarm_contexts.proofs.Rising.{none, rising_push, rising_last}
+use Rattle.access_races.proofs.Rising.{none, rising_push, rising_last}
 use Rattle.alarm_contexts.proofs.Sorting.{edge_trans}
 
 at_end : {X : Type 0} (front : List X) (x : X) → slice_get (front ++ x ∷ []) (length front) ≡ Some x

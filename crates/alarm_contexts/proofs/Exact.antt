@@ -17,14 +17,14 @@ use Rattle.alarm_contexts.specs.declared.alarm_context.ContextEdge.{ContextEdge}
 use Rattle.alarm_contexts.specs.declared.alarm_context.AlarmContexts.{AlarmContexts}
 use Rattle.alarm_contexts.specs.declared.exits.Context.{Context}
 use Rattle.alarm_contexts.specs.declared.flaws.ObjectFlaw.{ObjectFlaw}
-use Rattle.alarm_contexts.specs.Order.{AreRising}
+use Rattle.access_races.specs.Rising.{AreRising}
 use Rattle.alarm_contexts.specs.Contexts.{IsContext, IsEdge, HasOperand, IsOperand, IsFlaw, IsAlways, IsContextOf}
 use Rattle.alarm_contexts.specs.Contexts.{alarm_of, AreContexts}
 use Rattle.alarm_contexts.specs.reading.Found.{IsContextUpTo}
 use Rattle.alarm_contexts.specs.reading.Operands.{operands_of, IsFlawed}
 use Rattle.alarm_contexts.specs.reading.Merging.{IsGiven, IsEdgeOf, HasValue, IsValueOf, IsFlawOf}
 use Rattle.alarm_contexts.specs.reading.Merging.{IsMerged, AreMerged}
-use Rattle.alarm_contexts.proofs.Rising.{first}
+use Rattle.access_races.proofs.Rising.{first}
 use Rattle.alarm_contexts.proofs.Bounds.{least_same}
 use Rattle.alarm_contexts.proofs.Leaving.{same_after, ends_none, IsAs, as_context, from_copy, found_copy, as_copy}
 use Rattle.alarm_contexts.proofs.Leaving.{operand_count, operand_is, flawed_as, as_flawed}

@@ -17,7 +17,7 @@ use Rattle.alarm_contexts.specs.declared.exits.Context.{Context}
 use Rattle.alarm_contexts.specs.reading.Found.{IsContextUpTo}
 use Rattle.alarm_contexts.specs.reading.Operands.{operands_of}
 use Rattle.alarm_contexts.specs.reading.Merging.{IsSorting}
-use Rattle.alarm_contexts.proofs.Rising.{none, first, later, cases}
+use Rattle.access_races.proofs.Rising.{none, first, later, cases}
 use Rattle.alarm_contexts.proofs.Leaving.{as_context, operands_fit}
 
 front_in : (n : ℕ) (xs : List Context) (x : Context) → Contains (take n xs) x → Contains xs x

@@ -23,7 +23,8 @@ use Rattle.alarm_contexts.specs.contracts.flaws.ObjectFlawOrd.TheImpl.{cmp-value
 use Rattle.alarm_contexts.specs.contracts.flaws.ObjectFlawOrd.TheImpl.Laws.{total-law, matches_eq-law}
 use Rattle.alarm_contexts.specs.contracts.flaws.ObjectFlawPartialEq.TheImpl.{eq-value}
 use Rattle.alarm_contexts.specs.contracts.flaws.ObjectFlawEq.TheImpl.Laws.{laws-law}
-use Rattle.alarm_contexts.specs.Order.{AreRising, IsFlawBefore, flaw_number}
+use Rattle.access_races.specs.Rising.{AreRising}
+use Rattle.alarm_contexts.specs.Order.{IsFlawBefore, flaw_number}
 use Rattle.alarm_contexts.specs.reading.Merging.{AreOrdered}
 
 flaw_less : (a b : Flaw) → flaw_ord.cmp-value.it a b ≡ Less → flaw_number a < flaw_number b

@@ -11,12 +11,13 @@ use Rattle.alarm_contexts.specs.declared.alarm_context.ContextEdge.{ContextEdge}
 use Rattle.alarm_contexts.specs.declared.alarm_context.AlarmContexts.{AlarmContexts}
 use Rattle.alarm_contexts.specs.declared.exits.Context.{Context}
 use Rattle.alarm_contexts.specs.declared.flaws.ObjectFlaw.{ObjectFlaw}
-use Rattle.alarm_contexts.specs.Order.{AreRising, IsEdgeBefore}
+use Rattle.access_races.specs.Rising.{AreRising}
+use Rattle.alarm_contexts.specs.Order.{IsEdgeBefore}
 use Rattle.alarm_contexts.specs.Bounds.{IsLeastAbove}
 use Rattle.alarm_contexts.specs.reading.Operands.{AreJoined}
 use Rattle.alarm_contexts.specs.reading.Merging.{edge_of, IsAlone, IsJoined, IsEdgeOf, HasValue, IsValueOf}
 use Rattle.alarm_contexts.specs.reading.Merging.{IsFlawOf, IsMerged}
-use Rattle.alarm_contexts.proofs.Rising.{none, first, only}
+use Rattle.access_races.proofs.Rising.{none, first, only}
 use Rattle.alarm_contexts.proofs.Bounds.{least_none, least_one, least_both, least_same}
 use Rattle.alarm_contexts.proofs.Edges.{edges_added}
 

@@ -12,12 +12,12 @@ use Rattle.access_races.proofs.Joins.{either}
 use Rattle.alarm_contexts.specs.declared.alarm_context.AlarmContexts.{AlarmContexts}
 use Rattle.alarm_contexts.specs.declared.exits.Context.{Context}
 use Rattle.alarm_contexts.specs.declared.flaws.ObjectFlaw.{ObjectFlaw}
-use Rattle.alarm_contexts.specs.Order.{AreRising}
+use Rattle.access_races.specs.Rising.{AreRising}
 use Rattle.alarm_contexts.specs.Contexts.{alarm_of}
 use Rattle.alarm_contexts.specs.reading.Merging.{Precedes, IsAlone, IsJoined, IsAdded, IsMerged, IsGiven}
 use Rattle.alarm_contexts.specs.reading.Merging.{AreMerged}
 use Rattle.alarm_contexts.specs.reading.Merging.IsAdded.{begins, joins, behind}
-use Rattle.alarm_contexts.proofs.Rising.{none, first, cases, rising_push, rising_front, rising_last}
+use Rattle.access_races.proofs.Rising.{none, first, cases, rising_push, rising_front, rising_last}
 use Rattle.alarm_contexts.proofs.Sorting.{alarm_trans, alarm_never, alarm_after, edge_after}
 use Rattle.alarm_contexts.proofs.Joined.{merged_same, alone_merged, joined_merged}
 

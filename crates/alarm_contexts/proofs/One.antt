@@ -28,11 +28,12 @@ use Rattle.program_reports.specs.Reports.IsAlarm.{faulty, racing}
 use Rattle.alarm_contexts.specs.declared.alarm_context.ContextEdge.{ContextEdge}
 use Rattle.alarm_contexts.specs.declared.alarm_context.AlarmContexts.{AlarmContexts}
 use Rattle.alarm_contexts.specs.declared.flaws.ObjectFlaw.{ObjectFlaw}
-use Rattle.alarm_contexts.specs.Order.{AreRising, IsEdgeBefore, IsFlawBefore}
+use Rattle.access_races.specs.Rising.{AreRising}
+use Rattle.alarm_contexts.specs.Order.{IsEdgeBefore, IsFlawBefore}
 use Rattle.alarm_contexts.specs.Bounds.{IsLeastAbove}
 use Rattle.alarm_contexts.specs.Contexts.{HasContext, IsEdge, HasOperand, IsOperand, IsFlaw, IsAlways, IsContextOf}
 use Rattle.alarm_contexts.specs.Contexts.{alarm_of, HasAlarm, AreContexts, Content, content, contents}
-use Rattle.alarm_contexts.proofs.Rising.{none, first, later, cases, equal_lists}
+use Rattle.access_races.proofs.Rising.{none, first, later, cases, equal_lists}
 use Rattle.alarm_contexts.proofs.Bounds.{one_least}
 use Rattle.alarm_contexts.proofs.Sorting.{alarm_trans, alarm_never, edge_trans, edge_never, flaw_trans, flaw_never}
 

@@ -17,9 +17,10 @@ use Rattle.alarm_contexts.specs.declared.alarm_context.ContextEdge.{ContextEdge}
 use Rattle.alarm_contexts.specs.declared.exits.Context.{Context}
 use Rattle.alarm_contexts.specs.contracts.exits.ContextOrd.TheImpl.{cmp-value}
 use Rattle.alarm_contexts.specs.declared.flaws.ObjectFlaw.{ObjectFlaw}
-use Rattle.alarm_contexts.specs.Order.{AreRising, IsEdgeBefore, IsFlawBefore}
+use Rattle.access_races.specs.Rising.{AreRising}
+use Rattle.alarm_contexts.specs.Order.{IsEdgeBefore, IsFlawBefore}
 use Rattle.alarm_contexts.specs.reading.Merging.{edge_of, IsBefore, Precedes}
-use Rattle.alarm_contexts.proofs.Rising.{none, cases}
+use Rattle.access_races.proofs.Rising.{none, cases}
 
 -- ## The order of alarms
 

@@ -12,7 +12,7 @@ use Rattle.std.proofs.lemmas.List.{take_more}
 use Rattle.std.proofs.lemmas.Int.{ints, clamps, by_lt_z, to_z-of_z}
 use Rattle.std.proofs.lemmas.List.Elements.{Contains-append_left, Contains-push, Contains-push_cases}
 use Rattle.access_races.proofs.Joins.{either, grown}
-use Rattle.alarm_contexts.proofs.Rising.{none, first, later, cases}
+use Rattle.access_races.proofs.Rising.{none, first, later, cases}
 use Rattle.strided_dom.specs.Progression.{Progression, empty, Has, IsLeastNumber, IsGreatestNumber}
 use Rattle.strided_dom.specs.Combinations.{IsProduct}
 use Rattle.strided_dom.proofs.Members.{spaced_from, some_or_empty, has_last, not_in_empty}

@@ -1,14 +1,9 @@
--- Lists that rise, the order of edges, and that of flaws.
-use Rattle.std.specs.Prelude.{◌≡◌, ◌⊎◌, ℕ, ◌<◌, List, [], ◌∷◌, Contains}
+-- The order of edges, and that of flaws.
+use Rattle.std.specs.Prelude.{◌≡◌, ◌⊎◌, ℕ, ◌<◌}
 use Rattle.alarm_contexts.specs.declared.alarm_context.ContextEdge.{ContextEdge}
 use Rattle.alarm_contexts.specs.declared.flaws.Flaw.{Flaw}
 use Rattle.alarm_contexts.specs.declared.flaws.Flaw.TheVariants as Flaws
 use Rattle.alarm_contexts.specs.declared.flaws.ObjectFlaw.{ObjectFlaw}
-
--- each comes before all behind it
-abbrev pub AreRising : {X : Type 0} → (X → X → Type 0) → List X → Type 0
-AreRising Before [] = Unit {0}
-AreRising {X} Before (x ∷ xs) = ((y : X) → Contains xs y → Before x y) × AreRising Before xs
 
 -- by bodies, then by numbers
 abbrev pub IsEdgeBefore : ContextEdge → ContextEdge → Type 0

@@ -17,16 +17,16 @@ ghost use Rattle.concrete_values.specs.declared.values.Value.TheVariants.{Number
 
 use crate::fragments::{Found, Fragment, Wanted};
 use crate::here::Here;
-use crate::lookups::{conversion, gives_pointer, is_comparison, is_pointer_scalar};
+use crate::lookups::{conversion, gives_pointer, is_comparison};
 use concrete_values::{Value, truth_value};
 use flow_graph::{Into, Operation, Test};
 use tm_cint::{BinOp, IntType};
 use tm_lattice::NoMemory;
 use tm_terms::Place;
-use tm_typed::{Rvalue, Scalar};
+use tm_typed::{Rvalue, Scalar, is_pointer_scalar};
 
 /// The temporary of a value that is used.
-pub(crate) fn temp_of(temp: Option<u32>) -> u32
+pub fn temp_of(temp: Option<u32>) -> u32
     ensures { result ≡ temp_of temp }
 {
     match temp {

@@ -15,11 +15,12 @@ mod lookups;
 mod operands;
 mod placing;
 
+pub use forms::temp_of;
 pub use fragments::{Call, Found, Fragment, Item, Size};
 pub use here::Here;
 pub use lookups::{
-    callee, function_on, is_comparison, is_pointer_scalar, is_same_place, is_value_type, object_of,
-    result_type, rvalue_place, scalar_at, type_at,
+    callee, conversion, function_on, implied, is_comparison, is_given, is_same_place,
+    is_value_type, object_of, rest_of, result_type, rvalue_place, scalar_at, type_at,
 };
 pub use operands::{build_condition, build_operand};
 pub use placing::more;

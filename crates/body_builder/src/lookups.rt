@@ -1,14 +1,15 @@
 //! What the builder looks up in a program.
-ghost use Rattle.std.specs.Prelude.{◌≡◌, IfOk, get_or};
+ghost use Rattle.std.specs.Prelude.{◌≡◌, IfOk, get_or, map};
 ghost use Rattle.tm_cint.specs.Conversions.{represents_all};
 ghost use Rattle.tm_typed.specs.Rules.{is_comparison};
 ghost use Rattle.tm_typed.specs.TypeRows.{is_pointer_type};
 ghost use Rattle.tm_typed.specs.TypedTrees.{rvalue_tree, lvalue_tree};
+ghost use Rattle.tm_typed.specs.TypedStatements.{given_tree};
 ghost use Rattle.tm_typed.specs.Files.{no_typed_function};
 ghost use Rattle.tm_laid.specs.TypeCells.{entry_of};
 ghost use Rattle.tm_laid.specs.Layouts.{callee, object_of, path_at, object_at, cell_at};
-ghost use Rattle.lowering.specs.concrete_steps.Places.{rvalue_place, is_pointer_scalar, gives_pointer, result_type};
-ghost use Rattle.lowering.specs.concrete_steps.NextAction.{step_operator, function_at, scalar_at};
+ghost use Rattle.lowering.specs.concrete_steps.Places.{rvalue_place, gives_pointer, result_type};
+ghost use Rattle.lowering.specs.concrete_steps.NextAction.{step_operator, function_at, is_given, rest_of, scalar_at};
 ghost use Rattle.lowering.specs.Table.{conversion, is_same_place, implied, is_value_type, call_has_value, has_value};
 ghost use Rattle.lowering.specs.Table.{into};
 ghost use Rattle.body_builder.specs.Fragments.{tree_in};
@@ -19,7 +20,7 @@ use tm_cint::{BinOp, IntType, represents_all};
 use tm_laid::Laid;
 use tm_lattice::NoMemory;
 use tm_terms::Place;
-use tm_typed::{CType, Lvalue, ObjectNumber, Rvalue, Scalar, Step};
+use tm_typed::{CType, GivenCell, Lvalue, ObjectNumber, Rvalue, Scalar, Step, is_pointer_scalar};
 
 /// Whether an operator compares.
 pub fn is_comparison(operator: BinOp) -> bool
@@ -32,7 +33,7 @@ pub fn is_comparison(operator: BinOp) -> bool
 }
 
 /// A conversion, where it makes an operation.
-pub(crate) fn conversion(from: IntType, to: IntType) -> Option<(IntType, IntType)>
+pub fn conversion(from: IntType, to: IntType) -> Option<(IntType, IntType)>
     ensures { result ≡ conversion from to }
 {
     if represents_all(to, from) {
@@ -47,16 +48,6 @@ pub fn is_same_place(one: Place, other: Place) -> bool
     ensures { result ≡ is_same_place one other }
 {
     one.line == other.line && one.col == other.col
-}
-
-/// Whether a scalar is a pointer.
-pub fn is_pointer_scalar(scalar: Scalar) -> bool
-    ensures { result ≡ is_pointer_scalar scalar }
-{
-    match scalar {
-        Scalar::Int(_) => false,
-        Scalar::Pointer(_) => true,
-    }
 }
 
 /// The operator of `++` or `--`.
@@ -120,7 +111,7 @@ pub fn rvalue_place(value: &Rvalue) -> Place
 }
 
 /// The implied conversion around an operand.
-pub(crate) fn implied(value: &Rvalue) -> Option<(IntType, IntType)>
+pub fn implied(value: &Rvalue) -> Option<(IntType, IntType)>
     ensures { result ≡ implied (rvalue_tree value.now) }
 {
     match value {
@@ -303,5 +294,25 @@ pub(crate) fn into(laid: &Laid, path: u32, lvalue: &Lvalue) -> Result<Into, NoMe
         Lvalue::Pointed { .. } => Ok(Into::Pointed),
         Lvalue::Arrow { .. } => Ok(Into::Pointed),
         Lvalue::Member { structure, .. } => into(laid, path, structure),
+    }
+}
+
+/// Whether a cell is the next one that is given.
+pub fn is_given(cell: u32, given: &[GivenCell]) -> bool
+    ensures { result ≡ is_given cell (map given_tree given.now) }
+{
+    match given {
+        [first, ..] => first.cell == cell,
+        [] => false,
+    }
+}
+
+/// The given cells behind the first one, if that is the present cell.
+pub fn rest_of(is_given: bool, given: &[GivenCell]) -> &[GivenCell]
+    ensures { map given_tree result.now ≡ rest_of is_given (map given_tree given.now) }
+{
+    match given {
+        [_, rest @ ..] if is_given => rest,
+        _ => given,
     }
 }

@@ -4,7 +4,7 @@ ghost use Rattle.tm_typed.specs.TypedTrees.{lvalue_tree, rated, operand_tree};
 ghost use Rattle.tm_typed.specs.Refusals.{Gives};
 ghost use Rattle.tm_typed.specs.Scopes.{ctype_of};
 ghost use Rattle.tm_typed.specs.Rules.{pointer_subscript, lvalue_subscript, subscript_rules, member_type};
-ghost use Rattle.tm_typed.specs.Rules.{is_volatile_pointer, dot_rules, arrow_rules};
+ghost use Rattle.tm_typed.specs.Rules.{dot_rules, arrow_rules};
 
 use crate::conversions::loaded;
 use crate::forms::{designated, refused};
@@ -107,12 +107,6 @@ fn member_type(of: Qualified, part: Part) -> Qualified
     part.of.qualified_as(of)
 }
 
-fn is_volatile_pointer(scope: &Scope, of: Qualified) -> bool
-    ensures { result ≡ is_volatile_pointer scope.now of }
-{
-    of.volatile && scope.entry(of.number).of_pointers
-}
-
 /// `e.m`
 pub(crate) fn dot(
     alloc: Global,
@@ -131,7 +125,7 @@ pub(crate) fn dot(
                 None => refused(Kind::Undeclared, name_place),
                 Some(member) => {
                     let to = member_type(of, member.part);
-                    if is_volatile_pointer(scope, to) {
+                    if scope.is_volatile_pointer(to) {
                         return refused(Kind::Unsupported, place);
                     }
                     designated(
@@ -170,7 +164,7 @@ pub(crate) fn arrow(
                 None => refused(Kind::Undeclared, name_place),
                 Some(member) => {
                     let to = member_type(of, member.part);
-                    if is_volatile_pointer(scope, to) {
+                    if scope.is_volatile_pointer(to) {
                         return refused(Kind::Unsupported, place);
                     }
                     designated(

@@ -12,9 +12,10 @@ ghost use Rattle.c_typing_state.specs.Steps.{StepsTo};
 ghost use Rattle.c_initialisers.specs.GivenCells.{given_trees};
 ghost use Rattle.c_initialisers.specs.reading.Pushed.{Pushes};
 
-use crate::parts::{cell_behind, is_aggregate, lone, part};
+use crate::parts::{is_aggregate, lone, part};
 use crate::static_values::static_value;
 use c_expr_rules::{given, valued};
+use c_scope::clipped_sum;
 use c_type_names::refusal;
 use c_typing_state::State;
 use std::alloc::Global;
@@ -159,7 +160,7 @@ fn push_values(
     'values: for (index, value) in values.iter().enumerate() {
         match part(state.scope(), of, index) {
             Some(part) => {
-                let at = cell_behind(cell, part.cell);
+                let at = clipped_sum(cell, part.cell);
                 match push_value(alloc, is_static, state, part.of.number, at, value, cells) {
                     Ok(()) => {}
                     Err(fail) => return Err(fail),

@@ -3,28 +3,13 @@ ghost use Rattle.std.specs.Prelude.{◌≡◌, ◌+◌, ◌*◌, option_map, sli
 ghost use Rattle.tm_terms.specs.ExprTrees.{tree_of};
 ghost use Rattle.tm_trees.specs.DeclarationTrees.{value_tree, as_values};
 ghost use Rattle.tm_typed.specs.Scopes.{structure};
-ghost use Rattle.tm_typed.specs.TypeRows.{clipped};
 ghost use Rattle.tm_typed.specs.Initialisers.{part_of, part, is_aggregate, lone};
 ghost use Rattle.c_initialisers.specs.reading.Parts.{element_in};
 
-use c_scope::Scope;
+use c_scope::{Scope, clipped_product};
 use tm_terms::Expr;
 use tm_trees::Value;
 use tm_typed::{CType, Part, Qualified};
-
-/// A cell behind another, as which all beyond 65,536 are 65,537.
-pub(crate) fn cell_behind(cell: u32, by: u32) -> u32
-    ensures { result ≡ clipped (cell + by) }
-{
-    (u64::from(cell) + u64::from(by)).min(65537) as u32
-}
-
-// The first cell of an element of an array.
-fn element_cell(index: u32, cells: u32) -> u32
-    ensures { result ≡ clipped (index * cells) }
-{
-    (u64::from(index) * u64::from(cells)).min(65537) as u32
-}
 
 // An element of an array.
 fn element(scope: &Scope, of: u32, length: u32, index: usize) -> Option<Part>
@@ -37,7 +22,7 @@ fn element(scope: &Scope, of: u32, length: u32, index: usize) -> Option<Part>
                 constant: false,
                 volatile: false,
             },
-            cell: element_cell(index as u32, scope.cells(of)),
+            cell: clipped_product(index as u32, scope.cells(of)),
         })
     } else {
         None

@@ -6,10 +6,10 @@ ghost use Rattle.tm_terms.specs.declared.refusals.Limit.TheVariants as Limits;
 use crate::characters::character;
 use crate::constants::constant_of;
 use crate::gaps::{comment, line_comment, skipped_line};
-use crate::runs::{Run, is_blank, is_name_start, run_length};
+use crate::runs::{Run, is_name_start, run_length};
 use crate::signs::sign_of;
 use crate::words::word_of;
-use tm_terms::{Name, Piece, Shape, byte_at, front};
+use tm_terms::{Name, Piece, Shape, byte_at, front, is_blank};
 
 // The word with this spelling, or else the name that stands at this byte.
 fn word_or_name(at: u32, text: &[u8]) -> Shape

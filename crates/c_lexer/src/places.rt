@@ -1,8 +1,7 @@
 ghost use Rattle.std.specs.Prelude.{◌≡◌, ◌+◌, ◌<◌, ◌≤◌, ◌^◌, length};
 ghost use Rattle.tm_terms.specs.Spelling.{bare_after, place_after};
 
-use crate::runs::is_blank;
-use tm_terms::Place;
+use tm_terms::{Place, is_blank};
 
 /// The place behind a text that begins at a place.
 pub fn place_after(place: Place, text: &[u8]) -> Place

@@ -1,8 +1,9 @@
 ghost use Rattle.std.specs.Prelude.{◌≡◌, ◌<◌, ◌≤◌, true, length, slice_index};
 ghost use Rattle.std.specs.List.{prefix_len};
-ghost use Rattle.tm_terms.specs.Lexis.{digit_value, is_digit_in, is_name_byte, is_name_start};
-ghost use Rattle.tm_terms.specs.Splices.{is_blank};
+ghost use Rattle.tm_terms.specs.Lexis.{digit_value, is_digit_in, is_name_start};
 ghost use Rattle.c_lexer.specs.reading.Runs.{belongs};
+
+use tm_terms::{is_blank, is_name_byte};
 
 /// A kind of run of bytes.
 #[derive(Clone, Copy)]
@@ -21,22 +22,10 @@ pub enum Run {
     Digits(u8),
 }
 
-pub fn is_blank(byte: u8) -> bool
-    ensures { result ≡ is_blank byte }
-{
-    byte == b' ' || (b'\t' <= byte && byte <= b'\r')
-}
-
 pub fn is_name_start(byte: u8) -> bool
     ensures { result ≡ is_name_start byte }
 {
     byte.is_ascii_alphabetic() || byte == b'_'
-}
-
-pub fn is_name_byte(byte: u8) -> bool
-    ensures { result ≡ is_name_byte byte }
-{
-    byte.is_ascii_alphanumeric() || byte == b'_'
 }
 
 /// The value of a digit, of `a` to `f` and `A` to `F` too.

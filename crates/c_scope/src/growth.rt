@@ -1,5 +1,5 @@
 //! What changes a scope: names and tags that are declared, blocks that begin and end, and rows of the tables.
-ghost use Rattle.std.specs.Prelude.{◌≡◌, ◌*◌, ◌<◌, ◌≤◌, length, take, map, slice_get, slice_set, get_or, true, false};
+ghost use Rattle.std.specs.Prelude.{◌≡◌, ◌+◌, ◌*◌, ◌<◌, ◌≤◌, length, take, map, slice_get, slice_set, get_or, true, false};
 ghost use Rattle.std.specs.Prelude.{[], ◌∷◌, ◌++◌, OnOk, OnErr, IfOk};
 ghost use Rattle.tm_typed.specs.Scopes.{structure_of, function_of, structure, entry};
 ghost use Rattle.tm_typed.specs.TypeRows.{is_founded, apart_from_const, cells_in, abstract_cells_in, size_in};
@@ -345,8 +345,15 @@ impl Scope {
 
 // ## Numbers
 
-// A number of cells, as which all greater than 65,536 are 65,537.
-fn clipped_product(left: u32, right: u32) -> u32
+/// A number of cells, as which all greater than 65,536 are 65,537.
+pub fn clipped_sum(left: u32, right: u32) -> u32
+    ensures { result ≡ clipped (left + right) }
+{
+    (u64::from(left) + u64::from(right)).min(65537) as u32
+}
+
+/// A number of cells, as which all greater than 65,536 are 65,537.
+pub fn clipped_product(left: u32, right: u32) -> u32
     ensures { result ≡ clipped (left * right) }
 {
     (u64::from(left) * u64::from(right)).min(65537) as u32

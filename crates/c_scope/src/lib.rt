@@ -15,7 +15,7 @@ mod structures;
 mod types;
 
 pub use declarations::{Bindings, Declaration, Declarations, Tags};
-pub use growth::Outside;
+pub use growth::{Outside, clipped_product, clipped_sum};
 pub use scopes::Scope;
 pub use starts::ScopeTables;
 pub use structures::Structures;

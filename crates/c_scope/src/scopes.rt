@@ -4,6 +4,7 @@ ghost use Rattle.tm_typed.specs.Scopes.{function_of, structure_of, no_structure,
 ghost use Rattle.tm_typed.specs.Scopes.{tagged_here, entry, ctype_of, is_same_type, structure, is_complete, cells_of};
 ghost use Rattle.tm_typed.specs.Scopes.{abstract_cells_of, size_of, tight_size_of, alignment_of, member_of};
 ghost use Rattle.tm_typed.specs.Operands.{scalar_of};
+ghost use Rattle.tm_typed.specs.Rules.{is_volatile_pointer};
 ghost use Rattle.tm_typed.specs.Structures.{are_from_zero};
 ghost use Rattle.tm_typed.specs.TypeRows.{number_in};
 
@@ -12,7 +13,9 @@ use crate::structures::Structures;
 use crate::types::Types;
 use std::marker::Model;
 use tm_terms::Name;
-use tm_typed::{CType, FunctionEntry, Member, Named, Scalar, StructEntry, Tagged, TypeEntry};
+use tm_typed::{
+    CType, FunctionEntry, Member, Named, Qualified, Scalar, StructEntry, Tagged, TypeEntry,
+};
 
 /// What is visible, innermost declarations last, and the tables of types, structures and functions.
 #[derive(Drop)]
@@ -91,6 +94,13 @@ impl Scope {
         ensures { result ≡ entry self.now number }
     {
         self.types.entry(number)
+    }
+
+    /// Whether a type is a volatile pointer, or an array of such.
+    pub fn is_volatile_pointer(&self, of: Qualified) -> bool
+        ensures { result ≡ is_volatile_pointer self.now of }
+    {
+        of.volatile && self.entry(of.number).of_pointers
     }
 
     /// The type with this number.

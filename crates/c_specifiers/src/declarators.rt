@@ -9,7 +9,7 @@ ghost use Rattle.tm_typed.specs.Declarators.{lengths_behind, lengths_of, whole, 
 ghost use Rattle.c_typing_state.specs.Steps.{StepsTo};
 
 use c_scope::Scope;
-use c_type_names::{bare, is_volatile_pointer, refusal};
+use c_type_names::{bare, refusal};
 use c_typing_state::{State, folded_value};
 use std::alloc::Global;
 use std::collections::VecDeque;
@@ -205,7 +205,7 @@ fn whole(scope: &Scope, shape: Shape) -> Shape
     ensures { result ≡ (whole (shape, scope.now)).0 }
 {
     Shape {
-        left_out: shape.left_out || is_volatile_pointer(scope, shape.of),
+        left_out: shape.left_out || scope.is_volatile_pointer(shape.of),
         ..shape
     }
 }

@@ -1,11 +1,11 @@
 //! The members of a structure, one behind the other (C99 6.7.2.1).
 ghost use Rattle.std.specs.Prelude.{◌≡◌, ◌+◌, ◌++◌, [], ◌∷◌, true, false, OnOk};
 ghost use Rattle.tm_typed.specs.Scopes.{structure_of};
-ghost use Rattle.tm_typed.specs.TypeRows.{clipped, wrapped};
+ghost use Rattle.tm_typed.specs.TypeRows.{wrapped};
 ghost use Rattle.tm_typed.specs.Structures.{no_layout, padding, aligned, tight, with_member, has_member};
 ghost use Rattle.tm_typed.specs.Structures.{completed_structure};
 
-use c_scope::Scope;
+use c_scope::{Scope, clipped_sum};
 use std::alloc::Global;
 use std::marker::Model;
 use tm_lattice::NoMemory;
@@ -133,13 +133,6 @@ impl Layout {
 }
 
 // ## Numbers
-
-// A number of cells, as which all greater than 65,536 are 65,537.
-fn clipped_sum(left: u32, right: u32) -> u32
-    ensures { result ≡ clipped (left + right) }
-{
-    (u64::from(left) + u64::from(right)).min(65537) as u32
-}
 
 // A number of bytes modulo 2^32.
 fn wrapped_sum(left: u32, right: u32) -> u32

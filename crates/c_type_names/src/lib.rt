@@ -10,7 +10,7 @@ mod preparation;
 mod said;
 mod words;
 
-pub use pointers::{bare, is_void, is_volatile_pointer, type_of_name};
+pub use pointers::{bare, is_void, type_of_name};
 pub use preparation::{add_pointers, add_struct_tag, mention, prepare};
 pub use said::{base, int_number, nothing_said, plain, said_type};
 pub use words::{refusal, word};

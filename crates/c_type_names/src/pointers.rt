@@ -2,7 +2,7 @@
 ghost use Rattle.std.specs.Prelude.{◌≡◌, OnOk, IfOk};
 ghost use Rattle.tm_terms.specs.ExprTrees.{type_tree};
 ghost use Rattle.tm_typed.specs.Refusals.{Gives};
-ghost use Rattle.tm_typed.specs.TypeNames.{is_void, is_volatile_pointer, is_no_target, bare, pointer_to, pointer_word};
+ghost use Rattle.tm_typed.specs.TypeNames.{is_void, is_no_target, bare, pointer_to, pointer_word};
 ghost use Rattle.tm_typed.specs.TypeNames.{with_pointer_word, pointed_in, is_star, is_void_star, cast_type};
 ghost use Rattle.tm_typed.specs.TypeNames.{type_of_name};
 
@@ -23,18 +23,11 @@ pub fn is_void(ctype: CType) -> bool
     }
 }
 
-/// Whether it is a volatile pointer, or an array of such.
-pub fn is_volatile_pointer(scope: &Scope, of: Qualified) -> bool
-    ensures { result ≡ is_volatile_pointer scope.now of }
-{
-    of.volatile && scope.entry(of.number).of_pointers
-}
-
 // Whether a pointer to this type is left out.
 fn is_no_target(scope: &Scope, of: Qualified) -> bool
     ensures { result ≡ is_no_target scope.now of }
 {
-    is_void(scope.ctype(of.number)) || is_volatile_pointer(scope, of)
+    is_void(scope.ctype(of.number)) || scope.is_volatile_pointer(of)
 }
 
 /// A declarator of which nothing is read yet.
@@ -132,7 +125,7 @@ fn cast_type(scope: &Scope, of: Qualified, words: &[PointerWord]) -> CastType
             && is_void(scope.ctype(of.number))
             && !of.constant
             && !of.volatile,
-        is_left_out: shape.left_out || is_volatile_pointer(scope, shape.of),
+        is_left_out: shape.left_out || scope.is_volatile_pointer(shape.of),
     }
 }
 

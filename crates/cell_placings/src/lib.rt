@@ -24,6 +24,6 @@ mod walks;
 pub use cell_graphs::CellGraph;
 pub use cell_sets::CellSet;
 pub use checks::{are_placed, cells_at, has_cell};
-pub use finding::found_owners;
+pub use finding::{found_owners, sets_of};
 pub use owners::Owners;
 pub use placings::{CellPlacing, checked_placing, place_cells};

@@ -3,7 +3,7 @@
 
 use crate::cell_lists::{add_mutexes, mutexes_at, no_mutexes, push_all};
 use crate::operations::{is_store, loaded_by, temporaries_in};
-use cell_placings::{CellSet, cells_at};
+use cell_placings::{CellSet, cells_at, sets_of};
 use edge_actions::is_shared_cell;
 use flow_graph::Edge;
 use mutex_configs::ConfiguredGraph;
@@ -36,15 +36,6 @@ fn loaded_cells(
         }
     }
     Ok(lists)
-}
-
-// The lists as sets.
-fn sets_of(alloc: Global, lists: Vec<Vec<usize>>) -> Result<Vec<CellSet>, NoMemory> {
-    let mut sets = Vec::new(alloc);
-    for list in lists {
-        sets.push(CellSet::from_cells(list))?;
-    }
-    Ok(sets)
 }
 
 // Marks cells.

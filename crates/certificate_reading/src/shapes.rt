@@ -5,10 +5,9 @@ ghost use Rattle.edge_actions.specs.Layouts.{is_reachable};
 ghost use Rattle.certificate_reading.specs.reading.Shapes.{IsShape, IsShapeBefore};
 
 use crate::entries::file_set;
-use crate::values::extent_of;
 use edge_actions::{is_reachable, is_shared_cell};
 use std::alloc::Global;
-use temporary_extents::Extent;
+use temporary_extents::{Extent, scalar_extent};
 use tm_laid::Laid;
 use tm_lattice::NoMemory;
 
@@ -47,7 +46,7 @@ impl Shape {
     {
         let of = laid.abstract_cells[cell as usize];
         let seen = is_reachable(laid, task, of.object);
-        self.kinds.push(extent_of(of.scalar))?;
+        self.kinds.push(scalar_extent(of.scalar))?;
         self.marks.push(seen)?;
         if !seen {
             return Ok(());

@@ -5,7 +5,7 @@ ghost use Rattle.tm_laid.specs.Layouts.{abstract_at, laid_tree};
 ghost use Rattle.pointer_dom.specs.PointerSets.{no_pointer};
 ghost use Rattle.pointer_dom.specs.Values.{no_value};
 ghost use Rattle.transfer_rows.specs.StateForms.{only_pointers};
-ghost use Rattle.temporary_extents.specs.Extents.{AreBetween, IsWithin, scalar_extent, type_extent};
+ghost use Rattle.temporary_extents.specs.Extents.{AreBetween, IsWithin};
 ghost use Rattle.post_recheck.specs.typed_values.Types.{IsOfType};
 ghost use Rattle.certificate_words.specs.Words.{AreWords, tag};
 ghost use Rattle.certificate_words.specs.Lines.{words_of};
@@ -16,11 +16,9 @@ use certificate_words::Word;
 use pointer_dom::{AbsValue, PointerSet};
 use std::alloc::Global;
 use strided_dom::Strided;
-use temporary_extents::Extent;
-use tm_cint::IntType;
+use temporary_extents::{Extent, scalar_extent};
 use tm_laid::Laid;
 use tm_lattice::{Lattice, NoMemory};
-use tm_typed::Scalar;
 
 /// Whether the words say that there is no value.
 fn is_nothing(words: &[Word]) -> bool
@@ -136,26 +134,6 @@ pub(crate) fn value_in(
     }
 }
 
-/// What a cell of this type may hold.
-pub(crate) fn extent_of(scalar: Scalar) -> Extent
-    ensures { result ≡ scalar_extent scalar }
-{
-    match scalar {
-        Scalar::Int(of) => extent_of_type(of),
-        Scalar::Pointer(_) => Extent::Pointers,
-    }
-}
-
-/// What a cell of an integer type may hold.
-fn extent_of_type(of: IntType) -> Extent
-    ensures { result ≡ type_extent of }
-{
-    Extent::Between {
-        low: of.lo(),
-        high: of.hi(),
-    }
-}
-
 /// The value of a cell that the words are. None where they are those of no value of the cell's type.
 pub(crate) fn cell_value_in(
     alloc: Global,
@@ -171,6 +149,6 @@ pub(crate) fn cell_value_in(
     ensures { let a = abstract_at (laid_tree laid.now) cell in
         IfOk result (IsReadValue (IsOfType (laid_tree laid.now) a.scalar) (words_of words.now)) }
 {
-    let extent = extent_of(laid.abstract_cells[cell as usize].scalar);
+    let extent = scalar_extent(laid.abstract_cells[cell as usize].scalar);
     value_in(alloc, words, laid, sizes, &extent)
 }

@@ -11,8 +11,7 @@ use Rattle.concrete_values.specs.tm_typed.TypedTrees.{a_pointer_step, a_function
 use Rattle.concrete_values.specs.tm_typed.TypedTrees.{a_conversion}
 use Rattle.concrete_values.specs.tm_typed.TypedTrees.{a_discard, lvalue_place}
 use Rattle.concrete_values.specs.tm_typed.declared.types.CType.{CType}
-use Rattle.concrete_values.specs.tm_typed.declared.types.Scalar.{Scalar}
-use Rattle.concrete_values.specs.tm_typed.declared.types.Scalar.TheVariants as Scalars
+pub use Rattle.concrete_values.specs.tm_typed.Types.{is_pointer_scalar}
 use Rattle.concrete_values.specs.tm_typed.TypeRows.{is_pointer_type}
 use Rattle.concrete_values.specs.tm_typed.Files.{TypedFunctionTree, no_typed_function}
 use Rattle.concrete_values.specs.tm_laid.TypeCells.{entry_of}
@@ -50,10 +49,6 @@ rvalue_place (a_discard e p) = p
 -- the type of a function's result
 abbrev pub result_type : LaidTree → TypedFunctionTree → CType
 result_type laid f = (entry_of laid.file f.result).ctype
-
-abbrev pub is_pointer_scalar : Scalar → Bool
-is_pointer_scalar (Scalars.Int t) = false
-is_pointer_scalar (Scalars.Pointer class) = true
 
 -- whether its value is a pointer
 abbrev pub gives_pointer : LaidTree → RvalueTree → Bool

@@ -12,7 +12,7 @@ use Rattle.alarm_contexts.specs.declared.alarm_context.AlarmContexts.{AlarmConte
 use Rattle.notes_json.specs.Operations.{role_at}
 use Rattle.program_notes.specs.Edges.{edge_body, is_first}
 use Rattle.note_lines.specs.declared.names.ObjectName.{ObjectName}
-use Rattle.note_lines.specs.Names.{place_head}
+use Rattle.tm_terms.specs.Texts.{place_head}
 use Rattle.note_lines.specs.OperationWords.{operation_text}
 use Rattle.note_lines.specs.OperandTexts.{word_if, operand_text, flaw_lines}
 

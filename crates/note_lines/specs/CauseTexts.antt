@@ -16,7 +16,8 @@ use Rattle.alarm_causes.specs.declared.advices.Cause.TheVariants as Causes
 use Rattle.alarm_causes.specs.declared.advices.Advice.{Advice}
 use Rattle.notes_json.specs.Operations.{role_at}
 use Rattle.note_lines.specs.declared.names.ObjectName.{ObjectName}
-use Rattle.note_lines.specs.Names.{place_head, spelled}
+use Rattle.tm_terms.specs.Texts.{place_head}
+use Rattle.note_lines.specs.Names.{spelled}
 use Rattle.note_lines.specs.AlarmTexts.{runner_text}
 use Rattle.note_lines.specs.OperandTexts.{word_if}
 

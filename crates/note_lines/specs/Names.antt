@@ -1,9 +1,7 @@
 -- Names of tasks, mutexes and objects, byte for byte as in the source.
 use Rattle.std.specs.Prelude.{ℕ, zero, suc, cond, List, [], ◌++◌, map, codes, slice_get, Option, Some, None}
-use Rattle.tm_terms.specs.declared.places.Place.{Place}
 use Rattle.tm_terms.specs.declared.tokens.Name.{Name}
 use Rattle.tm_terms.specs.Spelling.{text_of}
-use Rattle.tm_terms.specs.Texts.{place_text}
 use Rattle.tm_typed.specs.declared.files.TypedTask.{TypedTask}
 use Rattle.tm_typed.specs.declared.files.MutexEntry.{MutexEntry}
 use Rattle.tm_typed.specs.Files.{TypedFunctionTree}
@@ -34,10 +32,6 @@ mutex_names laid = (let file = laid.file in map (λ (e : MutexEntry). e.name) fi
 
 abbrev pub object_names : LaidTree → List ObjectName
 object_names laid = map (λ (o : LaidObject). record { name = o.name; place = o.place }) laid.objects
-
--- LINE:COL and a blank
-abbrev pub place_head : Place → List ℕ
-place_head place = place_text place ++ codes " "
 
 module _ (bytes : List ℕ) where
   -- the bytes of a name, if there is one

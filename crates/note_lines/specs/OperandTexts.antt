@@ -14,7 +14,7 @@ use Rattle.tm_terms.specs.Texts.{line_of}
 use Rattle.alarm_contexts.specs.declared.flaws.ObjectFlaw.{ObjectFlaw}
 use Rattle.program_notes.specs.Flaws.{flaw_text}
 use Rattle.note_lines.specs.declared.names.ObjectName.{ObjectName}
-use Rattle.note_lines.specs.Names.{place_head}
+use Rattle.tm_terms.specs.Texts.{place_head}
 use Rattle.note_lines.specs.RaceTexts.{object_at}
 
 -- a word where it is so, else nothing

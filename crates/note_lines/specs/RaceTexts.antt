@@ -7,7 +7,8 @@ use Rattle.tm_terms.specs.Texts.{line_of}
 use Rattle.access_groups.specs.declared.object_access.ObjectAccess.{ObjectAccess}
 use Rattle.access_groups.specs.declared.object_access.AccessGroup.{AccessGroup}
 use Rattle.note_lines.specs.declared.names.ObjectName.{ObjectName}
-use Rattle.note_lines.specs.Names.{no_name, place_head, name_at, names_below}
+use Rattle.tm_terms.specs.Texts.{place_head}
+use Rattle.note_lines.specs.Names.{no_name, name_at, names_below}
 
 -- what an access does, and whether it races
 abbrev pub kind_text : Bool → List ℕ

@@ -5,7 +5,8 @@ use Rattle.tm_terms.specs.declared.tokens.Name.{Name}
 use Rattle.tm_terms.specs.Texts.{line_of, place_text}
 use Rattle.request_circles.specs.declared.requests.Request.{Request}
 use Rattle.request_circles.specs.declared.rings.Ring.{Ring}
-use Rattle.note_lines.specs.Names.{place_head, name_at, names_below}
+use Rattle.tm_terms.specs.Texts.{place_head}
+use Rattle.note_lines.specs.Names.{name_at, names_below}
 
 -- LINE:COL RING LENGTH
 abbrev pub ring_head : Ring → List ℕ

@@ -7,14 +7,13 @@ ghost use Rattle.note_lines.specs.AlarmTexts.{operand_at, operands_below, alarm_
 use crate::names::Names;
 use crate::operand_lines::{push_flaws, push_operand, word_if};
 use crate::operation_words::push_operation;
-use crate::spelling::place_head;
 use alarm_contexts::{AlarmContexts, ContextEdge};
 use flow_graph::Operation;
-use notes_json::{push_bytes, role_at, text_of};
+use notes_json::role_at;
 use program_notes::{edge_body, is_first};
 use std::alloc::Global;
 use tm_lattice::NoMemory;
-use tm_terms::{Name, class_word};
+use tm_terms::{Name, class_word, place_head, push_bytes, text_of};
 
 /// The function of the body with this number.
 pub(crate) fn runner_text<'a>(bytes: &'a [u8], tasks: &[Name], number: u32) -> &'a [u8]

@@ -9,11 +9,11 @@ use crate::alarm_lines::{count_line, push_alarm};
 use crate::names::Names;
 use alarm_contexts::AlarmContexts;
 use mutex_configs::Program;
-use notes_json::push_bytes;
 use post_recheck::ProgramFacts;
 use program_notes::operation_of;
 use std::alloc::Global;
 use tm_lattice::NoMemory;
+use tm_terms::push_bytes;
 
 /// The texts of alarms, and then their number.
 pub fn alarms_text(

@@ -13,17 +13,16 @@ ghost use Rattle.note_lines.specs.CauseTexts.{advice_at, causes_text};
 use crate::alarm_lines::runner_text;
 use crate::names::{Names, ObjectName};
 use crate::operand_lines::word_if;
-use crate::spelling::place_head;
 use alarm_causes::{Advice, Cause, Step, StepKind};
 use alarm_contexts::AlarmContexts;
 use flow_graph::Operation;
 use mutex_configs::Program;
-use notes_json::{push_bytes, role_at, text_of};
+use notes_json::role_at;
 use post_recheck::ProgramFacts;
 use program_notes::operation_of;
 use std::alloc::Global;
 use tm_lattice::NoMemory;
-use tm_terms::{Place, class_word};
+use tm_terms::{Place, class_word, place_head, push_bytes, text_of};
 
 /// What a step comes to, in a word.
 fn step_word(kind: StepKind) -> &'static [u8]

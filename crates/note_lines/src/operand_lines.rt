@@ -7,15 +7,13 @@ ghost use Rattle.note_lines.specs.OperandTexts.{flaw_line, flaw_lines};
 
 use crate::names::Names;
 use crate::race_lines::object_at;
-use crate::spelling::place_head;
 use alarm_contexts::ObjectFlaw;
-use notes_json::{push_bytes, text_of};
 use pointer_dom::{AbsValue, Offsets, PointerSet};
 use program_notes::flaw_text;
 use std::alloc::Global;
 use strided_dom::Strided;
 use tm_lattice::NoMemory;
-use tm_terms::Place;
+use tm_terms::{Place, place_head, push_bytes, text_of};
 
 /// A word where it is so, else nothing.
 pub(crate) fn word_if(is: bool, word: &'static [u8]) -> &'static [u8]

@@ -5,11 +5,11 @@ ghost use Rattle.note_lines.specs.OperationWords.{elements_text, cells_text, loc
 
 use crate::spelling::name_at;
 use flow_graph::Operation;
-use notes_json::{binary_text, push_bytes, type_text, unary_text};
+use notes_json::{binary_text, type_text, unary_text};
 use std::alloc::Global;
 use tm_cint::IntType;
 use tm_lattice::NoMemory;
-use tm_terms::Name;
+use tm_terms::{Name, push_bytes};
 
 /// The sign of pointer arithmetic (C99 6.5.6).
 fn moved_text(minus: bool) -> &'static [u8]

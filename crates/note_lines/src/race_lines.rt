@@ -5,12 +5,11 @@ ghost use Rattle.note_lines.specs.RaceTexts.{access_back, access_line, group_hea
 ghost use Rattle.note_lines.specs.RaceTexts.{count_line};
 
 use crate::names::{Names, ObjectName};
-use crate::spelling::{name_at, place_head, push_names};
+use crate::spelling::{name_at, push_names};
 use access_groups::{AccessGroup, ObjectAccess};
-use notes_json::{push_bytes, text_of};
 use std::alloc::Global;
 use tm_lattice::NoMemory;
-use tm_terms::{Name, Place};
+use tm_terms::{Name, Place, place_head, push_bytes, text_of};
 
 /// What an access does.
 fn kind_text(stores: bool) -> &'static [u8]

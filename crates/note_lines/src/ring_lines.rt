@@ -3,11 +3,11 @@ ghost use Rattle.std.specs.Prelude.{◌≡◌, ◌++◌, IfOk, OnOk, string_byte
 ghost use Rattle.note_lines.specs.RingTexts.{request_line, ring_head, ring_text, rings_text, count_line};
 
 use crate::names::Names;
-use crate::spelling::{name_at, place_head, push_names};
-use notes_json::push_bytes;
+use crate::spelling::{name_at, push_names};
 use request_circles::{Request, Ring};
 use std::alloc::Global;
 use tm_lattice::NoMemory;
+use tm_terms::{place_head, push_bytes};
 
 /// Appends the line of a request.
 fn push_request(

@@ -1,12 +1,11 @@
 //! Names and places in texts.
 ghost use Rattle.std.specs.Prelude.{◌≡◌, ◌++◌, IfOk, OnOk, string_bytes};
-ghost use Rattle.note_lines.specs.Names.{place_head, name_at, held_name, names_below};
+ghost use Rattle.note_lines.specs.Names.{name_at, held_name, names_below};
 
-use notes_json::{push_bytes, text_of};
 use request_circles::has_mutex;
 use std::alloc::Global;
 use tm_lattice::NoMemory;
-use tm_terms::{Name, Place};
+use tm_terms::{Name, push_bytes, text_of};
 
 /// The bytes of a name, if there is one with this number.
 pub(crate) fn name_at<'a>(bytes: &'a [u8], names: &[Name], number: u32) -> &'a [u8]
@@ -48,16 +47,4 @@ pub(crate) fn push_names(
         push_held(text, bytes, mutexes, held, mutex)?;
     }
     Ok(())
-}
-
-/// A place, with a blank behind it.
-pub(crate) fn place_head(alloc: Global, place: Place) -> Result<String, NoMemory>
-    ensures { IfOk result (λ text. string_bytes text ≡ place_head place) }
-{
-    let line = place.line;
-    let col = place.col;
-    match format!(in alloc; "{line}:{col} ") {
-        Ok(text) => Ok(text),
-        Err(_) => Err(NoMemory),
-    }
 }

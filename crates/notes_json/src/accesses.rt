@@ -4,11 +4,11 @@ ghost use Rattle.notes_json.specs.Accesses.{set_text, kind_text, access_front, a
 ghost use Rattle.notes_json.specs.Accesses.{race_front, race_back, partner_text, request_text};
 ghost use Rattle.notes_json.specs.reading.Marks.{member_if};
 
-use crate::pieces::{push_bytes, push_comma_if, push_number, push_truth, push_word};
+use crate::pieces::{push_comma_if, push_number, push_truth, push_word};
 use request_circles::{Request, has_mutex};
 use std::alloc::Global;
 use tm_lattice::NoMemory;
-use tm_terms::Place;
+use tm_terms::{Place, push_bytes};
 
 /// Appends a mutex, if it is in the set, with a comma before it where others stand there.
 fn push_member_if(

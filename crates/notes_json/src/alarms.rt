@@ -4,13 +4,13 @@ ghost use Rattle.notes_json.specs.Alarms.{alarm_front, alarm_lines, alarm_middle
 ghost use Rattle.notes_json.specs.Alarms.{paths_front, race_middle, path_back};
 
 use crate::operations::{cells_of, length_of, mutex_of, operator_text, rule_text, type_of};
-use crate::pieces::{push_bytes, push_number, push_option, push_truth, push_word};
+use crate::pieces::{push_number, push_option, push_truth, push_word};
 use crate::words::type_text;
 use flow_graph::Operation;
 use std::alloc::Global;
 use tm_cint::{Class, IntType};
 use tm_lattice::NoMemory;
-use tm_terms::{Place, class_word};
+use tm_terms::{Place, class_word, push_bytes};
 
 /// Appends what stands of an alarm up to its function.
 pub fn push_alarm_front(

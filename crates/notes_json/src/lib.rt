@@ -26,5 +26,5 @@ pub use names::{
 };
 pub use operands::{push_number_operand, push_offsets, push_pointer_back, push_pointer_front};
 pub use operations::role_at;
-pub use pieces::{push_bytes, push_comma, push_comma_if, push_number, push_place, text_of};
+pub use pieces::{push_comma, push_comma_if, push_number, push_place};
 pub use words::{binary_text, type_text, unary_text};

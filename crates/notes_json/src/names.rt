@@ -4,10 +4,10 @@ ghost use Rattle.notes_json.specs.Names.{is_none, priority_text, task_text, mute
 ghost use Rattle.notes_json.specs.Names.{signed_text, object_front, line_text, range_text, member_text, object_back};
 ghost use Rattle.std.specs.Fmt.{signed_decimal};
 
-use crate::pieces::{push_bytes, push_number, push_truth, push_word};
+use crate::pieces::{push_number, push_truth, push_word};
 use std::alloc::Global;
 use tm_lattice::NoMemory;
-use tm_terms::Place;
+use tm_terms::{Place, push_bytes};
 
 /// Appends the priority of a task, or that it is the initial section.
 fn push_priority(alloc: Global, text: &mut Vec<u8>, priority: Option<u8>) -> Result<(), NoMemory>

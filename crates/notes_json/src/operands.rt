@@ -4,13 +4,14 @@ ghost use Rattle.strided_dom.specs.Progression.{empty};
 ghost use Rattle.notes_json.specs.Operands.{high_text, low_text, step_text, some_high, some_low, some_step};
 ghost use Rattle.notes_json.specs.Operands.{offsets_text, number_operand, pointer_front, pointer_back};
 
-use crate::pieces::{push_bytes, push_number, push_truth, push_word};
+use crate::pieces::{push_number, push_truth, push_word};
 use crate::words::type_text;
 use pointer_dom::{AbsValue, Offsets};
 use std::alloc::Global;
 use strided_dom::Strided;
 use tm_cint::IntType;
 use tm_lattice::NoMemory;
+use tm_terms::push_bytes;
 
 /// The greatest number of a set.
 fn some_high(alloc: Global, numbers: Strided) -> Result<String, NoMemory>

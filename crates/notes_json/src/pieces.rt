@@ -1,40 +1,11 @@
 //! Pieces of JSON.
 ghost use Rattle.std.specs.Prelude.{◌≡◌, ◌++◌, IfOk, OnOk, string_bytes, decimal};
-ghost use Rattle.tm_terms.specs.Spelling.{text_of};
 ghost use Rattle.notes_json.specs.Pieces.{comma_before, comma_if, number_text, option_text, word_text, truth_text};
 ghost use Rattle.notes_json.specs.Pieces.{place_text};
 
 use std::alloc::Global;
 use tm_lattice::NoMemory;
-use tm_terms::{Name, Place};
-
-/// Appends bytes.
-pub fn push_bytes(text: &mut Vec<u8>, bytes: &[u8]) -> Result<(), NoMemory>
-    ensures { OnOk result (text.new.items ≡ text.old.items ++ bytes.now) }
-{
-    match text.extend_from_slice(bytes) {
-        Ok(()) => Ok(()),
-        Err(_) => Err(NoMemory),
-    }
-}
-
-/// The bytes of a name.
-pub fn text_of(bytes: &[u8], name: Name) -> &[u8]
-    ensures { result.now ≡ text_of bytes.now name }
-{
-    let start = name.start as usize;
-    let count = name.length as usize;
-    let rest = if start < bytes.len() {
-        &bytes[start..]
-    } else {
-        &[]
-    };
-    if count < rest.len() {
-        &rest[..count]
-    } else {
-        rest
-    }
-}
+use tm_terms::{Place, push_bytes};
 
 /// Appends the comma that stands before what is at this place in a list, except at the first.
 pub fn push_comma(text: &mut Vec<u8>, at: usize) -> Result<(), NoMemory>

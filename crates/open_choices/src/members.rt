@@ -1,9 +1,8 @@
 //! MEMBER: pointers that leave the array into which they point, and ends that are compared with other objects.
 ghost use Rattle.std.specs.Prelude.{◌≡◌, ◌⊎◌, ◌↔◌, ◌≤◌, ◌≢◌, ℤ, pos, not, length, IsTrue, IfOk};
-ghost use Rattle.strided_dom.specs.Progression.{Has, IsExactly, empty};
-ghost use Rattle.strided_dom.specs.Combinations.{IsProduct};
+ghost use Rattle.strided_dom.specs.Progression.{Has, empty};
 ghost use Rattle.pointer_dom.specs.OffsetSets.{AreEnds};
-ghost use Rattle.pointer_dom.specs.Advances.{IsInteger, IsShortStep, directed};
+ghost use Rattle.pointer_dom.specs.Advances.{IsInteger, IsShortStep};
 ghost use Rattle.tm_laid.specs.tm_typed.TypedFiles.{typed_file_tree};
 ghost use Rattle.tm_laid.specs.Layable.{IsLayable};
 ghost use Rattle.post_recheck.specs.transfer_rows.StateForms.{value_of};
@@ -18,30 +17,10 @@ use cell_types::stands_at;
 use operand_orders::BodyView;
 use part_extents::{Extent, array_at};
 use path_origins::Form;
-use pointer_dom::{AbsValue, Ends, Offsets, PointerSet};
+use pointer_dom::{AbsValue, Ends, Offsets, PointerSet, distances};
 use std::alloc::Global;
 use strided_dom::Strided;
 use tm_lattice::NoMemory;
-
-// The number of cells, negative where the way is back.
-fn signed_cells(minus: bool, cells: u32) -> i128
-    ensures { result ≡ directed (not minus) cells }
-{
-    if minus {
-        -i128::from(cells)
-    } else {
-        i128::from(cells)
-    }
-}
-
-// The distances in cells.
-fn distances(minus: bool, cells: u32, counts: &Strided) -> Strided
-    requires { (n : ℤ) → Has counts.now n → IsInteger n }
-    ensures distances { IsExactly (IsProduct counts.now (directed (not minus) cells)) result }
-    ensures short { (n : ℤ) → Has result n → IsShortStep n }
-{
-    counts.times(signed_cells(minus, cells))
-}
 
 // Whether one of the steps from an offset leads out of an array, or to its end where nothing tells it from the next
 // object.
@@ -215,7 +194,7 @@ pub(crate) fn is_moved_away(
     };
     let none = PointerSet::new(view.alloc);
     let counts = numbers_of(state, by);
-    let steps = distances(minus, cells, &counts);
+    let steps = distances(!minus, cells, &counts);
     moves_away(view, target, pointers_of(state, source, &none), &steps)
 }
 

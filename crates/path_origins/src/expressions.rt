@@ -27,13 +27,11 @@ use crate::operators::walk_operator;
 use crate::origins::{Form, Life, Notes, Passed, Span};
 use crate::types::{Given, converted, given_by, held_by};
 use crate::walks::{Here, Wanted};
-use body_builder::{
-    callee, is_pointer_scalar, is_same_place, more, object_of, result_type, rvalue_place, type_at,
-};
+use body_builder::{callee, is_same_place, more, object_of, result_type, rvalue_place, type_at};
 use tm_laid::{Laid, object_at};
 use tm_lattice::NoMemory;
 use tm_terms::Place;
-use tm_typed::{CType, ObjectNumber, Qualified, Rvalue};
+use tm_typed::{CType, ObjectNumber, Qualified, Rvalue, is_pointer_scalar};
 
 /// An expression, for its value or as a branch; and what it gives. Whether its value is used counts for calls alone.
 pub(crate) fn walk_value(

@@ -1,6 +1,5 @@
 //! What the walk looks up.
 ghost use Rattle.std.specs.Prelude.{◌≡◌, is_some, MatchOption};
-ghost use Rattle.tm_cint.specs.Conversions.{represents_all};
 ghost use Rattle.tm_typed.specs.TypedTrees.{rvalue_tree};
 ghost use Rattle.tm_typed.specs.Files.{no_typed_function};
 ghost use Rattle.tm_typed.specs.TypedFiles.{typed_function_tree};
@@ -8,8 +7,8 @@ ghost use Rattle.tm_laid.specs.Layouts.{laid_tree};
 ghost use Rattle.body_builder.specs.concrete_steps.NextAction.{function_at};
 ghost use Rattle.body_builder.specs.lowering.Table.{conversion, implied};
 
-use body_builder::{function_on, is_same_place, rvalue_place};
-use tm_cint::{IntType, represents_all};
+use body_builder::{conversion, function_on, implied};
+use tm_cint::IntType;
 use tm_laid::Laid;
 use tm_terms::Place;
 use tm_typed::{Rvalue, TypedFunction};
@@ -21,7 +20,7 @@ pub(crate) const NOWHERE: Place = Place { line: 0, col: 0 };
 pub(crate) fn is_conversion(from: IntType, to: IntType) -> bool
     ensures { result ≡ is_some (conversion from to) }
 {
-    !represents_all(to, from)
+    conversion(from, to).is_some()
 }
 
 /// Whether an operand is converted once all operands are evaluated: its conversion stands at its own place, and makes
@@ -29,21 +28,7 @@ pub(crate) fn is_conversion(from: IntType, to: IntType) -> bool
 pub(crate) fn is_implied(value: &Rvalue) -> bool
     ensures { result ≡ is_some (implied (rvalue_tree value.now)) }
 {
-    match value {
-        Rvalue::Convert {
-            from,
-            to,
-            value,
-            place,
-        } => {
-            if is_same_place(*place, rvalue_place(value)) {
-                is_conversion(*from, *to)
-            } else {
-                false
-            }
-        }
-        _ => false,
-    }
+    implied(value).is_some()
 }
 
 /// The function of a path.

@@ -24,11 +24,11 @@ use crate::types::{
     Given, class_target, computed, held_by, is_changed, is_either_changed, number_if,
 };
 use crate::walks::{Here, Wanted};
-use body_builder::{is_comparison, is_pointer_scalar, rvalue_place, type_at};
+use body_builder::{is_comparison, rvalue_place, type_at};
 use tm_cint::{BinOp, IntType};
 use tm_lattice::NoMemory;
 use tm_terms::Place;
-use tm_typed::{Lvalue, Qualified, Rvalue, Scalar};
+use tm_typed::{Lvalue, Qualified, Rvalue, Scalar, is_pointer_scalar};
 
 /// An operator, or else what changes an object.
 #[cycle(walk)]

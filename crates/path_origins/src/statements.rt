@@ -4,7 +4,6 @@ ghost use Rattle.tm_typed.specs.TypedTrees.{rvalue_tree};
 ghost use Rattle.tm_typed.specs.TypedStatements.{typed_tree, as_typed_trees, typed_case, as_typed_cases};
 ghost use Rattle.tm_typed.specs.TypedStatements.{optional_rvalue_tree, given_tree, local_tree, local_initialiser_tree};
 ghost use Rattle.tm_laid.specs.Layouts.{laid_tree, object_at};
-ghost use Rattle.body_builder.specs.concrete_steps.NextAction.{is_given, rest_of};
 ghost use Rattle.body_builder.specs.lowering.Table.{is_scalar_object};
 ghost use Rattle.path_origins.specs.Noted.{nothing, behind, sequenced};
 ghost use Rattle.path_origins.specs.Expressions.{walked};
@@ -28,7 +27,9 @@ use crate::notes::{
 };
 use crate::origins::{Form, Life, Notes, Span};
 use crate::walks::{Here, Wanted};
-use body_builder::{is_value_type, more, object_of, result_type, rvalue_place, type_at};
+use body_builder::{
+    is_given, is_value_type, more, object_of, rest_of, result_type, rvalue_place, type_at,
+};
 use part_extents::cell_type;
 use source_names::Inside;
 use tm_laid::object_at;
@@ -457,26 +458,6 @@ fn is_alone(here: &Here<'_>, object: u32, cell: u32) -> bool
         return false;
     }
     is_value_type(type_at(here.laid, object_at(here.laid, object).of.number))
-}
-
-// Whether a cell is the next one that is given.
-fn is_given(cell: u32, given: &[GivenCell]) -> bool
-    ensures { result ≡ is_given cell (map given_tree given.now) }
-{
-    match given {
-        [first, ..] => first.cell == cell,
-        [] => false,
-    }
-}
-
-// The given cells behind the first one, if that is the present cell.
-fn rest_of(is_given: bool, given: &[GivenCell]) -> &[GivenCell]
-    ensures { map given_tree result.now ≡ rest_of is_given (map given_tree given.now) }
-{
-    match given {
-        [_, rest @ ..] if is_given => rest,
-        _ => given,
-    }
 }
 
 // The given value of a cell of an object of a type.

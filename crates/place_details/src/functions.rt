@@ -1,11 +1,10 @@
 //! In which function of a text a place stands.
 
 ghost use Rattle.std.specs.Prelude.{◌≡◌, ◌<◌, ◌≤◌, ◌+◌, ◌^◌, length};
-ghost use Rattle.tm_terms.specs.Lexis.{is_name_byte};
 ghost use Rattle.place_details.specs.Functions.{body_behind, bytes_in, called_behind, is_outside};
 ghost use Rattle.place_details.specs.Functions.{nothing, one_more, open_behind, scanned, step, word_behind};
 
-use tm_terms::{behind, front};
+use tm_terms::{behind, front, is_name_byte};
 
 /// From one byte of a text to before another.
 #[derive(Clone, Copy)]
@@ -32,13 +31,6 @@ const NOWHERE: Span = Span { start: 0, end: 0 };
 
 /// The number of open brackets that is never left.
 const MOST_OPEN: usize = 1_000_000_000;
-
-/// Whether a byte belongs to a name or a number.
-pub fn is_name_byte(byte: u8) -> bool
-    ensures { result ≡ is_name_byte byte }
-{
-    byte.is_ascii_alphanumeric() || byte == b'_'
-}
 
 /// One open bracket more.
 fn one_more(number: usize) -> usize

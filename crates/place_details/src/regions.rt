@@ -1,16 +1,13 @@
 //! Where a place begins and ends in its line of the file.
 
 ghost use Rattle.std.specs.Prelude.{◌≡◌, ◌<◌, ◌≤◌, ◌+◌, ◌^◌, length, map, IfOk};
-ghost use Rattle.std.specs.List.{prefix_len};
-ghost use Rattle.tm_terms.specs.Lexis.{is_name_byte};
 ghost use Rattle.place_details.specs.Regions.{begin_alike, column_behind, evened, is_doubled, is_pair};
 ghost use Rattle.place_details.specs.Regions.{region_at, region_behind, sign_length, takes_equals, token_length};
 ghost use Rattle.place_details.specs.Regions.{units_in};
 
-use crate::functions::is_name_byte;
 use source_marks::is_blank;
 use std::alloc::{AllocError, Global};
-use tm_terms::{behind, byte_at, front};
+use tm_terms::{behind, byte_at, front, is_name_byte, name_length};
 
 /// What is known of where a place stands in its line of the file: the line alone, the column at which it begins, or that
 /// one and the column behind its token.
@@ -92,19 +89,6 @@ fn sign_length(text: &[u8]) -> usize
     }
 }
 
-/// How many bytes the word has that begins a text.
-fn word_length(text: &[u8]) -> usize
-    ensures value { result ≡ prefix_len is_name_byte text.now }
-    ensures within { result ≤ length text.now }
-{
-    for (i, byte) in text.iter().enumerate() {
-        if !is_name_byte(*byte) {
-            return i;
-        }
-    }
-    text.len()
-}
-
 /// How many bytes the token has that begins a text.
 fn token_length(text: &[u8]) -> usize
     ensures value { result ≡ token_length text.now }
@@ -114,7 +98,7 @@ fn token_length(text: &[u8]) -> usize
     if first <= b' ' {
         0
     } else if is_name_byte(first) {
-        word_length(text)
+        name_length(text)
     } else {
         sign_length(text)
     }

@@ -52,7 +52,7 @@ impl PointerSet {
 }
 
 /// The distances in cells: `counts` times so many cells, forward or back.
-fn distances(forward: bool, cells: u32, counts: &Strided) -> Strided
+pub fn distances(forward: bool, cells: u32, counts: &Strided) -> Strided
     requires { (n : ℤ) → Has counts.now n → IsInteger n }
     ensures distances { IsExactly (IsProduct counts.now (directed forward cells)) result }
     ensures short { (n : ℤ) → Has result n → IsShortStep n }

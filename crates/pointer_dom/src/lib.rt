@@ -19,6 +19,7 @@ mod removals;
 
 pub use abs_value::{AbsValue, Parts};
 pub use advances::Reached;
+pub use arithmetic::distances;
 pub use comparisons::{PointerValue, equality};
 pub use dereferences::Layout;
 pub use offsets::{Ends, Offsets};

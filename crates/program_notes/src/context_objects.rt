@@ -12,10 +12,11 @@ use flow_graph::Operation;
 use note_details::AlarmDetails;
 use notes_json::{
     push_alarm_back, push_alarm_end, push_alarm_front, push_alarm_lines, push_alarm_middle,
-    push_comma, push_number, text_of,
+    push_comma, push_number,
 };
 use std::alloc::Global;
 use tm_lattice::NoMemory;
+use tm_terms::text_of;
 
 /// Appends the task of an edge, if it is the first of that task. The first edge of all is one.
 fn push_task_if(

@@ -3,10 +3,11 @@ ghost use Rattle.std.specs.Prelude.{◌≡◌, ◌≤◌, ◌++◌, OnOk, length
 ghost use Rattle.program_notes.specs.Guards.{held_at, held_count, better, guard_of, guard_text};
 
 use access_groups::ObjectAccess;
-use notes_json::{push_bytes, push_number};
+use notes_json::push_number;
 use request_circles::has_mutex;
 use std::alloc::Global;
 use tm_lattice::NoMemory;
+use tm_terms::push_bytes;
 
 /// A mutex, and at how many accesses it is held.
 #[derive(Clone, Copy)]

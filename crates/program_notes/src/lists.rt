@@ -4,10 +4,10 @@ ghost use Rattle.notes_json.specs.Pieces.{listed, place_text};
 ghost use Rattle.program_notes.specs.Lists.{runner_text, mutex_text};
 
 use crate::declarations::{Declaration, Runner};
-use notes_json::{push_comma, push_mutex, push_place, push_task, text_of};
+use notes_json::{push_comma, push_mutex, push_place, push_task};
 use std::alloc::Global;
 use tm_lattice::NoMemory;
-use tm_terms::Place;
+use tm_terms::{Place, text_of};
 
 /// Appends a task.
 fn push_runner(

@@ -9,11 +9,12 @@ ghost use Rattle.program_notes.specs.reading.Choices.{first_of, noted, object_wi
 use crate::declarations::DeclaredObject;
 use note_details::{MemberBounds, ObjectDetails};
 use notes_json::{
-    push_bytes, push_comma, push_comma_if, push_line, push_member, push_object_back,
-    push_object_front, push_range, text_of,
+    push_comma, push_comma_if, push_line, push_member, push_object_back, push_object_front,
+    push_range,
 };
 use std::alloc::Global;
 use tm_lattice::NoMemory;
+use tm_terms::{push_bytes, text_of};
 use value_ranges::ObjectBounds;
 
 /// The first of bounds.

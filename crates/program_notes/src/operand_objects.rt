@@ -10,13 +10,13 @@ use crate::flaws::flaw_text;
 use alarm_contexts::ObjectFlaw;
 use flow_graph::Operation;
 use notes_json::{
-    push_bytes, push_comma, push_number_operand, push_offsets, push_pointer_back,
-    push_pointer_front, role_at,
+    push_comma, push_number_operand, push_offsets, push_pointer_back, push_pointer_front, role_at,
 };
 use pointer_dom::{AbsValue, Offsets};
 use std::alloc::Global;
 use tm_cint::IntType;
 use tm_lattice::NoMemory;
+use tm_terms::push_bytes;
 
 /// Whether a flaw is one of the object.
 fn is_of(object: u32, flaw: ObjectFlaw) -> bool

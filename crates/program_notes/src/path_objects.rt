@@ -4,10 +4,11 @@ ghost use Rattle.notes_json.specs.Pieces.{listed};
 ghost use Rattle.program_notes.specs.Paths.{path_text};
 
 use crate::lists::push_places;
-use notes_json::{push_bytes, push_comma, push_path_back};
+use notes_json::{push_comma, push_path_back};
 use source_names::NotedPath;
 use std::alloc::Global;
 use tm_lattice::NoMemory;
+use tm_terms::push_bytes;
 
 /// Appends a call path.
 fn push_path(alloc: Global, text: &mut Vec<u8>, path: &NotedPath) -> Result<(), NoMemory>

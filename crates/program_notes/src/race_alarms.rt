@@ -8,12 +8,11 @@ use crate::path_objects::push_paths;
 use access_groups::ObjectAccess;
 use note_details::{AlarmDetails, RaceAccess};
 use notes_json::{
-    push_bytes, push_comma, push_number, push_partner, push_race_back, push_race_front,
-    push_race_middle, text_of,
+    push_comma, push_number, push_partner, push_race_back, push_race_front, push_race_middle,
 };
 use std::alloc::Global;
 use tm_lattice::NoMemory;
-use tm_terms::Place;
+use tm_terms::{Place, push_bytes, text_of};
 
 /// Appends accesses with which another one races.
 fn push_partners(

@@ -7,9 +7,10 @@ ghost use Rattle.program_notes.specs.GroupTexts.{member_at, access_object, membe
 use crate::guards::{guard_of, push_guard};
 use crate::operand_objects::number_of;
 use access_groups::{AccessGroup, ObjectAccess};
-use notes_json::{push_access, push_bytes, push_comma, push_number};
+use notes_json::{push_access, push_comma, push_number};
 use std::alloc::Global;
 use tm_lattice::NoMemory;
+use tm_terms::push_bytes;
 
 /// The member that the access at this place reaches.
 fn member_at(members: &[Vec<u8>], at: usize) -> &[u8]

@@ -13,11 +13,11 @@ use crate::noted::Contents;
 use crate::object_objects::push_objects;
 use crate::race_objects::push_groups;
 use mutex_configs::Program;
-use notes_json::{push_bytes, push_number};
+use notes_json::push_number;
 use post_recheck::ProgramFacts;
 use std::alloc::Global;
 use tm_lattice::NoMemory;
-use tm_terms::Alarm;
+use tm_terms::{Alarm, push_bytes};
 
 /// Appends how many alarms there are.
 fn push_count(alloc: Global, text: &mut Vec<u8>, report: &[Alarm]) -> Result<(), NoMemory>

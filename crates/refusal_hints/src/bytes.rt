@@ -2,23 +2,9 @@
 
 ghost use Rattle.std.specs.Prelude.{◌≡◌, ◌<◌, ◌≤◌, true, length, slice_index};
 ghost use Rattle.std.specs.List.{prefix_len};
-ghost use Rattle.tm_terms.specs.Lexis.{is_name_byte};
-ghost use Rattle.tm_terms.specs.Splices.{is_blank};
 ghost use Rattle.refusal_hints.specs.Words.{is_word_byte};
 
-/// Whether a byte is a blank.
-pub fn is_blank(byte: u8) -> bool
-    ensures { result ≡ is_blank byte }
-{
-    byte == b' ' || (b'\t' <= byte && byte <= b'\r')
-}
-
-/// Whether a byte is a letter, a digit or `_`.
-pub fn is_name_byte(byte: u8) -> bool
-    ensures { result ≡ is_name_byte byte }
-{
-    byte.is_ascii_alphanumeric() || byte == b'_'
-}
+use tm_terms::is_name_byte;
 
 /// Whether a byte is a letter, a digit, `_` or `@`.
 pub fn is_word_byte(byte: u8) -> bool

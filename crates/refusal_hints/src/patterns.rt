@@ -7,9 +7,8 @@ ghost use Rattle.refusal_hints.specs.Patterns.{is_character, is_e, is_in, is_inn
 ghost use Rattle.refusal_hints.specs.Patterns.{is_name, is_number, is_prefixed, is_sign};
 ghost use Rattle.refusal_hints.specs.reading.Seen.{words_seen};
 
-use crate::bytes::is_name_byte;
 use crate::classes::{is_keyword, is_listed};
-use tm_terms::byte_at;
+use tm_terms::{byte_at, is_name_byte};
 
 /// Whether a word is a name, and no keyword.
 fn is_name(word: &[u8]) -> bool

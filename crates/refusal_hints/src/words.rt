@@ -5,10 +5,10 @@ ghost use Rattle.refusal_hints.specs.Words.{begins_comment, begins_line, comment
 ghost use Rattle.refusal_hints.specs.Words.{literal_length, piece_length, words_from, words_of};
 ghost use Rattle.refusal_hints.specs.reading.Seen.{words_seen};
 
-use crate::bytes::{is_blank, is_word_byte, word_length};
+use crate::bytes::{is_word_byte, word_length};
 use std::alloc::Global;
 use tm_lattice::NoMemory;
-use tm_terms::{behind, byte_at, line_length};
+use tm_terms::{behind, byte_at, is_blank, line_length};
 
 /// How many bytes a comment takes behind its `/*`.
 fn comment_length(text: &[u8]) -> usize

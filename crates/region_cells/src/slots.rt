@@ -1,30 +1,9 @@
 //! Slots: one for each object, and behind these one for each scalar type.
 ghost use Rattle.std.specs.Prelude.{◌≡◌, ◌<◌, ◌^◌};
-ghost use Rattle.tm_typed.specs.Types.{int_index};
 ghost use Rattle.region_cells.specs.reading.Slots.{scalar_number, object_slot, into_slot, slot_of};
 
 use flow_graph::{Into, Operation};
-use tm_cint::IntType;
-use tm_typed::Scalar;
-
-fn int_number(of: IntType) -> usize
-    ensures value { result ≡ int_index of }
-    ensures small { result < 11 }
-{
-    match of {
-        IntType::Bool => 0,
-        IntType::Char => 1,
-        IntType::UChar => 2,
-        IntType::Short => 3,
-        IntType::UShort => 4,
-        IntType::Int => 5,
-        IntType::UInt => 6,
-        IntType::Long => 7,
-        IntType::ULong => 8,
-        IntType::LLong => 9,
-        IntType::ULLong => 10,
-    }
-}
+use tm_typed::{Scalar, int_index};
 
 // The number of a scalar type: the integer types in their order, then pointers by their classes.
 pub(crate) fn scalar_number(scalar: Scalar) -> usize
@@ -32,7 +11,7 @@ pub(crate) fn scalar_number(scalar: Scalar) -> usize
     ensures small { result < 2 ^ 33 }
 {
     match scalar {
-        Scalar::Int(of) => int_number(of),
+        Scalar::Int(of) => int_index(of) as usize,
         Scalar::Pointer(class) => 11 + class as usize,
     }
 }

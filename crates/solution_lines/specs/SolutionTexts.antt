@@ -3,7 +3,7 @@ use Rattle.std.specs.Prelude.{ℕ, ℤ, List, ◌++◌, length, codes, decimal}
 use Rattle.std.specs.Fmt.{signed_decimal}
 use Rattle.std.specs.List.{flat_map}
 use Rattle.tm_terms.specs.declared.places.Place.{Place}
-use Rattle.tm_terms.specs.Texts.{line_of, place_text}
+use Rattle.tm_terms.specs.Texts.{line_of, place_head, place_text}
 
 -- ## Circular waits
 
@@ -20,9 +20,6 @@ abbrev pub waits_text : List Place → List ℕ
 waits_text places = flat_map wait_line places ++ waits_count_line (length places)
 
 -- ## Ranges
-
-abbrev pub place_head : Place → List ℕ
-place_head place = place_text place ++ codes " "
 
 abbrev pub number_texts : ℤ → ℤ → List ℕ
 number_texts low high = line_of (codes " " ++ (signed_decimal low ++ (codes " " ++ signed_decimal high)))

@@ -1,11 +1,11 @@
 //! The lines.
 ghost use Rattle.std.specs.Prelude.{◌≡◌, ◌++◌, IfOk, OnOk, string_bytes};
-ghost use Rattle.solution_lines.specs.SolutionTexts.{dead_line, dead_text, number_texts, place_head, range_line};
+ghost use Rattle.solution_lines.specs.SolutionTexts.{dead_line, dead_text, number_texts, range_line};
 ghost use Rattle.solution_lines.specs.SolutionTexts.{dead_count_line, wait_line, waits_count_line, waits_text};
 
 use std::alloc::Global;
 use tm_lattice::NoMemory;
-use tm_terms::Place;
+use tm_terms::{Place, place_head, push_bytes};
 
 /// Appends the line of a place at which a task may wait.
 fn push_wait(text: &mut String, place: Place) -> Result<(), NoMemory>
@@ -41,28 +41,6 @@ pub fn waits_text(alloc: Global, places: &[Place]) -> Result<String, NoMemory>
     Ok(text)
 }
 
-/// Appends bytes.
-fn push_bytes(text: &mut Vec<u8>, bytes: &[u8]) -> Result<(), NoMemory>
-    ensures { OnOk result (text.new.items ≡ text.old.items ++ bytes.now) }
-{
-    match text.extend_from_slice(bytes) {
-        Ok(()) => Ok(()),
-        Err(_) => Err(NoMemory),
-    }
-}
-
-/// What stands before the name in the line of an object.
-fn head_of(alloc: Global, place: Place) -> Result<String, NoMemory>
-    ensures { IfOk result (λ text. string_bytes text ≡ place_head place) }
-{
-    let line = place.line;
-    let col = place.col;
-    match format!(in alloc; "{line}:{col} ") {
-        Ok(text) => Ok(text),
-        Err(_) => Err(NoMemory),
-    }
-}
-
 /// What stands behind it.
 fn numbers_of(alloc: Global, low: i128, high: i128) -> Result<String, NoMemory>
     ensures { IfOk result (λ text. string_bytes text ≡ number_texts low high) }
@@ -85,7 +63,7 @@ pub fn push_range(
 ) -> Result<(), NoMemory>
     ensures { OnOk result (text.new.items ≡ text.old.items ++ range_line place name.now low high) }
 {
-    let head = head_of(alloc, place)?;
+    let head = place_head(alloc, place)?;
     let numbers = numbers_of(alloc, low, high)?;
     push_bytes(text, head.as_bytes())?;
     push_bytes(text, name)?;

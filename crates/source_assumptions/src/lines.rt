@@ -2,10 +2,11 @@
 ghost use Rattle.std.specs.Prelude.{◌≡◌, ◌++◌, IfOk, OnOk};
 ghost use Rattle.source_assumptions.specs.Lines.{choice_line, choices_text};
 
-use notes_json::{push_bytes, push_number};
+use notes_json::push_number;
 use std::alloc::Global;
 use text_choices::Choice;
 use tm_lattice::NoMemory;
+use tm_terms::push_bytes;
 
 // Appends the line of a choice.
 fn push_choice(alloc: Global, text: &mut Vec<u8>, choice: Choice) -> Result<(), NoMemory>

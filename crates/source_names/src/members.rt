@@ -2,11 +2,11 @@
 ghost use Rattle.std.specs.Prelude.{◌≡◌, length};
 
 use crate::steps::{Down, Inside, step_down};
-use notes_json::{push_bytes, push_number, text_of};
+use notes_json::push_number;
 use std::alloc::Global;
 use tm_laid::Laid;
 use tm_lattice::NoMemory;
-use tm_terms::Name;
+use tm_terms::{Name, push_bytes, text_of};
 
 // An array of so many elements and more is told apart in no element, so it is shown whole.
 const SMASHED: u32 = 65;

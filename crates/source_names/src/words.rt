@@ -6,11 +6,11 @@ ghost use Rattle.source_names.specs.TypeWords.{qualifier_words, no_tag, tag_word
 ghost use Rattle.source_names.specs.TypeWords.{pointed, measured, one_read, all_read, nothing_read, type_words};
 ghost use Rattle.source_names.specs.reading.Suffixes.{outside_of, is_base};
 
-use notes_json::{push_bytes, push_number, text_of, type_text};
+use notes_json::{push_number, type_text};
 use std::alloc::Global;
 use tm_laid::type_at;
 use tm_lattice::NoMemory;
-use tm_terms::Name;
+use tm_terms::{Name, push_bytes, text_of};
 use tm_typed::{CType, Qualified, TypedFile};
 
 // Appends a word, if it is to stand.

@@ -2,27 +2,17 @@
 ghost use Rattle.std.specs.Prelude.{◌≡◌, OnOk, IfOk};
 ghost use Rattle.tm_typed.specs.TypedStatements.{optional_rvalue_tree};
 ghost use Rattle.flow_graph.specs.declared.operations.Operation.TheVariants as Op;
-ghost use Rattle.body_builder.specs.lowering.Built.{temp_of, nowhere, back_to, place_result, result_of};
+ghost use Rattle.body_builder.specs.lowering.Built.{nowhere, back_to, place_result, result_of};
 ghost use Rattle.body_builder.specs.Fragments.{tree_in, so_far};
 ghost use Rattle.statement_builder.specs.Waiting.{way_of};
 ghost use Rattle.statement_builder.specs.reading.Statements.{reached, onward_of, left, goes_on, returned};
 
 use crate::meeting::nowhere;
 use crate::passed::{Onward, Passed, Pending, Way};
-use body_builder::{Fragment, Here, build_operand};
+use body_builder::{Fragment, Here, build_operand, temp_of};
 use flow_graph::Operation;
 use tm_lattice::NoMemory;
 use tm_typed::Rvalue;
-
-/// The temporary of a value that is used.
-pub(crate) fn temp_of(temp: Option<u32>) -> u32
-    ensures { result ≡ temp_of temp }
-{
-    match temp {
-        Some(temp) => temp,
-        None => 0,
-    }
-}
 
 // The way back to a head.
 fn back_to(here: &Here<'_>, to: &mut Fragment, head: u32) -> Result<(), NoMemory>

@@ -10,8 +10,10 @@ ghost use Rattle.body_builder.specs.Placing.{Gives};
 ghost use Rattle.statement_builder.specs.reading.Locals.{nothing_in, value_in, part_in, cell_in, cells_in};
 ghost use Rattle.statement_builder.specs.reading.Locals.{initialised_in, local_in};
 
-use crate::leaving::temp_of;
-use body_builder::{Fragment, Here, build_operand, is_value_type, object_of, scalar_at, type_at};
+use body_builder::{
+    Fragment, Here, build_operand, is_given, is_value_type, object_of, rest_of, scalar_at, temp_of,
+    type_at,
+};
 use concrete_values::{Pointer, Value};
 use flow_graph::{Into, Operation};
 use tm_laid::Laid;
@@ -53,26 +55,6 @@ fn is_alone(laid: &Laid, object: u32, cell: u32) -> bool
     ensures { (path : ℕ) → result ≡ is_alone (tree_in laid.now) path object cell }
 {
     cell == 0 && is_scalar_object(laid, object)
-}
-
-// Whether a cell is the next one that is given.
-fn is_given(cell: u32, given: &[GivenCell]) -> bool
-    ensures { result ≡ is_given cell (map given_tree given.now) }
-{
-    match given {
-        [first, ..] => first.cell == cell,
-        [] => false,
-    }
-}
-
-// The given cells behind the first one, if that is the present cell.
-fn rest_of(is_given: bool, given: &[GivenCell]) -> &[GivenCell]
-    ensures { map given_tree result.now ≡ rest_of is_given (map given_tree given.now) }
-{
-    match given {
-        [_, rest @ ..] if is_given => rest,
-        _ => given,
-    }
 }
 
 // What a cell holds that no initialiser gives: zero or null.

@@ -6,11 +6,10 @@ ghost use Rattle.body_builder.specs.Fragments.{tree_in};
 ghost use Rattle.statement_builder.specs.reading.Statements.{reached, placed, gone, joined, cut, effected, declared};
 ghost use Rattle.statement_builder.specs.reading.Statements.{forked, worth};
 
-use crate::leaving::temp_of;
 use crate::locals::build_locals;
 use crate::meeting::nowhere;
 use crate::passed::Passed;
-use body_builder::{Fragment, Here, build_condition, build_operand};
+use body_builder::{Fragment, Here, build_condition, build_operand, temp_of};
 use flow_graph::Operation;
 use tm_lattice::NoMemory;
 use tm_typed::{LocalObject, Rvalue};

@@ -3,7 +3,7 @@ ghost use Rattle.std.specs.Prelude.{◌≡◌, option_map, option_copied};
 ghost use Rattle.tm_typed.specs.TypedTrees.{rvalue_tree};
 ghost use Rattle.tm_typed.specs.TypeRows.{is_pointer_type};
 ghost use Rattle.tm_laid.specs.Layouts.{laid_tree};
-ghost use Rattle.concrete_steps.specs.Places.{is_pointer_scalar, gives_pointer, rvalue_place};
+ghost use Rattle.concrete_steps.specs.Places.{gives_pointer, rvalue_place};
 ghost use Rattle.task_interpreter.specs.reading.Direct.{tried};
 ghost use Rattle.task_interpreter.specs.reading.Lists.{form_in};
 
@@ -12,16 +12,7 @@ use crate::objects::result_of;
 use concrete_values::{Answer, Next, Value, usable};
 use tm_laid::Laid;
 use tm_terms::Place;
-use tm_typed::{CType, Rvalue, Scalar};
-
-fn is_pointer_scalar(scalar: Scalar) -> bool
-    ensures { result ≡ is_pointer_scalar scalar }
-{
-    match scalar {
-        Scalar::Int(_) => false,
-        Scalar::Pointer(_) => true,
-    }
-}
+use tm_typed::{CType, Rvalue, is_pointer_scalar};
 
 fn is_pointer_type(of: CType) -> bool
     ensures { result ≡ is_pointer_type of }

@@ -125,7 +125,8 @@ fn type_extent(of: IntType) -> Extent
     }
 }
 
-fn scalar_extent(scalar: Scalar) -> Extent
+/// What a scalar of this type may hold.
+pub fn scalar_extent(scalar: Scalar) -> Extent
     ensures { result ≡ scalar_extent scalar }
 {
     match scalar {

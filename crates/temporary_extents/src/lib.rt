@@ -9,5 +9,5 @@
 mod extents;
 mod laws;
 
-pub use extents::{Extent, extents_in};
+pub use extents::{Extent, extents_in, scalar_extent};
 pub use laws::{extents_are_closed, extents_are_typed};

@@ -8,6 +8,7 @@ use Rattle.std.proofs.lemmas.List.{get_or-set_same, get_or-set_other, length-set
 use Rattle.std.proofs.lemmas.List.{append_assoc}
 use Rattle.std.proofs.lemmas.List.Elements.{All-head, All-tail}
 use Rattle.tm_typed.specs.tm_cint.declared.int_types.IntType.TheVariants as Ints
+use Rattle.tm_typed.specs.Types.{is_pointer_scalar}
 use Rattle.tm_typed.specs.declared.types.Scalar.{Scalar}
 use Rattle.tm_typed.specs.declared.types.Scalar.TheVariants as Scalars
 use Rattle.concrete_values.specs.tm_laid.Layouts.{LaidTree}
@@ -20,7 +21,7 @@ use Rattle.flow_graph.specs.Operations.{given}
 use Rattle.flow_graph.specs.Graphs.{Edges, Among}
 use Rattle.temporary_types.specs.Sorts.{Sort, numbers, pointers, sort_of_scalar, Within, IsOfSort, Gives, GivesTo}
 use Rattle.temporary_types.specs.Sorts.{FitsSorts, AreSorts, outcome_type}
-use Rattle.temporary_types.specs.PointerMarks.{is_pointer_value, is_pointer_scalar, gives_pointer, marked_at, marked}
+use Rattle.temporary_types.specs.PointerMarks.{is_pointer_value, gives_pointer, marked_at, marked}
 use Rattle.temporary_types.specs.PointerMarks.{marked_by, pointer_marks, IsGivenIn, IsCopyOfGiven, CopiesFollow}
 use Rattle.temporary_types.specs.PointerMarks.{AreCopiesOfGiven, is_pointers, Tells}
 

@@ -1,8 +1,7 @@
 -- Which temporaries hold pointers, as the operations that give them tell.
 use Rattle.std.specs.Prelude.{◌≡◌, ℕ, Bool, true, false, List, [], ◌∷◌, ◌++◌, replicate, slice_set, slice_index_or}
 use Rattle.std.specs.Prelude.{slice_get, Option, Some, None}
-use Rattle.tm_typed.specs.declared.types.Scalar.{Scalar}
-use Rattle.tm_typed.specs.declared.types.Scalar.TheVariants as Scalars
+use Rattle.tm_typed.specs.Types.{is_pointer_scalar}
 use Rattle.concrete_values.specs.declared.values.Value.{Value}
 use Rattle.concrete_values.specs.declared.values.Value.TheVariants.{Number, Pointer}
 use Rattle.flow_graph.specs.declared.operations.Operation.{Operation}
@@ -17,10 +16,6 @@ use Rattle.temporary_types.specs.Sorts.{Sort, numbers, pointers}
 abbrev pub is_pointer_value : Value → Bool
 is_pointer_value (Number z) = false
 is_pointer_value (Pointer p) = true
-
-abbrev pub is_pointer_scalar : Scalar → Bool
-is_pointer_scalar (Scalars.Int t) = false
-is_pointer_scalar (Scalars.Pointer class) = true
 
 -- what an operation gives is a pointer, where these temporaries hold pointers
 abbrev pub gives_pointer : List Bool → Operation → Bool

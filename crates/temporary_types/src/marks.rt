@@ -1,7 +1,6 @@
 //! Which temporaries hold pointers.
 ghost use Rattle.std.specs.Prelude.{◌≡◌, IfOk, false, replicate, slice_index_or};
-ghost use Rattle.tm_typed.specs.declared.types.Scalar.{Scalar};
-ghost use Rattle.temporary_types.specs.PointerMarks.{is_pointer_value, is_pointer_scalar, gives_pointer, marked};
+ghost use Rattle.temporary_types.specs.PointerMarks.{is_pointer_value, gives_pointer, marked};
 ghost use Rattle.temporary_types.specs.PointerMarks.{pointer_marks};
 
 use concrete_values::Value;
@@ -9,7 +8,7 @@ use flow_graph::{Graph, Operation};
 use graph_facts::given;
 use std::alloc::Global;
 use tm_lattice::NoMemory;
-use tm_typed::Scalar;
+use tm_typed::is_pointer_scalar;
 
 /// For each of so many temporaries whether it holds pointers, by one pass over the edges in order: an operation that
 /// gives an address, loads a pointer or is a pointer's constant marks what it gives, and a copy takes the mark of what
@@ -67,16 +66,6 @@ fn is_pointer_value(value: Value) -> bool
     match value {
         Value::Number(_) => false,
         Value::Pointer(_) => true,
-    }
-}
-
-// Whether a scalar is a pointer.
-fn is_pointer_scalar(scalar: Scalar) -> bool
-    ensures { result ≡ is_pointer_scalar scalar }
-{
-    match scalar {
-        Scalar::Int(_) => false,
-        Scalar::Pointer(_) => true,
     }
 }
 

@@ -1,7 +1,7 @@
 //! PRAGMA: lines that are skipped.
 ghost use Rattle.std.specs.Prelude.{◌≡◌, ◌≤◌, length, OnOk};
 ghost use Rattle.std.specs.List.{prefix_len};
-ghost use Rattle.tm_terms.specs.Lexis.{is_blank_in_line, is_name_byte};
+ghost use Rattle.tm_terms.specs.Lexis.{is_blank_in_line};
 ghost use Rattle.tm_terms.specs.Limits.{limit_number};
 ghost use Rattle.tm_terms.specs.declared.refusals.Limit.TheVariants as Limits;
 ghost use Rattle.text_choices.specs.Choices.{Adds, OfKind};
@@ -12,20 +12,13 @@ use crate::adding::add_where;
 use crate::kinds::{Choice, Kind};
 use c_lexer::{bare_after, begins, place_after};
 use tm_lattice::NoMemory;
-use tm_terms::{Place, Shape};
+use tm_terms::{Place, Shape, name_length};
 
 // Whether a byte is a blank within a line.
 fn is_blank_in_line(byte: u8) -> bool
     ensures { result ≡ is_blank_in_line byte }
 {
     (byte == b' ' || (b'\t' <= byte && byte <= b'\r')) && byte != b'\n'
-}
-
-// Whether a byte may stand in a name.
-fn is_name_byte(byte: u8) -> bool
-    ensures { result ≡ is_name_byte byte }
-{
-    byte.is_ascii_alphanumeric() || byte == b'_'
 }
 
 // How many blanks begin a text.
@@ -41,19 +34,6 @@ fn blanks(text: &[u8]) -> usize
     text.len()
 }
 
-// How many bytes of a name begin a text.
-fn name_bytes(text: &[u8]) -> usize
-    ensures value { result ≡ prefix_len is_name_byte text.now }
-    ensures within { result ≤ length text.now }
-{
-    for (i, byte) in text.iter().enumerate() {
-        if !is_name_byte(*byte) {
-            return i;
-        }
-    }
-    text.len()
-}
-
 // Whether a text begins with `#`, blanks and the word `pragma`.
 fn is_pragma(text: &[u8]) -> bool
     ensures { result ≡ is_pragma text.now }
@@ -63,7 +43,7 @@ fn is_pragma(text: &[u8]) -> bool
     }
     let rest = &text[1..];
     let rest = &rest[blanks(rest)..];
-    let word = &rest[..name_bytes(rest)];
+    let word = &rest[..name_length(rest)];
     word == b"pragma".as_slice()
 }
 

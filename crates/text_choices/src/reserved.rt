@@ -16,10 +16,9 @@ use crate::adding::add_where;
 use crate::kinds::{Choice, Kind};
 use crate::library_names::is_of_library;
 use indexmap::IndexMap;
-use notes_json::text_of;
 use std::alloc::Global;
 use tm_lattice::NoMemory;
-use tm_terms::{Name, Place, SpecWord, Storage};
+use tm_terms::{Name, Place, SpecWord, Storage, text_of};
 use tm_trees::{Declaration, Declarator, File, Function, InitDeclarator, Item, Specifier};
 
 // A declaration of a function, a task or an object at the level of the file.

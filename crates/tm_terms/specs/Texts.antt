@@ -25,6 +25,10 @@ line_of text = text ++ (10 ∷ [])
 abbrev pub place_text : Place → List ℕ
 place_text place = decimal place.line ++ (codes ":" ++ decimal place.col)
 
+-- a place, with a blank behind it
+abbrev pub place_head : Place → List ℕ
+place_head place = place_text place ++ codes " "
+
 -- the word of an error class
 abbrev pub class_text : Class → List ℕ
 class_text Overflow = codes "OVERFLOW"

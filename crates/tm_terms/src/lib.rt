@@ -17,11 +17,13 @@ mod tokens;
 mod types_named;
 
 pub use alarms::{Alarm, Report};
-pub use bytes::{behind, byte_at, front, line_length};
+pub use bytes::{
+    behind, byte_at, front, is_blank, is_name_byte, line_length, name_length, push_bytes, text_of,
+};
 pub use exprs::{Access, Binary, Expr, Infix, Level, Postfix, Prefix};
 pub use places::Place;
 pub use refusals::{Fail, Kind, Limit, Refusal};
-pub use texts::{class_word, plain, refusal_line, usage_line};
+pub use texts::{class_word, limit_word, place_head, plain, refusal_line, usage_line};
 pub use tm_cint::{BinOp, IntType};
 pub use tokens::{IntConstant, Longs, Name, Piece, Shape, Sign, Token, Word};
 pub use types_named::{

@@ -2,6 +2,7 @@
 
 ghost use Rattle.std.specs.Prelude.{◌≡◌, ◌++◌, IfOk, OnOk, string_bytes};
 ghost use Rattle.tm_terms.specs.Texts.{alarm_line, class_text, count_line, kind_line, kind_text, limit_line};
+ghost use Rattle.tm_terms.specs.Texts.{place_head};
 ghost use Rattle.tm_terms.specs.Texts.{limit_text, refusal_text, report_text, usage_text};
 
 use crate::alarms::{Alarm, Report};
@@ -49,7 +50,7 @@ fn kind_word(kind: Kind) -> &'static str
 }
 
 /// The word of a limit in a refusal.
-fn limit_word(limit: Limit) -> &'static str
+pub fn limit_word(limit: Limit) -> &'static str
     ensures { result.now ≡ limit_text limit }
 {
     match limit {
@@ -98,6 +99,18 @@ pub fn plain(alloc: Global, report: &Report) -> Result<String, NoMemory>
     }
     push_count(&mut text, report.alarms.len())?;
     Ok(text)
+}
+
+/// A place, with a blank behind it.
+pub fn place_head(alloc: Global, place: Place) -> Result<String, NoMemory>
+    ensures { IfOk result (λ text. string_bytes text ≡ place_head place) }
+{
+    let line = place.line;
+    let col = place.col;
+    match format!(in alloc; "{line}:{col} ") {
+        Ok(text) => Ok(text),
+        Err(_) => Err(NoMemory),
+    }
 }
 
 /// The line of a refusal that no limit makes.

@@ -11,7 +11,8 @@ use Rattle.tm_typed.specs.declared.types.CType.TheVariants as Types
 use Rattle.tm_typed.specs.declared.specifiers.Shape.{Shape}
 use Rattle.tm_typed.specs.Scopes.{Scope, is_complete}
 use Rattle.tm_typed.specs.TypeRows.{number_in, with_type}
-use Rattle.tm_typed.specs.TypeNames.{is_volatile_pointer, bare, Made, pointed}
+use Rattle.tm_typed.specs.Rules.{is_volatile_pointer}
+use Rattle.tm_typed.specs.TypeNames.{bare, Made, pointed}
 use Rattle.tm_typed.specs.States.{State}
 use Rattle.tm_typed.specs.Evaluation.{measured, folded_value}
 use Rattle.tm_typed.specs.Refusals.{then_with, row_unless}

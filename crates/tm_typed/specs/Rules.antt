@@ -594,6 +594,7 @@ subscript_rules scope p (a_value e) i = pointer_subscript scope p e e.sort i
 abbrev pub member_type : Qualified → Part → Qualified
 member_type q m = qualified_as m.of q
 
+-- a volatile pointer, or an array of such
 abbrev pub is_volatile_pointer : Scope → Qualified → Bool
 is_volatile_pointer scope q = q.volatile && (entry scope q.number).of_pointers
 

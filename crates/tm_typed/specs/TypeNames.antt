@@ -18,17 +18,13 @@ use Rattle.tm_typed.specs.Scopes.{Scope, entry, ctype_of}
 use Rattle.tm_typed.specs.TypeRows.{number_in, with_type}
 use Rattle.tm_typed.specs.Specifiers.{nothing_said, plain, base, word_rules, mentioned}
 use Rattle.tm_typed.specs.Refusals.{then_with}
-use Rattle.tm_typed.specs.Rules.{CastType}
+use Rattle.tm_typed.specs.Rules.{CastType, is_volatile_pointer}
 
 -- ## Kinds of types that are left out
 
 abbrev pub is_void : CType → Bool
 is_void Types.Void = true
 is_void _ = false
-
--- a volatile pointer, or an array of such
-abbrev pub is_volatile_pointer : Scope → Qualified → Bool
-is_volatile_pointer scope q = q.volatile && (entry scope q.number).of_pointers
 
 -- a pointer to this type is left out: to `void`, or to a volatile pointer
 abbrev pub is_no_target : Scope → Qualified → Bool

@@ -1,8 +1,10 @@
 -- The types that every file has: the table begins with them.
-use Rattle.std.specs.Prelude.{ℕ, ◌+◌, ◌==◌, Bool, false, cond, List, [], ◌∷◌}
+use Rattle.std.specs.Prelude.{ℕ, ◌+◌, ◌==◌, Bool, true, false, cond, List, [], ◌∷◌}
 use Rattle.tm_trees.specs.tm_cint.declared.int_types.IntType.{IntType}
 use Rattle.tm_trees.specs.tm_cint.declared.int_types.IntType.TheVariants as Ints
 use Rattle.tm_typed.specs.declared.types.CType.TheVariants as Types
+use Rattle.tm_typed.specs.declared.types.Scalar.{Scalar}
+use Rattle.tm_typed.specs.declared.types.Scalar.TheVariants as Scalars
 use Rattle.tm_typed.specs.declared.types.TypeEntry.{TypeEntry}
 
 -- the integer types in their order
@@ -21,6 +23,10 @@ int_index Ints.ULLong = 10
 
 abbrev pub is_same_int : IntType → IntType → Bool
 is_same_int a b = int_index a == int_index b
+
+abbrev pub is_pointer_scalar : Scalar → Bool
+is_pointer_scalar (Scalars.Int t) = false
+is_pointer_scalar (Scalars.Pointer class) = true
 
 -- the bytes of an integer type, and so its alignment
 abbrev pub bytes_of : IntType → ℕ

@@ -28,7 +28,7 @@ pub use specifiers::{Said, Shape};
 pub use statements::{GivenCell, LocalInitialiser, LocalObject, TypedStatement, TypedSwitchPart};
 pub use tm_trees::{Limit, Name, Place};
 pub use types::{
-    CType, CastType, Qualified, Scalar, TypeEntry, bytes_of, enumeration_number, is_enumerated,
-    is_same_int,
+    CType, CastType, Qualified, Scalar, TypeEntry, bytes_of, enumeration_number, int_index,
+    is_enumerated, is_pointer_scalar, is_same_int,
 };
 pub use uses::{Use, Used};

@@ -1,6 +1,7 @@
 //! Types (C99 6.2.5): numbers of rows in one table.
 ghost use Rattle.std.specs.Prelude.{◌≡◌};
-ghost use Rattle.tm_typed.specs.Types.{int_index, is_same_int, bytes_of, is_enumerated, enumeration_number};
+ghost use Rattle.tm_typed.specs.Types.{int_index, is_same_int, is_pointer_scalar, bytes_of, is_enumerated};
+ghost use Rattle.tm_typed.specs.Types.{enumeration_number};
 
 use tm_trees::IntType;
 
@@ -69,6 +70,16 @@ pub enum Scalar {
     Pointer(u32),
 }
 
+/// Whether a scalar is a pointer.
+pub fn is_pointer_scalar(scalar: Scalar) -> bool
+    ensures { result ≡ is_pointer_scalar scalar }
+{
+    match scalar {
+        Scalar::Int(_) => false,
+        Scalar::Pointer(_) => true,
+    }
+}
+
 /// The type of a type name (C99 6.7.6): what it is, whether it is `void *` as in the null constant, and whether it is a
 /// void or a volatile pointer, which are left out.
 #[derive(Clone, Copy)]
@@ -78,8 +89,8 @@ pub struct CastType {
     pub is_left_out: bool,
 }
 
-// The integer types in their order, counted from 0.
-fn int_index(of: IntType) -> u32
+/// The number of an integer type in their order, from 0.
+pub fn int_index(of: IntType) -> u32
     ensures { result ≡ int_index of }
 {
     match of {

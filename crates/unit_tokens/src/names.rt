@@ -4,10 +4,9 @@ ghost use Rattle.std.specs.Prelude.{◌≡◌, ◌++◌, IfOk, IsTrue, decimal, 
 ghost use Rattle.tm_terms.specs.Spelling.{text_of};
 ghost use Rattle.unit_tokens.specs.Units.{IsNowhere, unit_of};
 
-use crate::texts::text_of;
 use std::alloc::{AllocError, Global};
 use tm_lattice::NoMemory;
-use tm_terms::{Name, behind};
+use tm_terms::{Name, behind, text_of};
 
 /// The unit, counted from 1, in which a line stands, by the lines that stand before units; 0 before the first.
 pub fn unit_of(borders: &[u32], line: u32) -> usize

@@ -6,10 +6,10 @@ ghost use Rattle.unit_tokens.specs.Sayings.{Says, said, wanted};
 use crate::fates::{Fate, Fated};
 use crate::names::{new_name, unit_of};
 use crate::shapes::is_same_shape;
-use crate::texts::{name_of, text_of};
+use crate::texts::name_of;
 use std::alloc::Global;
 use tm_lattice::NoMemory;
-use tm_terms::{Name, Shape};
+use tm_terms::{Name, Shape, text_of};
 
 /// By what tokens of the units get new names: the text of the units, the mark, and the lines that stand before units.
 #[derive(Clone, Copy)]

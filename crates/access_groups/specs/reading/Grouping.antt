@@ -4,7 +4,7 @@ use Rattle.std.specs.declared.vec.Vec.{Vec}
 use Rattle.access_races.specs.reading.Ways.{list_at}
 use Rattle.access_groups.specs.declared.object_access.ObjectAccess.{ObjectAccess}
 use Rattle.access_groups.specs.declared.object_access.AccessGroup.{AccessGroup}
-use Rattle.access_groups.specs.Order.{AreRising}
+use Rattle.access_races.specs.Rising.{AreRising}
 use Rattle.access_groups.specs.reading.Merging.{AreMerged, HasRacing}
 
 -- an object gets a group exactly where one of its accesses races

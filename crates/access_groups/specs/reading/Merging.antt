@@ -2,7 +2,8 @@
 use Rattle.std.specs.Prelude.{◌≡◌, ◌↔◌, ◌⊎◌, ℕ, true, ◌||◌, bit_and, List, [], ◌∷◌, ◌++◌, Contains}
 use Rattle.mutex_configs.specs.Sets.{has}
 use Rattle.access_groups.specs.declared.object_access.ObjectAccess.{ObjectAccess}
-use Rattle.access_groups.specs.Order.{sort_key, IsBefore, AreRising}
+use Rattle.access_races.specs.Rising.{AreRising}
+use Rattle.access_groups.specs.Order.{sort_key, IsBefore}
 
 -- both as one
 abbrev pub joined : ObjectAccess → ObjectAccess → ObjectAccess

@@ -9,7 +9,8 @@ use Rattle.alarm_contexts.specs.declared.alarm_context.AlarmContexts.{AlarmConte
 use Rattle.alarm_contexts.specs.declared.exits.Exit.{Exit}
 use Rattle.alarm_contexts.specs.declared.exits.Context.{Context}
 use Rattle.alarm_contexts.specs.declared.flaws.ObjectFlaw.{ObjectFlaw}
-use Rattle.alarm_contexts.specs.Order.{AreRising, IsEdgeBefore, IsFlawBefore}
+use Rattle.access_races.specs.Rising.{AreRising}
+use Rattle.alarm_contexts.specs.Order.{IsEdgeBefore, IsFlawBefore}
 use Rattle.alarm_contexts.specs.Bounds.{IsLeastAbove}
 use Rattle.alarm_contexts.specs.Contexts.{alarm_of}
 use Rattle.alarm_contexts.specs.reading.Operands.{AreJoined}

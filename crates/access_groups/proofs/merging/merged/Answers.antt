@@ -1,7 +1,7 @@
 use Rattle.std.proofs.Common.{◌+◌, ◌≤◌, sym, subst, take, get_or, length, arith}
 use Rattle.std.proofs.lemmas.List.{take_all}
 use Rattle.access_races.proofs.Joins.{front_more}
-use Rattle.access_groups.specs.Order.{AreRising}
+use Rattle.access_races.specs.Rising.{AreRising}
 use Rattle.access_groups.specs.reading.Merging.{Precedes, AreMerged}
 use Rattle.access_groups.proofs.Merged.{merged_more, after_front, merged_same, no_access}
 use Rattle.access_groups.proofs.merging.merged.Goals as goal

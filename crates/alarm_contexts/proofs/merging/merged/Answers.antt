@@ -5,7 +5,7 @@ use Rattle.program_reports.specs.post_recheck.program_systems.ProgramFacts.{prog
 use Rattle.program_reports.specs.post_recheck.Pairs.{lists_of}
 use Rattle.program_reports.proofs.low.program_systems.Bodies.{is_program}
 use Rattle.access_races.proofs.Joins.{front_more}
-use Rattle.alarm_contexts.specs.Order.{AreRising}
+use Rattle.access_races.specs.Rising.{AreRising}
 use Rattle.alarm_contexts.specs.reading.Operands.{operands_of, IsFlawed}
 use Rattle.alarm_contexts.specs.reading.Merging.{Precedes, IsAdded, AreMerged}
 use Rattle.alarm_contexts.proofs.Merged.{merged_more, after_front, merged_all, no_context}

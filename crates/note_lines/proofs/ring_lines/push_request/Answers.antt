@@ -1,6 +1,7 @@
 use Rattle.std.proofs.Common.{ap, ◌∙◌, ◌++◌, [], ◌∷◌}
 use Rattle.std.specs.Prelude.{codes}
-use Rattle.note_lines.specs.Names.{place_head, name_at, names_below}
+use Rattle.tm_terms.specs.Texts.{place_head}
+use Rattle.note_lines.specs.Names.{name_at, names_below}
 use Rattle.note_lines.proofs.Pieces.{line}
 use Rattle.note_lines.proofs.ring_lines.push_request.Goals as goal
 

@@ -3,7 +3,7 @@ use Rattle.std.proofs.Common.{◌≡◌, ◌⊎◌, zero, suc, refl, sym, subst,
 use Rattle.std.specs.Prelude.{Contains}
 use Rattle.std.proofs.lemmas.List.Elements.{Contains-append_left, Contains-push, Contains-push_cases}
 use Rattle.access_races.proofs.Joins.{either}
-use Rattle.access_groups.specs.Order.{AreRising}
+use Rattle.access_races.specs.Rising.{AreRising}
 
 module _ {X : Type 0} where
   -- ## Membership
@@ -20,6 +20,9 @@ module _ {X : Type 0} where
   pub cases : (x y : X) (xs : List X) → Contains (x ∷ xs) y → (x ≡ y) ⊎ Contains xs y
   cases x y xs (zero, lt, e) = inl e
   cases x y xs (suc k, lt, e) = inr (k, omega (arith, lt), e)
+
+  pub only : (x y : X) → Contains (x ∷ []) y → x ≡ y
+  only x y h = either (λ e. e) (λ more. absurd (none y more)) (cases x y [] h)
 
   -- ## One more
 

@@ -1,6 +1,6 @@
 use Rattle.std.proofs.Common.{◌≡◌, ℕ, ◌<◌, get_or, true}
 use Rattle.tm_terms.specs.Lexis.{is_name_byte}
-use Rattle.place_details.proofs.regions.word_length.Given as goal
+use Rattle.tm_terms.proofs.bytes.name_length.Given as goal
 
 abbrev pub invariant-loop-i : goal.invariant-loop-i
 invariant-loop-i l = (k : ℕ) → k < l.i → is_name_byte (get_or l.text k 0) ≡ true
