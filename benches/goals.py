@@ -87,9 +87,9 @@ def tell(top, name, least):
 
 def main(words):
     least = 1.0
-    if words[:1] == ["--least"]:
+    if len(words) > 1 and words[0] == "--least" and re.fullmatch(r"[0-9]+(\.[0-9]+)?", words[1]):
         least, words = float(words[1]), words[2:]
-    if not words:
+    if not words or words[0].startswith("-"):
         print(__doc__)
         return 2
     top = os.path.dirname(os.path.dirname(os.path.abspath(__file__)))
