@@ -80,6 +80,17 @@ impl<V: Lattice> SharedTable<V> {
         }
     }
 
+    /// The same, without a search where the key is there and its entry has this number among the entries, counted
+    /// from 0.
+    pub fn entry_near(&self, key: u32, number: usize) -> Option<(u32, &V)>
+        ensures { MatchOption result (IsPast self.now key) (λ entry. IsNext self.now key entry.0 entry.1.now) }
+    {
+        match self.get_near(key, number) {
+            None => self.entry_from(key),
+            Some(value) => Some((key, value)),
+        }
+    }
+
     /// Writes a value at a key: the key now has the value, or is absent where the value is nothing. After want of
     /// memory the table is as before.
     pub fn put(&mut self, key: u32, value: V) -> Result<(), NoMemory>

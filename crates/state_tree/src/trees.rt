@@ -64,9 +64,11 @@ fn entry_of_part<V: Lattice>(parts: &SharedTable<SharedTable<V>>, key: u32) -> O
     ensures { MatchOption result (IsPast (part_at parts.now key) key)
         (λ entry. IsNext (part_at parts.now key) key entry.0 entry.1.now) }
 {
-    match parts.get(part_of(key)) {
+    // As in `get`: where no key of a part or below it is absent, the number of its entry is known.
+    let number = part_of(key);
+    match parts.get_near(number, number as usize) {
         None => None,
-        Some(part) => part.entry_from(key),
+        Some(part) => part.entry_near(key, (key % 64) as usize),
     }
 }
 
