@@ -1,10 +1,12 @@
-use Rattle.std.proofs.Common.{◌≡◌, ◌+◌, ◌-◌, List, length, Option, Some, None, IfOk, ◌≤◌, sym, ap, ◌∙◌, subst, arith}
+use Rattle.std.proofs.Common.{◌≡◌, ℕ, ◌+◌, ◌-◌, ◌<◌, ◌≤◌, List, length, Option, Some, None, IfOk}
+use Rattle.std.proofs.Common.{sym, ap, ◌∙◌, subst, arith}
 use Rattle.tm_terms.specs.declared.tokens.Token.{Token}
 use Rattle.tm_terms.specs.ExprTrees.{Tree, tree_of, as_arguments}
 use Rattle.c_expr_parser.specs.declared.marks.Mark.TheVariants as Marks
 use Rattle.c_expr_parser.specs.declared.found.Found.{Found}
 use Rattle.c_expr_parser.specs.declared.found.Stepped.{Stepped}
 use Rattle.c_expr_parser.specs.declared.found.Tried.{Tried}
+use Rattle.c_expr_parser.specs.declared.found.Tried.TheVariants as Tries
 use Rattle.c_expr_parser.specs.reading.Parts.{after}
 use Rattle.c_expr_parser.specs.reading.Founds.{pair_of, seen_found, IfFound, IsStep, IsLow}
 use Rattle.c_expr_parser.specs.reading.Descent.{more_by, reads, continued, step}
@@ -13,6 +15,56 @@ use Rattle.c_expr_parser.proofs.DescentSteps.{pushed_height, arguments_none, arg
 use Rattle.c_expr_parser.proofs.DescentSteps.{arguments_closed, member_is, postfix_is, steps_stop, steps_done}
 use Rattle.c_expr_parser.proofs.DescentSteps.{steps_next, reads_some}
 use Rattle.c_expr_parser.proofs.descents.+parse.Goals as goal
+
+found_low : {o : Tried Found} {f : Found} (n : ℕ) → o ≡ Tries.Found f → IfFound o (λ f. f.height ≤ n) → f.height ≤ n
+found_low n e h = subst (λ (o : Tried Found). IfFound o (λ f. f.height ≤ n)) e h
+
+below_half : {a b : ℕ} → a ≤ b → b ≤ 499 → a < 2147483648
+below_half h k = omega arith
+
+stuck_low : {a b n : ℕ} → a ≡ b → b ≤ n → a ≤ n + 1
+stuck_low e h = omega arith
+
+pub continue_subscript-subscript-requires-clause-array_height :
+    goal.continue_subscript-subscript-requires-clause-array_height
+continue_subscript-subscript-requires-clause-array_height t c = below_half c.requires.small c.requires.few
+
+pub continue_subscript-subscript-requires-clause-index_height :
+    goal.continue_subscript-subscript-requires-clause-index_height
+continue_subscript-subscript-requires-clause-index_height t c =
+    below_half (found_low c.args.allowed c.in-Found.is c.in_ok-stuck.ensures.low) c.requires.few
+
+pub continue_question-conditional-requires-clause-condition_height :
+    goal.continue_question-conditional-requires-clause-condition_height
+continue_question-conditional-requires-clause-condition_height t c = below_half c.requires.small c.requires.few
+
+pub continue_question-conditional-requires-clause-first_height :
+    goal.continue_question-conditional-requires-clause-first_height
+continue_question-conditional-requires-clause-first_height t c =
+    below_half (found_low c.args.allowed c.in-Found.is c.in_ok-stuck.ensures.low) c.requires.few
+
+pub continue_question-conditional-requires-clause-second_height :
+    goal.continue_question-conditional-requires-clause-second_height
+continue_question-conditional-requires-clause-second_height t c =
+    below_half (found_low c.args.allowed c.in-Found-2.is c.in_ok-stuck-in-Some.ensures.low) c.requires.few
+
+pub input_form-input-requires-clause-high_height : goal.input_form-input-requires-clause-high_height
+input_form-input-requires-clause-high_height t c =
+    below_half (found_low c.args.allowed c.in-Found-2.is c.in_ok-at-in-Some-after.ensures.low) c.requires
+
+pub continue_infix-infix-requires-clause-left_height : goal.continue_infix-infix-requires-clause-left_height
+continue_infix-infix-requires-clause-left_height t c = below_half c.requires.small c.requires.few
+
+pub continue_subscript-returns-in-None-clause-low : goal.continue_subscript-returns-in-None-clause-low
+continue_subscript-returns-in-None-clause-low t c =
+    stuck_low c.stuck_at-in-None.ensures.height c.requires.small
+
+pub continue_question-returns-in-None-clause-low : goal.continue_question-returns-in-None-clause-low
+continue_question-returns-in-None-clause-low t c = stuck_low c.stuck_at-in-None.ensures.height c.requires.small
+
+pub continue_question-returns-in-Stuck-2-clause-low : goal.continue_question-returns-in-Stuck-2-clause-low
+continue_question-returns-in-Stuck-2-clause-low t c =
+    stuck_low c.stuck_at-in-Stuck-2.ensures.height c.requires.small
 
 pub arguments_from-returns-in-Stuck-clause-value : goal.arguments_from-returns-in-Stuck-clause-value
 arguments_from-returns-in-Stuck-clause-value t c =

@@ -1,4 +1,5 @@
-use Rattle.std.proofs.Common.{◌≡◌, ◌∙◌, [], ◌++◌, append-nil, arith, ap, length, length-append, sym, take}
+use Rattle.std.proofs.Common.{◌≡◌, ◌∙◌, [], ◌++◌, ◌<◌, ℕ, append-nil, arith, ap, length, length-append}
+use Rattle.std.proofs.Common.{length-take, sym, take}
 use Rattle.std.proofs.lemmas.List.{take-append-le}
 use Rattle.std.specs.Io.KnownBytes.{prepend_known}
 use Rattle.program_streams.proofs.input.read_piece.Given as given
@@ -17,6 +18,12 @@ returns-in-Ok-eq0-clause-read g c = record {
   taken = c.in-Ok-eq0.ensures.taken
       ∙ ap (λ n. prepend_known (take n c.read.new.into) (g.S.Source.left c.read.new.self)) c.in-Ok-eq0.field-0-test;
 }
+
+pub returns-in-Ok-eq0-clause-end : goal.returns-in-Ok-eq0-clause-end
+returns-in-Ok-eq0-clause-end g c =
+    let room : 0 < length c.read.new.into =
+    omega (arith, c.requires, c.len.ensures, c.min-room.ensures, length-take {A = ℕ}) in
+    λ _. c.in-Ok-eq0.ensures.end c.in-Ok-eq0.field-0-test room
 
 pub returns-in-Ok-eq0-clause-most : goal.returns-in-Ok-eq0-clause-most
 returns-in-Ok-eq0-clause-most g c = omega (arith, c.requires)

@@ -47,3 +47,36 @@ returns c =
     (omega (arith, ints, low, c.lo-2.ensures, c.abs_diff-2.ensures, c.requires.in_type.at_least, ends_of t))
     refl
     (respaced _ _ _ _ _ _ _ (first_kept t c.lo.result (c.abs_diff-2.result % c.gcd-step.result) c.lo.ensures (rest_small t c.args.stride c.gcd-step.result c.abs_diff-2.result (gcd_is c))) (hi_kept t c.hi-2.result c.hi-2.ensures) (omega (arith, ints, s)) c.range.ensures)
+
+pub overflow_cast-first : goal.overflow_cast-first
+overflow_cast-first c =
+    let r = rest_small c.args.ty c.args.stride c.gcd-step.result c.abs_diff-2.result
+    (rw c.size.ensures at c.gcd-step.ensures.greatest) in
+    omega (arith, ints, r)
+
+pub overflow_add-first : goal.overflow_add-first
+overflow_add-first c =
+    let r = rest_small c.args.ty c.args.stride c.gcd-step.result c.abs_diff-2.result
+    (rw c.size.ensures at c.gcd-step.ensures.greatest) in
+    let low = to_z-of_z w128 c.lo.result (omega (arith, ints, c.lo.ensures, ends_of c.args.ty)) in
+    rw low (omega (arith, ints, r, c.lo.ensures, ends_of c.args.ty))
+
+pub progression-requires-clause-from : goal.progression-requires-clause-from
+progression-requires-clause-from c = rw (to_z-of_z _ _ c.ranges.low)
+    (omega (arith, ints, ends_of c.args.ty, c.requires.in_type.at_least))
+
+pub progression-requires-clause-to : goal.progression-requires-clause-to
+progression-requires-clause-to c =
+    let low = to_z-of_z _ _ c.ranges.low in
+    let high = to_z-of_z w128 c.hi.result (omega (arith, ints, c.hi.ensures, ends_of c.args.ty)) in
+    rw low (omega (
+      arith,
+      ints,
+      low,
+      high,
+      ends_of c.args.ty,
+      c.hi.ensures,
+      c.abs_diff.ensures,
+      c.if-extent-abs_diff.true,
+      c.requires.in_type.at_most,
+    ))
