@@ -19,7 +19,7 @@ use std::alloc::Global as Heap;
 use tm_laid::LaidObject;
 use tm_lattice::NoMemory;
 use tm_terms::{Fail, Place, Refusal, refusal_line, text_of};
-use value_ranges::{ObjectBounds, Ranges, ranges};
+use value_ranges::{ObjectBounds, Ranges, least_ranges};
 
 /// What is asked of a least solution.
 #[derive(Clone, Copy)]
@@ -123,7 +123,7 @@ fn ranges_reply(
         TellsRangesOf (program_of analysis.now) bytes.now found.now reply.status reply.text.items) }
 {
     let (program, facts) = analysis.parts();
-    let ranges = ranges(alloc, program, facts, found.tables(), found.store())?;
+    let ranges = least_ranges(alloc, program, facts, found.tables(), found.store())?;
     told_ranges(alloc, bytes, analysis, found, &ranges)
 }
 

@@ -39,7 +39,7 @@ use std::alloc::Global as Heap;
 use tm_laid::{Laid, Scale};
 use tm_lattice::NoMemory;
 use tm_terms::{Alarm, Fail};
-use value_ranges::{cell_ranges, ranges_by_cells};
+use value_ranges::{least_cell_ranges, ranges_by_cells};
 use worker_solutions::{Analysis, Solution};
 
 /// What the notes are on.
@@ -338,7 +338,7 @@ pub(crate) fn contents_of(
         found.store(),
         &groups,
     )?;
-    let cells = cell_ranges(alloc, program, facts, found.tables(), found.store())?;
+    let cells = least_cell_ranges(alloc, program, facts, found.tables(), found.store())?;
     let ranges = ranges_by_cells(alloc, program, facts, found.tables(), found.store(), &cells)?;
     let advised = advised_objects(alloc, analysis, found, &others, &groups)?;
     let details = report_details(

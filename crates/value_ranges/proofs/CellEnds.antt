@@ -1,10 +1,10 @@
 -- What is noted of objects by the ends of their cells is what the tables and the store tell of them.
-use Rattle.std.proofs.Common.{◌≡◌, ◌↔◌, ◌⊎◌, ℕ, ◌+◌, ◌<◌, refl, sym, subst, ◌∙◌, inl, inr, List, length, get_or, Option}
+use Rattle.std.proofs.Common.{◌≡◌, ◌↔◌, ℕ, ◌+◌, ◌<◌, refl, sym, subst, ◌∙◌, inl, inr, List, length, Option}
 use Rattle.std.proofs.Common.{Some, None, arith}
 use Rattle.std.specs.Prelude.{ℤ, ◌≤ℤ◌}
 use Rattle.std.specs.Int.Signed.{≤ℤ_refl}
 use Rattle.std.proofs.lemmas.Int.{ints}
-use Rattle.tm_laid.specs.Layouts.{LaidTree, abstract_at}
+use Rattle.tm_laid.specs.Layouts.{LaidTree}
 use Rattle.interfere_set.specs.Stores.{Interferences}
 use Rattle.program_reports.specs.post_recheck.transfer_rows.StateForms.{State}
 use Rattle.program_reports.specs.post_recheck.program_equations.Readings.{read_layout}

@@ -1,5 +1,5 @@
 -- The places that are found are the dead ones.
-use Rattle.std.proofs.Common.{◌≡◌, ℕ, ◌<◌, sym, subst, ◌∙◌, List, [], ◌∷◌, length, get_or, arith}
+use Rattle.std.proofs.Common.{◌≡◌, ℕ, ◌<◌, ◌≤◌, sym, subst, ◌∙◌, List, [], ◌∷◌, length, get_or, arith}
 use Rattle.std.proofs.lemmas.List.{get_or-map, get_or_default}
 use Rattle.tm_terms.specs.declared.places.Place.{Place}
 use Rattle.flow_graph.specs.declared.graphs.Edge.{Edge}
@@ -87,6 +87,10 @@ module _ (program : Program) (facts : AllFacts) (analysable : IsAnalysable progr
         (subst (λ (cs : List EdgeCopy). (let b = body_at p t in AreCopiesIn b.edges cs (table_at pair.tables t)))
         (copies_are t lt) (copies_in t lt));
   }
+
+  -- each table has a graph
+  pub few_tables : (n : ℕ) → n ≡ length pair.tables → n ≤ length graphs
+  few_tables n n-is = let c = fits.count in omega (arith, c, count, n-is)
 
   -- ## Listed places
 

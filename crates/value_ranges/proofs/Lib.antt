@@ -5,3 +5,6 @@ mod Told
 mod CellEnds
 mod Adding
 mod Dead
+mod Keeping
+mod Raising
+mod Rising

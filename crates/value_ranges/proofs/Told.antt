@@ -1,13 +1,15 @@
 -- What is noted is what the tables and the store tell.
-use Rattle.std.proofs.Common.{◌≡◌, ◌⊎◌, ℕ, zero, suc, ◌<◌, refl, ap, sym, subst, ◌∙◌, inl, inr, List, [], ◌∷◌, length}
-use Rattle.std.proofs.Common.{get_or, Option, Some, None, arith}
-use Rattle.std.specs.Prelude.{ℤ}
+use Rattle.std.proofs.Common.{◌≡◌, ◌⊎◌, ℕ, zero, suc, ◌<◌, ◌≤◌, refl, ap, sym, subst, ◌∙◌, inl, inr, List, []}
+use Rattle.std.proofs.Common.{◌∷◌, length, get_or, true, Option, Some, None, IfSome, arith}
+use Rattle.std.specs.Prelude.{ℤ, nat_le, slice_get}
 use Rattle.std.specs.FinMap as map
 use Rattle.std.specs.FinMap.{get, entries}
 use Rattle.std.proofs.lemmas.List.{get_or_default, get_or_past}
+use Rattle.std.proofs.lemmas.Bool.Decides.{nat_tests}
 use Rattle.std.proofs.lemmas.Option.{slice_get_within}
 use native.Mathlib.Decide.{dec_lt}
 use Rattle.strided_dom.specs.Progression.{Has}
+use Rattle.tm_laid.specs.declared.objects.Initial.TheVariants as Initials
 use Rattle.tm_laid.specs.Layouts.{LaidTree, cell_at}
 use Rattle.tm_lattice.specs.Tables.{Table}
 use Rattle.pointer_dom.specs.Values.{Values}
@@ -17,20 +19,26 @@ use Rattle.program_reports.specs.post_recheck.transfer_rows.StateForms.{State, o
 use Rattle.program_reports.specs.post_recheck.transfer_rows.Contributions.{entry_at, at_task}
 use Rattle.program_reports.specs.post_recheck.table_covers.Solutions.{at}
 use Rattle.program_reports.specs.post_recheck.program_equations.Readings.{read_layout}
-use Rattle.program_reports.specs.post_recheck.program_equations.Programs.{ProgramBodies}
+use Rattle.program_reports.specs.post_recheck.program_equations.Programs.{ProgramBodies, body_at, IsProgram}
 use Rattle.program_reports.specs.post_recheck.program_equations.Solutions.{table_at, tables_of}
+use Rattle.program_reports.specs.post_recheck.program_equations.laws.Lawful.{in_bodies}
+use Rattle.program_reports.specs.post_recheck.Pairs.{FitsPair}
 use Rattle.value_ranges.specs.declared.object_bounds.ObjectBounds.{ObjectBounds}
 use Rattle.value_ranges.specs.declared.cells.IntegerCell.{IntegerCell}
 use Rattle.value_ranges.specs.declared.object_bounds.Grouping.{Grouping}
 use Rattle.value_ranges.specs.declared.object_bounds.Grouping.TheVariants as Groupings
-use Rattle.value_ranges.specs.Ranges.{IsKeyOf, key_count, IsToldNumber, IsNumberBy, IsNumberOf, AreBoundsBy}
+use Rattle.value_ranges.specs.Ranges.{AreLeast, IsKeyOf, key_count, IsToldNumber, IsNumberBy, IsNumberOf, AreBoundsBy}
 use Rattle.value_ranges.specs.Ranges.{AreBounds, AreBoundsIf, AreRising, IsListed, AreRanges, AreCellRanges}
 use Rattle.value_ranges.specs.Ranges.IsToldNumber.{at_first, at_node, in_store}
-use Rattle.value_ranges.specs.reading.Notes.{Noted, noted_at, IsNamed, IsWidened, Below, IsFirst, IsFirstBelow}
-use Rattle.value_ranges.specs.reading.Notes.{AreIntegerCells, no_integer_cell, IsInCell, IsInNode, IsInTables}
-use Rattle.value_ranges.specs.reading.Notes.{IsInWeak, held_at, written_at}
+use Rattle.value_ranges.specs.reading.Notes.{Noted, noted_at, IsIn, IsNamed, IsWidened, Below, IsFirst, IsFirstBelow}
+use Rattle.value_ranges.specs.reading.Notes.{AreIntegerCells, no_integer_cell, IsInCell, IsInNode, IsInTable}
+use Rattle.value_ranges.specs.reading.Notes.{IsInTables, IsInWeak, held_at, written_at, is_noted}
 use Rattle.value_ranges.specs.reading.Notes.{AreListed, AreNotedIn}
 use Rattle.value_ranges.proofs.Widening.{either, nothing_in}
+use Rattle.value_ranges.proofs.Rising.{true_cases, is_raised, raised_from, looks, IsBounded, all_bounded}
+
+le_true : (m n : ℕ) → m ≤ n → nat_le m n ≡ true
+le_true m n le = grind (arith, nat_tests)
 
 -- ## Entries by their places
 
@@ -96,7 +104,7 @@ module _ (by : Grouping) (p : ProgramBodies) (lists : List (List (Option State))
 
   abbrev Seen : ℕ → ℤ → Type 0
   Seen object n = IsFirstBelow by laid (length laid.initial) object n
-      ⊎ (IsInTables cells lists (length lists) object n
+      ⊎ (IsInTables cells p lists (length lists) object n
       ⊎ IsInWeak cells store.weak (length (entries store.weak)) object n)
 
   in_program : (object x : ℕ) → IsKeyOf by laid object x → IsKeyOf by p.laid object x
@@ -161,9 +169,14 @@ module _ (by : Grouping) (p : ProgramBodies) (lists : List (List (Option State))
         told = in_store one.0 other.0 (subst (λ (v : Values). Has v.numbers n) (sym e) h.has);
       }
 
+  table_told : (t object : ℕ) (n : ℤ)
+      → IsInTable cells (nat_le p.tasks t) (body_at p t) (table_at lists t) object n → Told object n
+  table_told t object n (inl h) = node_told t h.0 object n h.2.1
+  table_told t object n (inr h) = node_told t h.2.node object n h.2.has
+
   pub seen_told : (object : ℕ) (n : ℤ) → Seen object n → Told object n
   seen_told object n (inl h) = first_told h.0 object n (first_in_program h.0 object n h.2)
-  seen_told object n (inr (inl h)) = node_told h.0 h.2.0 object n h.2.2
+  seen_told object n (inr (inl h)) = table_told h.0 object n h.2
   seen_told object n (inr (inr h)) = weak_told h.0 h.2.0 h.2.2.0 object n h.1 h.2.1 h.2.2.1 h.2.2.2
 
   -- a cell with a number is among the cells
@@ -215,35 +228,41 @@ module _ (by : Grouping) (p : ProgramBodies) (lists : List (List (Option State))
       by_held None f there = absurd (nothing_in n there)
       by_held (Some values) f there = found values f there
 
-  pub told_seen : (object : ℕ) (n : ℤ) → Told object n → Seen object n
-  told_seen object n h = by_source h.cell h.of h.told
-    where
-      by_source : (x : ℕ) → IsKeyOf by p.laid object x
-          → IsToldNumber p (tables_of lists) store x n → Seen object n
-      by_source x of (at_first cell lt e is) =
-          let first : IsFirst by p.laid cell object n = record {
-            within = lt;
-            of = subst (λ y. IsKeyOf by p.laid object y) (sym e) of;
-            is = is;
-          } in
-          let there = first_in_layout cell object n (subst (λ (m : LaidTree). IsFirst by m cell object n) read first) in
-          inl (cell, slice_get_within laid.initial cell _ there.is, there)
-      by_source x of (at_node t node s e has) =
-          inr (inl (
-            t,
-            within_tables lists t node s e,
-            (
-              node,
-              within_table (table_at lists t) node s e,
-              record {
-                state = s;
-                is = e;
-                has = among object x n (own_of s) of has;
-              },
-            ),
-          ))
-      by_source x of (in_store task held has) =
-          inr (inr (weak_seen task held x object n of (get store.weak task) refl has))
+  pub first_seen : (x object : ℕ) (n : ℤ) → IsKeyOf by p.laid object x → (cell : ℕ) → cell < length p.laid.cells
+      → (let c = cell_at p.laid cell in c.abstract_cell ≡ x)
+      → slice_get p.laid.initial cell ≡ Some (Initials.Number n) → Seen object n
+  first_seen x object n of cell lt e is =
+      let first : IsFirst by p.laid cell object n = record {
+        within = lt;
+        of = subst (λ y. IsKeyOf by p.laid object y) (sym e) of;
+        is = is;
+      } in
+      let there = first_in_layout cell object n (subst (λ (m : LaidTree). IsFirst by m cell object n) read first) in
+      inl (cell, slice_get_within laid.initial cell _ there.is, there)
+
+  -- what stands where a table is looked at is seen
+  node_seen : (t node x object : ℕ) (n : ℤ) (s : State) → at (table_at lists t) node ≡ Some s
+      → IsKeyOf by p.laid object x → (let own = own_of s x in Has own.numbers n)
+      → IsInNode cells (table_at lists t) object n node
+  node_seen t node x object n s e of has = record { state = s; is = e; has = among object x n (own_of s) of has }
+
+  pub looked_seen : (t node x object : ℕ) (n : ℤ) (s : State) → at (table_at lists t) node ≡ Some s
+      → IsKeyOf by p.laid object x → (let own = own_of s x in Has own.numbers n)
+      → looks (nat_le p.tasks t) (body_at p t) node ≡ true → Seen object n
+  looked_seen t node x object n s e of has is =
+      let b = body_at p t in
+      let here = node_seen t node x object n s e of has in
+      inr (inl (
+        t,
+        within_tables lists t node s e,
+        elim (true_cases (is_noted (nat_le p.tasks t) b.heads b.written b.nodes node)
+            (is_raised b.edges b.copies node) is) [
+              | inl noted ↦ inl (node, within_table (table_at lists t) node s e, (noted, here))
+              | inr raised ↦
+                  let r = raised_from b.edges b.copies node raised in
+                  inr (r.0, r.1, record { node = node; leads = r.2; has = here })
+            ],
+      ))
 
 -- ## Lists
 
@@ -260,22 +279,73 @@ are_rising [] h = tt
 are_rising (b ∷ []) h = tt
 are_rising (b ∷ c ∷ list) h = (h 0 1 b (omega arith) (omega arith), are_rising (c ∷ list) (shifted b (c ∷ list) h))
 
-pub named_in : (by : Grouping) (laid : LaidTree) (lists : List (List (Option State))) (store : Interferences) (noted : List Noted)
-    → AreNotedIn by laid lists store.weak noted → (o : ℕ) → IsNamed o (noted_at noted o)
-named_in by laid lists store noted h o = (h.each o).named tt
+pub named_in : (by : Grouping) (p : ProgramBodies) (laid : LaidTree) (lists : List (List (Option State)))
+    (store : Interferences) (noted : List Noted) → AreNotedIn by laid p lists store.weak noted → (o : ℕ)
+    → IsNamed o (noted_at noted o)
+named_in by p laid lists store noted h o = (h.each o).named tt
 
-module _ (by : Grouping) (p : ProgramBodies) (lists : List (List (Option State))) (store : Interferences) (laid : LaidTree)
-    (read : p.laid ≡ read_layout laid) (noted : List Noted) (in_all : AreNotedIn by laid lists store.weak noted) where
+module _ (by : Grouping) (p : ProgramBodies) (lists : List (List (Option State))) (store : Interferences)
+    (laid : LaidTree) (read : p.laid ≡ read_layout laid) (is : IsProgram p)
+    (fits : FitsPair p (record { tables = lists; store = store })) (least : AreLeast p lists store) (noted : List Noted)
+    (in_all : AreNotedIn by laid p lists store.weak noted) where
   abbrev Number : ℕ → ℤ → Type 0
   Number object n = IsNumberBy p (tables_of lists) store by object n
+
+  -- what is noted of that of which the numbers of a cell are told
+  abbrev Bounds : ℕ → Noted → Type 0
+  Bounds x b = (key : ℕ) × IsKeyOf by p.laid key x × (noted_at noted key ≡ b)
+
+  looked_within : (t node : ℕ) (s : State) → at (table_at lists t) node ≡ Some s
+      → looks (nat_le p.tasks t) (body_at p t) node ≡ true → IsBounded Bounds s
+  looked_within t node s e is x b of n has =
+      subst (λ c. IsIn c n) of.2
+      ((in_all.each of.0).has n
+      (looked_seen by p lists store laid read in_all.cells in_all.are t node x of.0 n s e of.1 has is))
+
+  by_state : (t node : ℕ) (a : Option State) → at (table_at lists t) node ≡ a
+      → looks (nat_le p.tasks t) (body_at p t) node ≡ true → IfSome a (IsBounded Bounds)
+  by_state t node None e is = tt
+  by_state t node (Some s) e is = looked_within t node s e is
+
+  -- the numbers at each node lie within what is noted
+  node_within : (t node : ℕ) (s : State) → at (table_at lists t) node ≡ Some s → IsBounded Bounds s
+  node_within t node s e = by_task (dec_lt t p.tasks)
+    where
+      of_task : t < p.tasks → IsBounded Bounds s
+      of_task lt =
+          let nodes = fits.nodes t (in_bodies p is t lt) in
+          let within = within_table (table_at lists t) node s e in
+          subst (λ a. IfSome a (IsBounded Bounds)) e
+          (all_bounded Bounds p is (table_at lists p.tasks) (tables_of lists) store least t lt (nat_le p.tasks t)
+          (λ m m-lt looked. by_state t m (at (table_at lists t) m) refl looked) node (omega (arith, within, nodes)))
+
+      by_task : Dec (t < p.tasks) → IsBounded Bounds s
+      by_task (yes lt) = of_task lt
+      by_task (no not_lt) =
+          looked_within t node s e
+          (ap (λ all. looks all (body_at p t) node) (le_true p.tasks t (omega (arith, not_lt))))
+
+  told_in : (object : ℕ) (n : ℤ) → Number object n → IsIn (noted_at noted object) n
+  told_in object n h = by_source h.cell h.of h.told
+    where
+      by_source : (x : ℕ) → IsKeyOf by p.laid object x
+          → IsToldNumber p (tables_of lists) store x n → IsIn (noted_at noted object) n
+      by_source x of (at_first cell lt e is) =
+          (in_all.each object).has n
+          (first_seen by p lists store laid read in_all.cells in_all.are x object n of cell lt e is)
+      by_source x of (at_node t node s e has) =
+          node_within t node s e x (noted_at noted object) (object, of, refl) n has
+      by_source x of (in_store task held has) =
+          (in_all.each object).has n
+          (inr (inr (weak_seen by p lists store laid read in_all.cells in_all.are task held x object n of
+          (get store.weak task) refl has)))
 
   told : (object : ℕ) → IsWidened (Number object) object None (noted_at noted object)
   told object =
       let w = in_all.each object in
-      let there = seen_told by p lists store laid read in_all.cells in_all.are object in
-      let back = told_seen by p lists store laid read in_all.cells in_all.are object in record {
+      let there = seen_told by p lists store laid read in_all.cells in_all.are object in record {
         keeps = w.keeps;
-        has = λ n h. w.has n (back n h);
+        has = told_in object;
         low = λ n h. either (λ l. inl l) (λ k. inr (there n k)) (w.low n h);
         high = λ n h. either (λ l. inl l) (λ k. inr (there n k)) (w.high n h);
         named = w.named;
@@ -342,17 +412,19 @@ module _ (p : ProgramBodies) (lists : List (List (Option State))) (store : Inter
       all = λ object n number. is_listed list h object n number;
     }
 
-pub are_ranges : (p : ProgramBodies) (lists : List (List (Option State))) (store : Interferences) (laid : LaidTree)
-    → p.laid ≡ read_layout laid → (noted : List Noted) → AreNotedIn Groupings.Objects laid lists store.weak noted
-    → (list : List ObjectBounds) → AreListed noted (length noted) list → AreRanges p (tables_of lists) store list
-are_ranges p lists store laid read noted in_all =
-    ranges_told p lists store noted (all_counted Groupings.Objects p lists store laid read noted in_all)
-    (told Groupings.Objects p lists store laid read noted in_all)
+module _ (p : ProgramBodies) (lists : List (List (Option State))) (store : Interferences) (laid : LaidTree)
+    (read : p.laid ≡ read_layout laid) (is : IsProgram p) (fits : FitsPair p (record { tables = lists; store = store }))
+    (least : AreLeast p lists store) (noted : List Noted) where
+  pub are_ranges : AreNotedIn Groupings.Objects laid p lists store.weak noted → (list : List ObjectBounds)
+      → AreListed noted (length noted) list → AreRanges p (tables_of lists) store list
+  are_ranges in_all =
+      ranges_told p lists store noted
+      (all_counted Groupings.Objects p lists store laid read is fits least noted in_all)
+      (told Groupings.Objects p lists store laid read is fits least noted in_all)
 
-pub are_cell_ranges : (p : ProgramBodies) (lists : List (List (Option State))) (store : Interferences)
-    (laid : LaidTree) → p.laid ≡ read_layout laid → (noted : List Noted)
-    → AreNotedIn Groupings.Cells laid lists store.weak noted → AreCellRanges p (tables_of lists) store noted
-are_cell_ranges p lists store laid read noted h = record {
-  count = all_counted Groupings.Cells p lists store laid read noted h;
-  each = each_bounded Groupings.Cells p lists store laid read noted h;
-}
+  pub are_cell_ranges : AreNotedIn Groupings.Cells laid p lists store.weak noted
+      → AreCellRanges p (tables_of lists) store noted
+  are_cell_ranges in_all = record {
+    count = all_counted Groupings.Cells p lists store laid read is fits least noted in_all;
+    each = each_bounded Groupings.Cells p lists store laid read is fits least noted in_all;
+  }

@@ -11,6 +11,7 @@ use Rattle.program_reports.specs.post_recheck.transfer_rows.StateForms.{State, o
 use Rattle.program_reports.specs.post_recheck.transfer_rows.Contributions.{entry_at}
 use Rattle.program_reports.specs.post_recheck.table_covers.Solutions.{NodeTable}
 use Rattle.program_reports.specs.post_recheck.program_equations.Programs.{ProgramBodies}
+use Rattle.program_reports.specs.post_recheck.program_equations.Solutions.{table_at, tables_of, IsWholeLeast}
 use Rattle.value_ranges.specs.declared.object_bounds.ObjectBounds.{ObjectBounds}
 use Rattle.value_ranges.specs.declared.object_bounds.Grouping.{Grouping}
 use Rattle.value_ranges.specs.declared.object_bounds.Grouping.TheVariants as Groupings
@@ -53,6 +54,10 @@ pub record IsListed (list : List ObjectBounds) (object : ℕ) : Type 0 where
   pub bounds : ObjectBounds
   pub has : Contains list bounds
   pub of : bounds.object ≡ object
+
+-- the tables and the store are the least solution of the program
+abbrev pub AreLeast : ProgramBodies → List (List (Option State)) → Interferences → Type 0
+AreLeast p tables store = IsWholeLeast p (table_at tables p.tasks) (tables_of tables) store
 
 module _ (p : ProgramBodies) (tables : ℕ → NodeTable State) (store : Interferences) where
   -- ## Numbers

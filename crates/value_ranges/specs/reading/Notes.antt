@@ -1,6 +1,6 @@
 -- What the code notes of each object: the least and the greatest of the numbers that it has seen so far.
-use Rattle.std.specs.Prelude.{◌≡◌, ◌⊎◌, ◌↔◌, ℕ, ◌<◌, ℤ, ◌≤ℤ◌, List, length, get_or, set, slice_get, Contains, Option}
-use Rattle.std.specs.Prelude.{Some, None}
+use Rattle.std.specs.Prelude.{◌≡◌, ◌⊎◌, ◌↔◌, ℕ, ◌<◌, nat_le, eqb, ℤ, ◌≤ℤ◌, Bool, true, false, ◌||◌, cond, List, length}
+use Rattle.std.specs.Prelude.{get_or, set, slice_get, Contains, Option, Some, None, is_some}
 use Rattle.std.specs.FinMap as map
 use Rattle.std.specs.FinMap.{get, entries}
 use Rattle.tm_lattice.specs.Tables.{Table}
@@ -10,8 +10,17 @@ use Rattle.tm_laid.specs.declared.objects.Initial.{Initial}
 use Rattle.tm_laid.specs.declared.objects.Initial.TheVariants as Initials
 use Rattle.tm_laid.specs.Layouts.{LaidTree, cell_at}
 use Rattle.interfere_set.specs.Stores.{Nested, value_or_none}
+use Rattle.flow_graph.specs.declared.operations.Operation.{Operation}
+use Rattle.flow_graph.specs.declared.operations.Operation.TheVariants as Op
+use Rattle.flow_graph.specs.Graphs.{Edges}
+use Rattle.mutex_configs.specs.graph_facts.declared.regions.Head.{Head}
+use Rattle.mutex_configs.specs.declared.nodes.ConfiguredNode.{ConfiguredNode}
+use Rattle.mutex_configs.specs.declared.nodes.EdgeCopy.{EdgeCopy}
 use Rattle.program_reports.specs.post_recheck.transfer_rows.StateForms.{State, own_of}
 use Rattle.program_reports.specs.post_recheck.table_covers.Solutions.{at}
+use Rattle.program_reports.specs.post_recheck.task_equations.Bodies.{Body, no_edge, no_copy}
+use Rattle.program_reports.specs.post_recheck.task_equations.Equations.{cells_rounded}
+use Rattle.program_reports.specs.post_recheck.program_equations.Programs.{ProgramBodies, body_at}
 use Rattle.program_reports.specs.post_recheck.program_equations.Solutions.{table_at}
 use Rattle.value_ranges.specs.declared.object_bounds.ObjectBounds.{ObjectBounds}
 use Rattle.value_ranges.specs.declared.cells.IntegerCell.{IntegerCell}
@@ -73,6 +82,29 @@ pub record HasNoted (more : ObjectBounds) (old new : List Noted) : Type 0 where
   pub joined : IsJoined (noted_at old more.object) more bounds
   pub is : new ≡ set old more.object (Some bounds)
 
+-- ## Where tables are looked at
+
+-- an operation after which a cell may hold more by itself than before
+abbrev pub may_raise : Operation → Bool
+may_raise (Op.Store address value scalar into place) = true
+may_raise (Op.Clear object) = true
+may_raise (Op.Lock mutex place) = true
+may_raise (Op.Probe to mutex place) = true
+may_raise op = false
+
+-- the node to which a copy of such an edge leads
+abbrev pub raised_to : Edges → EdgeCopy → Option ℕ
+raised_to edges c = (let e = get_or edges c.edge no_edge in cond (may_raise e.op) c.to None)
+
+-- a node at which cells are rounded; where there is no node, nothing is known
+abbrev pub is_head : List Head → List (List ℕ) → Option ConfiguredNode → Bool
+is_head heads written None = true
+is_head heads written (Some q) = is_some (cells_rounded heads written q.place)
+
+-- a node that is looked at whatever leads there: the first one, heads, or all
+abbrev pub is_noted : Bool → List Head → List (List ℕ) → List ConfiguredNode → ℕ → Bool
+is_noted all heads written nodes n = all || (eqb n 0 || is_head heads written (slice_get nodes n))
+
 -- ## What is noted
 
 -- it holds for one of the first numbers
@@ -130,11 +162,37 @@ module _ (cells : List IntegerCell) where
     pub is : at table node ≡ Some state
     pub has : IsInValues (own_of state) object n
 
-  abbrev pub IsInTable : List (Option State) → ℕ → ℤ → Type 0
-  IsInTable table object n = Below (IsInNode table object n) (length table)
+  -- at a node at which the table is looked at
+  abbrev pub IsInNoted : (ℕ → Bool) → List (Option State) → ℕ → ℤ → ℕ → Type 0
+  IsInNoted looks table object n node = (looks node ≡ true) × IsInNode table object n node
 
-  abbrev pub IsInTables : List (List (Option State)) → ℕ → ℕ → ℤ → Type 0
-  IsInTables tables i object n = Below (λ t. IsInTable (table_at tables t) object n) i
+  -- at the node to which a copy of an edge leads that may raise what cells hold
+  pub record IsInRaised (edges : Edges) (copies : List EdgeCopy) (table : List (Option State)) (object : ℕ) (n : ℤ)
+      (k : ℕ) : Type 0 where
+    pub node : ℕ
+    pub leads : raised_to edges (get_or copies k no_copy) ≡ Some node
+    pub has : IsInNode table object n node
+
+  abbrev pub IsInHeads : (ℕ → Bool) → List (Option State) → ℕ → ℕ → ℤ → Type 0
+  IsInHeads looks table i object n = Below (IsInNoted looks table object n) i
+
+  abbrev pub IsInCopies : Edges → List EdgeCopy → List (Option State) → ℕ → ℕ → ℤ → Type 0
+  IsInCopies edges copies table i object n = Below (IsInRaised edges copies table object n) i
+
+  -- in the table of what has these parts, at all nodes or where the numbers of cells may be others than before
+  abbrev pub IsInParts : Bool → Edges → List ConfiguredNode → List EdgeCopy → List Head → List (List ℕ)
+      → List (Option State) → ℕ → ℤ → Type 0
+  IsInParts all edges nodes copies heads written table object n =
+      IsInHeads (is_noted all heads written nodes) table (length table) object n
+      ⊎ IsInCopies edges copies table (length copies) object n
+
+  abbrev pub IsInTable : Bool → Body → List (Option State) → ℕ → ℤ → Type 0
+  IsInTable all b table object n = IsInParts all b.edges b.nodes b.copies b.heads b.written table object n
+
+  -- of the tables of the tasks where numbers may be others than before, of that of the initial section at all nodes
+  abbrev pub IsInTables : ProgramBodies → List (List (Option State)) → ℕ → ℕ → ℤ → Type 0
+  IsInTables p tables i object n =
+      Below (λ t. IsInTable (nat_le p.tasks t) (body_at p t) (table_at tables t) object n) i
 
   -- in what was written with a set of mutexes held
   abbrev pub held_at : Table (Table Values) → ℕ → Table Values
@@ -163,12 +221,12 @@ pub record AreListed (noted : List Noted) (i : ℕ) (list : List ObjectBounds) :
 
 -- ## All that is noted
 
--- nothing was noted before, and what is noted is widened by all numbers
-pub record AreNotedIn (by : Grouping) (laid : LaidTree) (tables : List (List (Option State))) (weak : Nested)
-    (noted : List Noted) : Type 0 where
+-- nothing was noted before, and what is noted is widened by the numbers that are seen
+pub record AreNotedIn (by : Grouping) (laid : LaidTree) (p : ProgramBodies) (tables : List (List (Option State)))
+    (weak : Nested) (noted : List Noted) : Type 0 where
   pub cells : List IntegerCell
   pub are : AreIntegerCells by laid cells
   pub count : length noted ≡ key_count by laid
   pub each : (object : ℕ) → IsWidened (λ n. IsFirstBelow by laid (length laid.initial) object n
-      ⊎ (IsInTables cells tables (length tables) object n ⊎ IsInWeak cells weak (length (entries weak)) object n))
+      ⊎ (IsInTables cells p tables (length tables) object n ⊎ IsInWeak cells weak (length (entries weak)) object n))
       object None (noted_at noted object)

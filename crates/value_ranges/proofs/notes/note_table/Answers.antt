@@ -1,42 +1,35 @@
-use Rattle.std.proofs.Common.{◌≡◌, ◌+◌, ◌∙◌, ap, length, sym, subst, arith, Vec, Some, None}
-use Rattle.std.specs.declared.alloc.Global.{Global}
-use Rattle.std.proofs.lemmas.List.{get_or_default}
-use Rattle.program_reports.specs.post_recheck.table_covers.Solutions.{at}
-use Rattle.value_ranges.specs.reading.Notes.{Noted, AreWidened, Below, IsInNode}
-use Rattle.value_ranges.proofs.Widening.{begins, goes_on, stays, of_those}
-use Rattle.value_ranges.proofs.Noting.{node_noted, node_silent}
+use Rattle.std.proofs.Common.{length, subst, inl, inr, List}
+use Rattle.flow_graph.specs.Graphs.{Edges}
+use Rattle.mutex_configs.specs.declared.nodes.ConfiguredNode.{ConfiguredNode}
+use Rattle.mutex_configs.specs.declared.nodes.EdgeCopy.{EdgeCopy}
+use Rattle.value_ranges.specs.reading.Notes.{AreWidened, IsInHeads, IsInCopies, IsInParts, is_noted}
+use Rattle.value_ranges.proofs.Widening.{all_both, of_those}
 use Rattle.value_ranges.proofs.notes.note_table.Goals as goal
-use Rattle.value_ranges.proofs.notes.note_table.Goals.{in-Some, in_default}
 
-pub loop-node-init : goal.loop-node-init
-loop-node-init c = begins (IsInNode c.args.cells.now c.args.table.now) c.args.noted.now.items
-
-pub note_state-requires : goal.note_state-requires
-note_state-requires c =
-    of_those c.args.cells.now c.args.noted.now.items c.loop-node.noted.items c.requires c.loop-node.invariant.count
-
-pub loop-node-preserved : goal.loop-node-preserved
-loop-node-preserved c =
-    let cells = c.args.cells.now in
-    let table = c.args.table.now in
-    let i = c.loop-node.node in
-    let there : at table i ≡ c.index-table-node.result =
-    get_or_default table i None c.index-table-node.result c.loop-node-test.true ∙ sym c.index-table-node.is in
-    let Notes = λ (v : Vec Noted Global). AreWidened (λ o n. Below (IsInNode cells table o n) (i + 1))
-    c.args.noted.now.items v.items in
-    elim c.match-table-node.branch [
-      | in-Some w ↦ subst Notes (sym w.noted-is)
-          (goes_on (IsInNode cells table) i c.args.noted.now.items c.loop-node.noted.items w.note_state.new.noted.items
-          c.loop-node.invariant
-          (node_noted cells table i w.state.result.now (there ∙ w.in-Some.is ∙ ap Some (sym w.state.ensures))
-          c.loop-node.noted.items w.note_state.new.noted.items w.note_state.ensures))
-      | in_default w ↦ subst Notes (sym w.noted-is)
-          (stays (IsInNode cells table) i c.args.noted.now.items c.loop-node.noted.items c.loop-node.invariant
-          (node_silent cells table i (there ∙ w.in_default.is)))
-    ]
+pub note_raised-requires : goal.note_raised-requires
+note_raised-requires c =
+    of_those c.args.cells.now c.args.noted.now.items c.note_heads.new.noted.items c.requires c.note_heads.ensures.count
 
 pub returns : goal.returns
 returns c =
-    let end : c.loop-node.node ≡ length c.args.table.now = omega arith in
-    subst (λ i. AreWidened (λ o n. Below (IsInNode c.args.cells.now c.args.table.now o n) i) c.args.noted.now.items
-    c.loop-node.noted.items) end c.loop-node.invariant
+    let cells = c.args.cells.now in
+    let all = c.args.all in
+    let edges = c.args.graph.now.edges.items in
+    let nodes = c.args.configured.now.nodes.keys in
+    let copies = c.args.configured.now.copies.items in
+    let f = c.args.facts.now in
+    let table = c.args.table.now in
+    let before = c.args.noted.now.items in
+    let between = c.note_heads.new.noted.items in
+    let after = c.note_raised.new.noted.items in
+    let first = subst (λ (ns : List ConfiguredNode). AreWidened (λ o n. IsInHeads cells
+    (is_noted all f.heads f.written ns) table (length table) o n) before between) c.as_slice.ensures.keys
+    c.note_heads.ensures in
+    let second = subst (λ (es : Edges). AreWidened (λ o n. IsInCopies cells es copies table (length copies) o n) between
+    after) c.deref.ensures.value
+    (subst (λ (cs : List EdgeCopy). AreWidened (λ o n. IsInCopies cells c.deref.result.now cs table (length cs) o n)
+    between after) c.deref-2.ensures.value c.note_raised.ensures) in
+    all_both (λ o n. IsInHeads cells (is_noted all f.heads f.written nodes) table (length table) o n)
+    (λ o n. IsInCopies cells edges copies table (length copies) o n)
+    (λ o n. IsInParts cells all edges nodes copies f.heads f.written table o n) before between after
+    (λ o n h. inl h) (λ o n h. inr h) (λ o n h. h) first second
