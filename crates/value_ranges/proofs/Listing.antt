@@ -23,7 +23,7 @@ use Rattle.value_ranges.proofs.Widening.{number_noted}
 Some_is : (b d : ObjectBounds) → Some b ≡ Some d → b ≡ d
 Some_is b d e = cc
 
-Some_number : (o u : ℕ) → Some o ≡ Some u → o ≡ u
+pub Some_number : (o u : ℕ) → Some o ≡ Some u → o ≡ u
 Some_number o u e = cc
 
 pub nothing_contained : {X : Type 0} (x : X) → Contains [] x → ⊥

@@ -28,9 +28,7 @@ use Rattle.value_ranges.specs.reading.Notes.{Noted, noted_at, IsWidened, AreWide
 use Rattle.value_ranges.specs.reading.Notes.{IsInValues, IsInNode, IsInNoted, IsInRaised, IsInTables, IsInWeak}
 use Rattle.value_ranges.specs.reading.Notes.{AreNotedIn, IsInParts, IsInTable, raised_to}
 use Rattle.value_ranges.proofs.Widening.{all_as, noted_both}
-
-Some_number : (m n : ℕ) → Some m ≡ Some n → m ≡ n
-Some_number m n e = cc
+use Rattle.value_ranges.proofs.Listing.{Some_number}
 
 Some_state : (s t : State) → Some s ≡ Some t → s ≡ t
 Some_state s t e = cc

@@ -3,7 +3,7 @@ use Rattle.std.proofs.Common.{◌≡◌, ◌⊎◌, ℕ, zero, suc, ◌<◌, eqb
 use Rattle.std.proofs.Common.{ap, sym, subst, ◌∙◌, inl, inr, List, [], ◌∷◌, length, map, get_or, Option, Some, None}
 use Rattle.std.proofs.Common.{is_some, IfSome, arith}
 use Rattle.std.specs.Prelude.{slice_get, unwrap_or}
-use Rattle.std.proofs.lemmas.Bool.{true≢false}
+use Rattle.std.proofs.lemmas.Bool.{true≢false, or_parts, or_right}
 use Rattle.std.proofs.lemmas.List.{get_or-map, length-map}
 use Rattle.std.proofs.lemmas.Option.{slice_get-get_or, slice_get_within}
 use Rattle.tm_lattice.specs.Tables.{IsBelow}
@@ -159,18 +159,6 @@ leads_from (Some m) n is = ap Some (eqb-true m n is)
 same_leads : (n : ℕ) → leads_to (Some n) n ≡ true
 same_leads n = eq-eqb n n refl
 
-or_true : (b : Bool) → (b || true) ≡ true
-or_true true = refl
-or_true false = refl
-
-left_false : (a b : Bool) → (a || b) ≡ false → a ≡ false
-left_false true b is = absurd (true≢false is)
-left_false false b is = refl
-
-right_false : (a b : Bool) → (a || b) ≡ false → b ≡ false
-right_false true b is = absurd (true≢false is)
-right_false false b is = is
-
 pub true_cases : (a b : Bool) → (a || b) ≡ true → (a ≡ true) ⊎ (b ≡ true)
 true_cases true b is = inl refl
 true_cases false b is = inr is
@@ -188,9 +176,9 @@ never_raised : (edges : Edges) (cs : List EdgeCopy) (n : ℕ) → is_raised edge
 never_raised edges [] n is k lt e = absurd (omega (arith, lt))
 never_raised edges (c ∷ cs) n is zero lt e =
     true≢false (sym (subst (λ a. leads_to a n ≡ true) (sym e) (same_leads n))
-    ∙ left_false (leads_to (raised_to edges c) n) (is_raised edges cs n) is)
+    ∙ (or_parts (leads_to (raised_to edges c) n) (is_raised edges cs n) is).0)
 never_raised edges (c ∷ cs) n is (suc k) lt e =
-    never_raised edges cs n (right_false (leads_to (raised_to edges c) n) (is_raised edges cs n) is) k
+    never_raised edges cs n (or_parts (leads_to (raised_to edges c) n) (is_raised edges cs n) is).1 k
     (omega (arith, lt)) e
 
 module _ (all : Bool) (b : Body) where
@@ -198,7 +186,7 @@ module _ (all : Bool) (b : Body) where
   looks n = is_noted all b.heads b.written b.nodes n || is_raised b.edges b.copies n
 
   looks_first : looks 0 ≡ true
-  looks_first = ap (λ x. x || is_raised b.edges b.copies 0) (or_true all)
+  looks_first = ap (λ x. x || is_raised b.edges b.copies 0) (or_right all true refl)
 
   by_node : (n : ℕ) (a : Option ConfiguredNode) → slice_get b.nodes n ≡ a → is_head b.heads b.written a ≡ false
       → is_some (cells_at b n) ≡ false
@@ -209,9 +197,9 @@ module _ (all : Bool) (b : Body) where
 
   looks_plain : (n : ℕ) → looks n ≡ false → is_some (cells_at b n) ≡ false
   looks_plain n is =
-      let noted = left_false (is_noted all b.heads b.written b.nodes n) (is_raised b.edges b.copies n) is in
+      let noted = (or_parts (is_noted all b.heads b.written b.nodes n) (is_raised b.edges b.copies n) is).0 in
       by_node n (slice_get b.nodes n) refl
-      (right_false (eqb n 0) (is_head b.heads b.written (slice_get b.nodes n)) (right_false all _ noted))
+      (or_parts (eqb n 0) (is_head b.heads b.written (slice_get b.nodes n)) (or_parts all _ noted).1).1
 
   -- a copy that leads to another node raises nothing
   module _ (k : ℕ) (lt : k < length b.copies) where
@@ -223,7 +211,7 @@ module _ (all : Bool) (b : Body) where
     raises_nothing m to other false is = refl
     raises_nothing m to other true is =
         absurd (never_raised b.edges b.copies m
-        (right_false (is_noted all b.heads b.written b.nodes m) (is_raised b.edges b.copies m) other) k lt
+        (or_parts (is_noted all b.heads b.written b.nodes m) (is_raised b.edges b.copies m) other).1 k lt
         (ap (λ r. cond r copy.to None) is ∙ to))
 
     is_quiet : (m : ℕ) → copy.to ≡ Some m → looks m ≡ false → IsQuiet (action_along b copy)
