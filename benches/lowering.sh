@@ -162,7 +162,7 @@ fn edges(alloc: Global, source: &[u8], last: Step) -> Result<usize, Refused> {
     if source.len() > 1_048_576 {
         return Err(Refused::NoMemory);
     }
-    match lex(alloc, source) {
+    match lex(alloc, source, 200_000) {
         Ok(tokens) => match parse(alloc, &tokens) {
             Ok(file) => match last {
                 Step::Parsing => Ok(0),

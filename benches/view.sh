@@ -405,7 +405,7 @@ same $'a.h:8:8: error: here begins no token, comment or blank of the language [L
 printf 'int n;\r\n__task(1) void t(void) { n = 1; }\r\n' >"$work/returns.c"
 same $'alarms 0\nstatus 0' "$(told "$top/analyse" "$work/returns.c")" "bytes 13 and 10"
 if grep 'a byte 13' "$work/err"; then exit 1; fi
-{ printf '#define N n\nint N;\n' && head -c 1048576 /dev/zero | tr '\0' '\n'; } >"$work/long.c"
+{ printf '#define N n\nint N;\n' && head -c 16777216 /dev/zero | tr '\0' '\n'; } >"$work/long.c"
 same $'alarms 0\nstatus 0' "$(told "$top/analyse" "$work/long.c")" "a long file that is short behind the preprocessor"
 same $'/dev/stdin: error: the source is larger than what is analysed [Limit source 1048576]\nstatus 2' \
     "$(told "$top/analyse" /dev/stdin < <(cat "$work/long.c"))" "a long pipe"

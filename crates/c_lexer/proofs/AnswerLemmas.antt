@@ -1,16 +1,14 @@
 -- A source has one answer, and what is kept of its reading determines it.
-use Rattle.std.proofs.Common.{◌≡◌, ℕ, zero, suc, ◌<◌, ◌≤◌, Bool, true, ltb, List, [], ◌∷◌, length, drop, Option, Some, None, Result, Err, refl, sym, ap, ◌∙◌, subst, inl, inr, ◌⊎◌, arith}
-use Rattle.std.specs.Prelude.{option_map, option_and_then, IfSome}
-use Rattle.std.proofs.lemmas.Bool.{cases_lt, lt-ltb}
+use Rattle.std.proofs.Common.{◌≡◌, ℕ, zero, suc, ◌+◌, ◌<◌, ◌≤◌, Bool, true, false, cond, ltb, List, [], ◌∷◌, length, drop, Option, Some, None, Result, Ok, Err, refl, sym, ap, ◌∙◌, subst, inl, inr, ◌⊎◌, arith}
+use Rattle.std.specs.Prelude.{option_map, option_and_then, find, IfSome}
+use Rattle.std.proofs.lemmas.Bool.{cases_lt, lt-ltb, le-ltb, ltb-false}
 use Rattle.std.proofs.lemmas.List.{drop_all, take_all, length-take}
 use Rattle.tm_terms.specs.Lexis.{begins}
-use Rattle.tm_terms.specs.Spelling.{Reading, read_past, next_reading, reading, noted, with_first_names, Spells, StopsAt, Lexes, stops, spells, lexical, too_many_tokens, checked}
-use Rattle.tm_terms.specs.Limits.{limit_number}
-use Rattle.tm_terms.specs.declared.refusals.Limit.TheVariants as Limits
+use Rattle.tm_terms.specs.Spelling.{Reading, read_past, next_reading, reading, noted, with_first_names, Spells, StopsAt, Lexes, stops, spells, lexical, too_many_tokens, is_unsupported, unless_refused, checked}
 use Rattle.tm_terms.specs.declared.places.Place.{Place}
 use Rattle.tm_terms.specs.declared.refusals.Refusal.{Refusal}
 use Rattle.tm_terms.specs.declared.tokens.Token.{Token}
-use Rattle.c_lexer.specs.reading.Kept.{Stands, most}
+use Rattle.c_lexer.specs.reading.Kept.{Stands}
 
 -- ## One reading that goes no further
 
@@ -68,16 +66,16 @@ module _ (source : List ℕ) where
       let same : s.last.at ≡ t.last.at = ap (λ (r : Reading). r.at) (one_last (Last-from_StopsAt s) (Last-from_Spells t)) in
       omega (arith, s.inside, t.whole)
 
-  pub one_answer : {answer other : Result (List Token) Refusal} → Lexes source answer → Lexes source other → answer ≡ other
-  one_answer (stops s) (stops t) = ap (λ p. Err (lexical p)) (one_place s t)
-  one_answer (stops s) (spells t) = absurd (not_both s t)
-  one_answer (spells s) (stops t) = absurd (not_both t s)
-  one_answer (spells s) (spells t) = ap checked (one_list s t)
+  pub one_answer : (most : ℕ) {answer other : Result (List Token) Refusal} → Lexes most source answer → Lexes most source other → answer ≡ other
+  one_answer most (stops s) (stops t) = ap (λ p. Err (lexical p)) (one_place s t)
+  one_answer most (stops s) (spells t) = absurd (not_both s t)
+  one_answer most (spells s) (stops t) = absurd (not_both t s)
+  one_answer most (spells s) (spells t) = ap (checked most) (one_list s t)
 
-  pub only_one : (given : Option (Result (List Token) Refusal)) → IfSome given (λ answer. Lexes source answer)
-      → (answer : Result (List Token) Refusal) → Lexes source answer → IfSome given (λ g. g ≡ answer)
-  only_one None _ answer is = tt
-  only_one (Some given) lexed answer is = one_answer lexed is
+  pub only_one : (most : ℕ) (given : Option (Result (List Token) Refusal)) → IfSome given (λ answer. Lexes most source answer)
+      → (answer : Result (List Token) Refusal) → Lexes most source answer → IfSome given (λ g. g ≡ answer)
+  only_one most None _ answer is = tt
+  only_one most (Some given) lexed answer is = one_answer most lexed is
 
   -- ## From what is kept
 
@@ -86,8 +84,8 @@ module _ (source : List ℕ) where
   length-with_first_names table [] = refl
   length-with_first_names table (t ∷ tokens) = ap suc (length-with_first_names (noted source table t.shape) tokens)
 
-  Spells-from_Stands : (place : Place) (bare : Bool) (kept : List Token) (s : Stands source (length source) place bare kept) → Spells source (with_first_names source [] s.tokens)
-  Spells-from_Stands place bare kept s = record {
+  Spells-from_Stands : (place : Place) (bare : Bool) (kept : List Token) (most : ℕ) (s : Stands most source (length source) place bare kept) → Spells source (with_first_names source [] s.tokens)
+  Spells-from_Stands place bare kept most s = record {
     pieces = s.pieces;
     last = record { at = length source; place = place; bare = bare; tokens = s.tokens };
     read = s.read;
@@ -96,9 +94,9 @@ module _ (source : List ℕ) where
   }
 
   -- nothing begins where the reading stands
-  pub Lexes-stopped : (at : ℕ) (place : Place) (bare : Bool) (kept : List Token) (rest : List ℕ) (refusal : Refusal) → Stands source at place bare kept → at < length source
-      → rest ≡ drop at source → None ≡ begins at bare rest → refusal ≡ lexical place → Lexes source (Err refusal)
-  Lexes-stopped at place bare kept rest refusal s inside left nothing is =
+  pub Lexes-stopped : (most at : ℕ) (place : Place) (bare : Bool) (kept : List Token) (rest : List ℕ) (refusal : Refusal) → Stands most source at place bare kept → at < length source
+      → rest ≡ drop at source → None ≡ begins at bare rest → refusal ≡ lexical place → Lexes most source (Err refusal)
+  Lexes-stopped most at place bare kept rest refusal s inside left nothing is =
       rw is (stops (record {
         pieces = s.pieces;
         last = record { at = at; place = place; bare = bare; tokens = s.tokens };
@@ -108,19 +106,70 @@ module _ (source : List ℕ) where
         here = refl;
       }))
 
-  -- more are kept than the limit
-  pub Lexes-too_many : (place : Place) (bare : Bool) (kept : List Token) → Stands source (length source) place bare kept → limit_number Limits.Tokens < length kept → Lexes source (Err too_many_tokens)
+  -- more are kept than allowed
+  pub Lexes-too_many : (most : ℕ) (place : Place) (bare : Bool) (kept : List Token) → Stands most source (length source) place bare kept → most < length kept → Lexes most source (Err too_many_tokens)
   unfolding checked
-  Lexes-too_many place bare kept s many =
-      let cut : length kept ≤ length s.tokens = omega (arith, ap length s.front, length-take most s.tokens) in
-      let over : ltb (limit_number Limits.Tokens) (length (with_first_names source [] s.tokens)) ≡ true = lt-ltb _ _ (omega (arith, length-with_first_names [] s.tokens)) in
-      subst (Lexes source) (rw over refl) (spells (Spells-from_Stands place bare kept s))
+  Lexes-too_many most place bare kept s many =
+      let cut : length kept ≤ length s.tokens = omega (arith, ap length s.front, length-take (most + 1) s.tokens) in
+      let over : ltb most (length (with_first_names source [] s.tokens)) ≡ true = lt-ltb _ _ (omega (arith, length-with_first_names [] s.tokens)) in
+      subst (Lexes most source) (rw over refl) (spells (Spells-from_Stands place bare kept most s))
 
   -- no more are kept
-  pub Lexes-kept : (place : Place) (bare : Bool) (kept : List Token) → Stands source (length source) place bare kept → length kept ≤ limit_number Limits.Tokens → Lexes source (checked (with_first_names source [] kept))
-  Lexes-kept place bare kept s few =
-      let whole : s.tokens ≡ kept = sym (s.front ∙ take_all most s.tokens (omega (arith, ap length s.front, length-take most s.tokens))) in
-      rw whole at (spells (Spells-from_Stands place bare kept s))
+  pub Lexes-kept : (most : ℕ) (place : Place) (bare : Bool) (kept : List Token) → Stands most source (length source) place bare kept → length kept ≤ most → Lexes most source (checked most (with_first_names source [] kept))
+  Lexes-kept most place bare kept s few =
+      let whole : s.tokens ≡ kept = sym (s.front ∙ take_all (most + 1) s.tokens (omega (arith, ap length s.front, length-take (most + 1) s.tokens))) in
+      let lexed : Lexes most source (checked most (with_first_names source [] s.tokens)) =
+      spells (Spells-from_Stands place bare kept most s) in
+      rw whole at lexed
 
-pub told_same : (source : List ℕ) (given : Option (Result (List Token) Refusal)) (answer : Result (List Token) Refusal) → given ≡ Some answer → Lexes source answer → IfSome given (λ a. Lexes source a)
-told_same source given answer same is = rw same is
+pub told_same : (most : ℕ) (source : List ℕ) (given : Option (Result (List Token) Refusal)) (answer : Result (List Token) Refusal) → given ≡ Some answer → Lexes most source answer → IfSome given (λ a. Lexes most source a)
+told_same most source given answer same is = rw same is
+
+-- ## Where more tokens are allowed
+
+kept_list : (tokens answer : List Token) (o : Option Token) → unless_refused tokens o ≡ Ok answer → tokens ≡ answer
+kept_list tokens answer None e = cc
+kept_list tokens answer (Some t) e = absurd cc
+
+-- the test of a limit, read off an answer with tokens
+few_by : (most : ℕ) (tokens answer : List Token) (b : Bool) → ltb most (length tokens) ≡ b
+    → cond b (Err too_many_tokens) (unless_refused tokens (find (λ t. is_unsupported t.shape) tokens)) ≡ Ok answer
+    → (length tokens ≤ most) × (unless_refused tokens (find (λ t. is_unsupported t.shape) tokens) ≡ Ok answer)
+few_by most tokens answer true over e = absurd cc
+few_by most tokens answer false few e = (ltb-false most (length tokens) few, e)
+
+unchecked : (most : ℕ) (tokens answer : List Token) → checked most tokens ≡ Ok answer
+    → (length tokens ≤ most) × (unless_refused tokens (find (λ t. is_unsupported t.shape) tokens) ≡ Ok answer)
+unfolding checked
+unchecked most tokens answer e = few_by most tokens answer (ltb most (length tokens)) refl e
+
+checked_few : (most : ℕ) (tokens : List Token) → length tokens ≤ most
+    → checked most tokens ≡ unless_refused tokens (find (λ t. is_unsupported t.shape) tokens)
+unfolding checked
+checked_few most tokens few =
+    ap (λ b. cond b (Err too_many_tokens) (unless_refused tokens (find (λ t. is_unsupported t.shape) tokens)))
+    (le-ltb most (length tokens) few)
+
+more_by : (source : List ℕ) (most more : ℕ) (tokens : List Token) → most ≤ more → {answer : Result (List Token) Refusal}
+    → Lexes most source answer → answer ≡ Ok tokens → Lexes more source (Ok tokens)
+more_by source most more tokens le (stops s) e = absurd cc
+more_by source most more tokens le (spells {tokens = spelled} s) e =
+    let u = unchecked most spelled tokens e in
+    subst (Lexes more source) (checked_few more spelled (omega (arith, le, u.0)) ∙ u.1) (spells s)
+
+-- tokens that are an answer are one too where more are allowed
+pub lexes_more : (source : List ℕ) (most more : ℕ) (tokens : List Token) → most ≤ more → Lexes most source (Ok tokens)
+    → Lexes more source (Ok tokens)
+lexes_more source most more tokens le lexed = more_by source most more tokens le lexed refl
+
+spelled_by : (source : List ℕ) (most : ℕ) (tokens : List Token) {answer : Result (List Token) Refusal}
+    → Lexes most source answer → answer ≡ Ok tokens → Spells source tokens
+spelled_by source most tokens (stops s) e = absurd cc
+spelled_by source most tokens (spells {tokens = spelled} s) e =
+    subst (Spells source) (kept_list spelled tokens _ (unchecked most spelled tokens e).1) s
+
+-- tokens that are an answer are the only ones, however many are allowed
+pub lexes_alike : (source : List ℕ) (most more : ℕ) (tokens others : List Token) → Lexes most source (Ok tokens)
+    → Lexes more source (Ok others) → tokens ≡ others
+lexes_alike source most more tokens others one other =
+    one_list source (spelled_by source most tokens one refl) (spelled_by source more others other refl)

@@ -186,13 +186,13 @@ begins_fits at bare text =
 
 -- ## Each source has an answer
 
-module _ (source : List ℕ) where
+module _ (source : List ℕ) (most : ℕ) where
   abbrev HasAnswer : Type 0
-  HasAnswer = (answer : Result (List Token) Refusal) × Lexes source answer
+  HasAnswer = (answer : Result (List Token) Refusal) × Lexes most source answer
 
   whole : (k : ℕ) (r : Reading) → reading source k ≡ Some r → r.at ≡ length source → HasAnswer
   whole k r read all =
-      (checked (with_first_names source [] r.tokens), spells (record { pieces = k; last = r; read = read; whole = all; spelled = refl }))
+      (checked most (with_first_names source [] r.tokens), spells (record { pieces = k; last = r; read = read; whole = all; spelled = refl }))
 
   -- an answer from where a reading stands, if so many bytes are left at most
   answer_from : (left k : ℕ) (r : Reading) → reading source k ≡ Some r → r.at ≤ length source → length source ≤ r.at + left → HasAnswer

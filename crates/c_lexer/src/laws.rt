@@ -1,6 +1,6 @@
 //! What the definitions of the lexis say by themselves: nothing here runs.
 
-ghost use Rattle.std.specs.Prelude.{◌≡◌, ◌↔◌, ℕ, List, Result, length};
+ghost use Rattle.std.specs.Prelude.{◌≡◌, ◌≤◌, ◌↔◌, ℕ, List, Result, Ok, length};
 ghost use Rattle.tm_terms.specs.Spelling.{IsNameAmong, Lexes, Spells, StopsAt, text_of};
 ghost use Rattle.tm_terms.specs.declared.places.Place.{Place as PlaceOf};
 ghost use Rattle.tm_terms.specs.declared.refusals.Refusal.{Refusal as RefusalOf};
@@ -18,11 +18,16 @@ pub fn one_reading()
         → Spells source tokens → ⊥ }
 {}
 
-/// A source has exactly one answer.
+/// A source that may have so many tokens has exactly one answer; where that is its tokens, they are
+/// its answer too where it may have more, and no other tokens are its answer for any number.
 pub fn one_answer()
-    ensures one { (source : List ℕ) (answer other : Result (List TokenOf) RefusalOf) → Lexes source answer
-        → Lexes source other → answer ≡ other }
-    ensures some { (source : List ℕ) → (answer : Result (List TokenOf) RefusalOf) × Lexes source answer }
+    ensures one { (most : ℕ) (source : List ℕ) (answer other : Result (List TokenOf) RefusalOf)
+        → Lexes most source answer → Lexes most source other → answer ≡ other }
+    ensures some { (most : ℕ) (source : List ℕ) → (answer : Result (List TokenOf) RefusalOf) × Lexes most source answer }
+    ensures more { (source : List ℕ) (most more : ℕ) (tokens : List TokenOf) → most ≤ more
+        → Lexes most source (Ok tokens) → Lexes more source (Ok tokens) }
+    ensures alike { (source : List ℕ) (most more : ℕ) (tokens others : List TokenOf) → Lexes most source (Ok tokens)
+        → Lexes more source (Ok others) → tokens ≡ others }
 {}
 
 /// Two names among the tokens of a source are equal exactly where their texts are, and a text is as long as its name

@@ -1,7 +1,6 @@
 ghost use Rattle.std.specs.Prelude.{◌≡◌, ◌<◌, ◌≤◌, true, length, slice_index, IfSome};
 ghost use Rattle.tm_terms.specs.Lexis.{begins, is_name_byte, is_number_byte, number_piece, word_or_name, word_piece};
-ghost use Rattle.tm_terms.specs.Limits.{limit_number};
-ghost use Rattle.tm_terms.specs.declared.refusals.Limit.TheVariants as Limits;
+ghost use Rattle.tm_terms.specs.Limits.{most_bytes};
 
 use crate::characters::character;
 use crate::constants::constant_of;
@@ -13,7 +12,7 @@ use tm_terms::{Name, Piece, Shape, byte_at, front, is_blank};
 
 // The word with this spelling, or else the name that stands at this byte.
 fn word_or_name(at: u32, text: &[u8]) -> Shape
-    requires { length text.now ≤ limit_number Limits.Source }
+    requires { length text.now ≤ most_bytes }
     ensures { result ≡ word_or_name at text.now }
 {
     match word_of(text) {
@@ -28,7 +27,7 @@ fn word_or_name(at: u32, text: &[u8]) -> Shape
 // The piece that a letter or `_` begins.
 #[tactic(auto, unfolding(tm_terms::specs::Lexis::word_piece))]
 fn word_piece(at: u32, text: &[u8]) -> Option<Piece>
-    requires { length text.now ≤ limit_number Limits.Source }
+    requires { length text.now ≤ most_bytes }
     ensures value { result ≡ word_piece at text.now }
     ensures within { IfSome result (λ p. p.length ≤ length text.now) }
     ensures some { 0 < length text.now → is_name_byte (slice_index text.now 0) ≡ true → IfSome result
@@ -61,7 +60,7 @@ fn number_piece(text: &[u8]) -> Option<Piece>
 /// on its line.
 #[tactic(auto, unfolding(tm_terms::specs::Lexis::begins))]
 pub fn begins(at: u32, bare: bool, text: &[u8]) -> Option<Piece>
-    requires { length text.now ≤ limit_number Limits.Source }
+    requires { length text.now ≤ most_bytes }
     ensures value { result ≡ begins at bare text.now }
     ensures within { IfSome result (λ p. (0 < p.length) × (p.length ≤ length text.now)) }
 {

@@ -2,27 +2,30 @@ ghost use Rattle.std.specs.Prelude.{◌≡◌, ◌+◌, ◌≤◌, ◌++◌, len
 ghost use Rattle.tm_terms.specs.Spelling.{Lexes, lexical, token_of};
 ghost use Rattle.tm_terms.specs.declared.places.Place.{Place as PlaceOf};
 ghost use Rattle.c_lexer.specs.reading.Refused.{ForRefusal};
-ghost use Rattle.c_lexer.specs.reading.Kept.{Stands, most};
-ghost use Rattle.tm_terms.specs.Limits.{limit_number};
-ghost use Rattle.tm_terms.specs.declared.refusals.Limit.TheVariants as Limits;
+ghost use Rattle.c_lexer.specs.reading.Kept.{Stands};
+ghost use Rattle.tm_terms.specs.Limits.{most_bytes};
 
 use crate::pieces::begins;
 use crate::places::{bare_after, place_after};
 use std::alloc::Global;
-use tm_terms::limits::TOKENS;
 use tm_terms::{Fail, Kind, Place, Refusal, Shape, Token, behind, front};
 
-// Keeps the token of this shape, if there is one and fewer are kept than one more than their limit.
-fn keep(tokens: &mut Vec<Token>, place: Place, shape: Option<Shape>) -> Result<(), Fail>
-    requires { vec_len tokens.old ≤ most }
-    ensures kept { OnOk result (tokens.new.items ≡ take most (tokens.old.items ++ token_of place shape)) }
-    ensures few { OnOk result (vec_len tokens.new ≤ most) }
+// Keeps the token of this shape, if there is one and no more than `most` are kept.
+fn keep(
+    tokens: &mut Vec<Token>,
+    place: Place,
+    shape: Option<Shape>,
+    most: usize,
+) -> Result<(), Fail>
+    requires { vec_len tokens.old ≤ most + 1 }
+    ensures kept { OnOk result (tokens.new.items ≡ take (most + 1) (tokens.old.items ++ token_of place shape)) }
+    ensures few { OnOk result (vec_len tokens.new ≤ most + 1) }
     ensures memory { OnErr result (result ≡ Err Fail.NoMemory) }
 {
     let Some(shape) = shape else {
         return Ok(());
     };
-    if tokens.len() > TOKENS as usize {
+    if tokens.len() > most {
         return Ok(());
     }
     match tokens.push(Token { shape, place }) {
@@ -41,13 +44,13 @@ fn lexical(place: Place) -> Refusal
     }
 }
 
-/// The tokens of a source, each name where it stands, up to one more than their limit; or a refusal
-/// where nothing begins.
-pub fn read(alloc: Global, bytes: &[u8]) -> Result<Vec<Token>, Fail>
-    requires { length bytes.now ≤ limit_number Limits.Source }
+/// The tokens of a source, each name where it stands, up to one more than `most`; or a refusal where
+/// nothing begins.
+pub fn read(alloc: Global, bytes: &[u8], most: usize) -> Result<Vec<Token>, Fail>
+    requires { length bytes.now ≤ most_bytes }
     ensures whole { IfOk result (λ v. (place : PlaceOf) × (bare : Bool)
-        × Stands bytes.now (length bytes.now) place bare v.items) }
-    ensures stops { IfErr result (λ f. ForRefusal f (λ refusal. Lexes bytes.now (Err refusal))) }
+        × Stands most bytes.now (length bytes.now) place bare v.items) }
+    ensures stops { IfErr result (λ f. ForRefusal f (λ refusal. Lexes most bytes.now (Err refusal))) }
 {
     let mut tokens = Vec::new(alloc);
     let mut at = 0;
@@ -58,7 +61,7 @@ pub fn read(alloc: Global, bytes: &[u8]) -> Result<Vec<Token>, Fail>
         let Some(piece) = begins(at as u32, bare, rest) else {
             return Err(Fail::Refused(lexical(place)));
         };
-        keep(&mut tokens, place, piece.shape)?;
+        keep(&mut tokens, place, piece.shape, most)?;
         let text = front(rest, piece.length);
         place = place_after(place, text);
         bare = bare_after(bare, text);

@@ -94,6 +94,18 @@ lt_capped k m x r le e = elim (cases_lt k x) [
   | inr ge ↦ le-ltb k r (omega (arith, le, e, ge)) ∙ sym (le-ltb k x ge)
 ]
 
+-- what is counted on call paths stops one above its limit
+beyond_is : (l : Limit) → IsPathLimit l → beyond_number l ≡ large_number l + 1
+beyond_is Limits.Paths p = refl
+beyond_is Limits.Cells p = refl
+beyond_is Limits.Abstract p = refl
+beyond_is Limits.Source p = absurd p
+beyond_is Limits.Tokens p = absurd p
+beyond_is Limits.Tasks p = absurd p
+beyond_is Limits.Mutexes p = absurd p
+beyond_is Limits.Nodes p = absurd p
+beyond_is Limits.Work p = absurd p
+
 -- no limit is greater than on the large scale
 pub not_above : (scale : Scale) (l : Limit) → number_on scale l ≤ large_number l
 not_above Scales.Usual Limits.Source = omega arith
@@ -132,7 +144,7 @@ tested scale file order l totals bodies r h p found e is =
     (is ∙ ap (λ bs. min (beyond_number l) (of_statics file l file.statics + sum_of (total_in totals) bs)) e
     ∙ capped_sums (beyond_number l) (of_statics file l file.statics) 0 0 (total_in totals) (total_of file l) (bodies_of file)
     (λ f c. found f (All-contains (λ g. g < length file.functions) (bodies_of file) f h.bodies c))
-    ∙ counted file order l h p)
+    ∙ counted file order l h p ∙ ap (λ n. min n (laid_count file l)) (beyond_is l p))
 
 -- one more object of static storage is counted
 pub static_more : (file : TypedFileTree) (l : Limit) (objects : List TypedStatic) (i : ℕ) (object : TypedStatic) (sum one r : ℕ) → i < length objects → object ≡ get_or objects i object
@@ -156,5 +168,5 @@ exact_count file order l totals bodies r h p found e within is =
     is ∙ ap (λ bs. min (beyond_number l) (of_statics file l file.statics + sum_of (total_in totals) bs)) e
     ∙ capped_sums (beyond_number l) (of_statics file l file.statics) 0 0 (total_in totals) (total_of file l) (bodies_of file)
     (λ f c. found f (All-contains (λ g. g < length file.functions) (bodies_of file) f h.bodies c))
-    ∙ counted file order l h p in
+    ∙ counted file order l h p ∙ ap (λ n. min n (laid_count file l)) (beyond_is l p) in
     b ∙ (let z : min (large_number l + 1) (laid_count file l) ≡ laid_count file l = omega (arith, a) in z)

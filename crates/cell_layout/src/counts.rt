@@ -31,7 +31,7 @@ fn capped(limit: Limit, left: u32, right: u32) -> u32
     ensures { result ≡ min (beyond_number limit) (left + right) }
 {
     left.saturating_add(right)
-        .min(Scale::Large.number(limit) + 1)
+        .min(Scale::Large.number(limit).min(4_294_967_294) as u32 + 1)
 }
 
 // What a limit counts of some parameters and local objects.

@@ -59,7 +59,7 @@ fn within(
     ensures { IfOk result (λ found. IsWithin scale (typed_file_tree file.now) limit found) }
 {
     let totals = totals(alloc, file, limit)?;
-    if count_all(file, limit, &totals, bodies) > scale.number(limit) {
+    if count_all(file, limit, &totals, bodies) as u64 > scale.number(limit) {
         Ok(None)
     } else {
         Ok(Some(totals))

@@ -22,9 +22,9 @@ static ROWS: [(u32, bool, u32, u32, &str); 6] = [
 
 // The same on the large scale.
 static LARGE_ROWS: [(u32, bool, u32, u32, &str); 3] = [
-    (0, false, 200000, 20000, "nodes 200000 copies 199999"),
+    (0, false, 200000, 64000, "nodes 200000 copies 199999"),
     (0, false, 200001, 1, "refused nodes 200000"),
-    (0, false, 200000, 20001, "refused work 4000000000"),
+    (0, false, 200000, 64001, "refused work 12800000000"),
 ];
 
 // What configuring the graph of a row answers. (It owns the answer, with one way out behind it: how a program is let go

@@ -101,7 +101,7 @@ fn graph(paths: &Paths<'_>, scale: Scale, body: u32) -> Result<Option<Graph>, No
 {
     let fragment = fragment(paths, body)?;
     let nodes = fragment.nodes;
-    if nodes > scale.number(Limit::Nodes) {
+    if nodes as u64 > scale.number(Limit::Nodes) {
         return Ok(None);
     }
     let edges = paths.expand(fragment.items)?;

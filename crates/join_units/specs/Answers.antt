@@ -1,8 +1,7 @@
 -- What the program answers: the joined text of the units that it reads.
 use Rattle.std.specs.Prelude.{◌≡◌, ℕ, ◌+◌, List, Option}
 use Rattle.std.specs.Io.KnownBytes.{append_known}
-use Rattle.tm_terms.specs.Limits.{limit_number}
-use Rattle.tm_terms.specs.declared.refusals.Limit.TheVariants as counted
+use Rattle.tm_terms.specs.Limits.{most_bytes}
 use Rattle.program_streams.specs.Streams.{IsRead}
 use Rattle.unit_joins.specs.Joins.{IsJoined}
 
@@ -11,6 +10,6 @@ use Rattle.unit_joins.specs.Joins.{IsJoined}
 pub record Joins (left left' taken taken' : Option (List ℕ)) : Type 0 where
   pub units : List ℕ
   pub joined : List ℕ
-  pub read : IsRead left left' (limit_number counted.Source + 1) units
+  pub read : IsRead left left' (most_bytes + 1) units
   pub is : IsJoined units joined
   pub appended : taken' ≡ append_known taken joined

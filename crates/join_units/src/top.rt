@@ -8,7 +8,7 @@ use program_streams::{Status, read_whole, send, unread};
 use std::alloc::Global;
 use tm_io::{Sink, Source};
 use tm_lattice::NoMemory;
-use tm_terms::limits::SOURCE;
+use tm_terms::limits::MOST_BYTES;
 use unit_joins::{Cause, JoinFail, cause_line, join};
 
 /// Writes why there is none.
@@ -34,7 +34,7 @@ pub fn answer<S: Source, K: Sink>(alloc: Global, source: &mut S, out: &mut K) ->
     ensures write { result ≡ Status.WriteFault → Rose (K.faults out.old) (K.faults out.new) }
 {
     let mut units = Vec::new(alloc);
-    if let Err(error) = read_whole(source, &mut units, SOURCE as usize + 1) {
+    if let Err(error) = read_whole(source, &mut units, MOST_BYTES as usize + 1) {
         return unread(error);
     }
     match join(alloc, &units) {

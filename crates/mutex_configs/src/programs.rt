@@ -127,7 +127,7 @@ fn is_within_work(scale: Scale, laid: &Laid, configured: &[ConfiguredGraph]) -> 
     requires bodies { length configured.now < 2 ^ 32 }
     ensures { IsTrue result ↔ (work_from (laid_tree laid.now) 0 configured.now ≤ number_on scale Limits.Work) }
 {
-    let most = u64::from(scale.number(Limit::Work));
+    let most = scale.number(Limit::Work);
     let mut work = 0u64;
     for body in 0..configured.len() {
         let nodes = configured[body].nodes.len() as u64;

@@ -1,8 +1,11 @@
-//! Sources and their answers: two tables over one driver.
+//! Sources and their answers: two tables over one driver, and sources at the bounds of the large scale.
 
 use crate::commands::expect;
+use source_programs::source_program_on;
 use std::alloc::Global;
 use std::test::Fail;
+use tm_laid::Scale;
+use tm_terms::{Fail as Refused, Limit};
 
 /// A source, the number with which the program ends on it, and the text that it writes.
 static SOURCES: [(&[u8], u8, &[u8]); 33] = [
@@ -201,6 +204,14 @@ static LONG_SOURCES: [(&[u8], &[u8], usize, &[u8], u8, &[u8]); 12] = [
     ),
 ];
 
+/// A byte, how often it stands, and the limit by which the large scale refuses the source of these, if it does.
+static LARGE_SOURCES: [(u8, usize, Option<Limit>); 4] = [
+    (b' ', 16_777_216, None),
+    (b' ', 16_777_217, Some(Limit::Source)),
+    (b';', 4_000_000, None),
+    (b';', 4_000_001, Some(Limit::Tokens)),
+];
+
 #[test]
 fn sources(rt: HostRuntime) -> Result<(), Fail> {
     let alloc = rt.alloc();
@@ -232,6 +243,25 @@ fn long_sources(rt: HostRuntime) -> Result<(), Fail> {
     for (front, middle, count, back, number, text) in &LONG_SOURCES {
         let source = repeated(alloc, front, middle, *count, back)?;
         expect(&rt, alloc, &["analyse"], &source, *number, text)?;
+    }
+    Ok(())
+}
+
+/// Whether the large scale has a program of the source, or refuses it by this limit.
+fn is_answered(alloc: Global, source: &[u8], limit: Option<Limit>) -> bool {
+    match source_program_on(alloc, Scale::Large, source, &[]) {
+        Ok(_) => limit.is_none(),
+        Err(Refused::Refused(refusal)) => limit.is_some() && refusal.limit == limit,
+        Err(Refused::NoMemory) => false,
+    }
+}
+
+#[test]
+fn large_sources(rt: HostRuntime) -> Result<(), Fail> {
+    let alloc = rt.alloc();
+    for (byte, count, limit) in &LARGE_SOURCES {
+        let source = vec![in alloc; *byte; *count]?;
+        assert!(rt; is_answered(alloc, &source, *limit));
     }
     Ok(())
 }

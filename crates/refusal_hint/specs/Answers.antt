@@ -2,11 +2,10 @@
 use Rattle.std.specs.Prelude.{◌≡◌, ◌+◌, ◌⊎◌, ℕ, List, [], Option, Some, None, length, nat_le, if◌then◌else◌}
 use Rattle.std.specs.Io.KnownBytes.{append_known}
 use Rattle.program_streams.specs.Streams.{IsRead, TakesFrontOf}
-use Rattle.tm_terms.specs.Limits.{limit_number}
+use Rattle.tm_terms.specs.Limits.{most_bytes}
 use Rattle.tm_terms.specs.Texts.{line_of}
 use Rattle.tm_terms.specs.declared.places.Place.{Place}
 use Rattle.tm_terms.specs.declared.refusals.Kind.{Kind}
-use Rattle.tm_terms.specs.declared.refusals.Limit.TheVariants as Limits
 use Rattle.refusal_hints.specs.declared.constructs.Construct.{Construct}
 use Rattle.refusal_hints.specs.Hints.{construct_at}
 use Rattle.refusal_hints.specs.Sentences.{sentence_text}
@@ -21,13 +20,13 @@ module _ (place : Place) (kind : Kind) where
   -- what stands there; nothing of a text that is no source, since it is too long
   abbrev pub hint_text : List ℕ → List ℕ
   hint_text text =
-      if nat_le (length text) (limit_number Limits.Source) then told_text (construct_at text place kind) else []
+      if nat_le (length text) most_bytes then told_text (construct_at text place kind) else []
 
   -- By what the stream of the text has left before and after a call.
   module _ (left left' : Option (List ℕ)) where
     -- these bytes were read: to their end, or past the most that a source may have
     abbrev pub IsText : List ℕ → Type 0
-    IsText text = IsRead left left' (limit_number Limits.Source + 1) text
+    IsText text = IsRead left left' (most_bytes + 1) text
 
     -- a stream has taken the whole of what is told of the text that was read
     pub record Tells (taken taken' : Option (List ℕ)) : Type 0 where

@@ -10,7 +10,7 @@ use refusal_hints::{Construct, construct_at, sentence};
 use std::alloc::Global;
 use tm_io::{Sink, Source};
 use tm_lattice::NoMemory;
-use tm_terms::limits::SOURCE;
+use tm_terms::limits::MOST_BYTES;
 
 /// The line of a construct, or no text.
 fn told_text(alloc: Global, construct: Option<Construct>) -> Result<String, NoMemory>
@@ -30,7 +30,7 @@ fn told_text(alloc: Global, construct: Option<Construct>) -> Result<String, NoMe
 fn hint_text(alloc: Global, asked: Asked, text: &[u8]) -> Result<String, NoMemory>
     ensures { IfOk result (λ told. string_bytes told ≡ hint_text asked.place asked.kind text.now) }
 {
-    if text.len() > SOURCE as usize {
+    if text.len() > MOST_BYTES as usize {
         return Ok(String::new(alloc));
     }
     let construct = construct_at(alloc, text, asked.place, asked.kind)?;
@@ -54,7 +54,7 @@ pub fn answer<S: Source, K: Sink>(alloc: Global, asked: Asked, text: &mut S, out
     ensures others { (result ≢ Status.Alarms) × (result ≢ Status.Refused) × (result ≢ Status.Usage) }
 {
     let mut bytes = Vec::new(alloc);
-    if let Err(error) = read_whole(text, &mut bytes, SOURCE as usize + 1) {
+    if let Err(error) = read_whole(text, &mut bytes, MOST_BYTES as usize + 1) {
         return unread(error);
     }
     match hint_text(alloc, asked, &bytes) {

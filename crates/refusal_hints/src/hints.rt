@@ -1,9 +1,8 @@
 //! What stands where a source is refused.
 
 ghost use Rattle.std.specs.Prelude.{◌≡◌, ◌≤◌, ◌++◌, length, map, take, IfOk};
-ghost use Rattle.tm_terms.specs.Limits.{limit_number};
+ghost use Rattle.tm_terms.specs.Limits.{most_bytes};
 ghost use Rattle.tm_terms.specs.declared.refusals.Kind.TheVariants as KindVariants;
-ghost use Rattle.tm_terms.specs.declared.refusals.Limit.TheVariants as Limits;
 ghost use Rattle.refusal_hints.specs.Hints.{construct_among, construct_at, is_end, opening_of, stands};
 ghost use Rattle.refusal_hints.specs.Rows.{rows_of};
 ghost use Rattle.refusal_hints.specs.reading.Seen.{row_seen, words_seen};
@@ -148,7 +147,7 @@ pub fn construct_at(
     place: Place,
     kind: Kind,
 ) -> Result<Option<Construct>, NoMemory>
-    requires { length text.now ≤ limit_number Limits.Source }
+    requires { length text.now ≤ most_bytes }
     ensures { IfOk result (λ construct. construct ≡ construct_at text.now place kind) }
 {
     let Some(offset) = offset_of(text, place) else {

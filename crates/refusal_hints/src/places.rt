@@ -1,9 +1,8 @@
 //! Where a place stands in a text.
 
 ghost use Rattle.std.specs.Prelude.{◌≡◌, ◌<◌, ◌≤◌, ◌+◌, ◌^◌, length, IfSome};
-ghost use Rattle.tm_terms.specs.Limits.{limit_number};
+ghost use Rattle.tm_terms.specs.Limits.{most_bytes};
 ghost use Rattle.tm_terms.specs.Spelling.{next_place};
-ghost use Rattle.tm_terms.specs.declared.refusals.Limit.TheVariants as Limits;
 ghost use Rattle.refusal_hints.specs.Places.{is_same, offset_of};
 
 use tm_terms::Place;
@@ -35,7 +34,7 @@ fn next_place(place: Place, byte: u8) -> Place
 
 /// How many bytes of a text stand before a place, if it has a byte there.
 pub fn offset_of(text: &[u8], place: Place) -> Option<usize>
-    requires { length text.now ≤ limit_number Limits.Source }
+    requires { length text.now ≤ most_bytes }
     ensures value { result ≡ offset_of text.now place }
     ensures within { IfSome result (λ n. n < length text.now) }
 {

@@ -65,7 +65,7 @@ abbrev pub longest_report : ℕ
 longest_report = 67108864
 
 abbrev pub longest_text : ℕ
-longest_text = 1048576
+longest_text = 16777216
 
 -- these bytes are the report of these alarms
 abbrev pub IsReportOf : List ℕ → List Alarm → Type 0

@@ -22,7 +22,7 @@ use tm_terms::{Alarm, Report};
 pub const LONGEST_REPORT: usize = 67_108_864;
 
 /// The most bytes of a text.
-pub const LONGEST_TEXT: usize = 1_048_576;
+pub const LONGEST_TEXT: usize = 16_777_216;
 
 /// The form of a view.
 #[derive(Clone, Copy)]

@@ -1,7 +1,6 @@
 //! What is told of the assumptions of a source.
 ghost use Rattle.std.specs.Prelude.{◌≡◌, ◌≤◌, length, IfOk};
-ghost use Rattle.tm_terms.specs.Limits.{limit_number};
-ghost use Rattle.tm_terms.specs.declared.refusals.Limit.TheVariants as Limits;
+ghost use Rattle.tm_terms.specs.Limits.{most_bytes};
 ghost use Rattle.tm_laid.specs.tm_typed.TypedFiles.{typed_file_tree};
 ghost use Rattle.tm_laid.specs.Layable.{IsLayable};
 ghost use Rattle.tm_laid.specs.Layouts.{laid_tree};
@@ -43,7 +42,7 @@ pub fn opened_of(
     laid: &Laid,
     graphs: &[Graph],
 ) -> Result<Opened, NoMemory>
-    requires short { length bytes.now ≤ limit_number Limits.Source }
+    requires short { length bytes.now ≤ most_bytes }
     requires layable { IsLayable (typed_file_tree laid.now.file) laid.now.file.order.items }
     requires few { length laid.now.cells.items ≤ 65536 }
     ensures { IfOk result (IsOpened bytes.now (laid_tree laid.now) graphs.now) }

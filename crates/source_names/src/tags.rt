@@ -1,6 +1,7 @@
 //! The tags of structures.
 ghost use Rattle.std.specs.Prelude.{◌≡◌, ◌<◌, ◌++◌, List, All, IfOk, IfSome, OnOk, Ok, Some, option_to_list};
 ghost use Rattle.tm_terms.specs.Spelling.{Lexes};
+ghost use Rattle.tm_terms.specs.Limits.{most_tokens};
 ghost use Rattle.tm_terms.specs.declared.tokens.Token.{Token as TokenOf};
 ghost use Rattle.source_names.specs.Tags.{StandsIn, IsTagIn};
 
@@ -8,7 +9,7 @@ use c_lexer::lex;
 use c_scope::Tags;
 use std::alloc::Global;
 use tm_lattice::NoMemory;
-use tm_terms::limits::SOURCE;
+use tm_terms::limits::{MOST_BYTES, MOST_TOKENS};
 use tm_terms::{Fail, Name, Shape, Sign, Token, Word};
 use tm_typed::{TagBinding, Tagged};
 
@@ -276,13 +277,13 @@ fn tags_of(alloc: Global, tokens: &[Token]) -> Result<Vec<Name>, NoMemory>
 /// The tags of the structures of a source, in the order in which they are declared: a name of no bytes where one has
 /// none.
 pub fn structure_tags(alloc: Global, bytes: &[u8]) -> Result<Vec<Name>, NoMemory>
-    ensures there { (tokens : List TokenOf) → Lexes bytes.now (Ok tokens)
+    ensures there { (tokens : List TokenOf) → Lexes most_tokens bytes.now (Ok tokens)
         → IfOk result (λ tags. All (IsTagIn tokens) tags.items) }
 {
-    if bytes.len() > SOURCE as usize {
+    if bytes.len() > MOST_BYTES as usize {
         return Ok(Vec::new(alloc));
     }
-    match lex(alloc, bytes) {
+    match lex(alloc, bytes, MOST_TOKENS as usize) {
         Ok(tokens) => tags_of(alloc, &tokens),
         Err(Fail::Refused(_)) => Ok(Vec::new(alloc)),
         Err(Fail::NoMemory) => Err(NoMemory),

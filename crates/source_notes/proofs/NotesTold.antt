@@ -1,7 +1,8 @@
 -- What the code tells of the least solution of a source is what the source is answered on a scale; and answers come
 -- with a whole text, which sources that are too long have already where only a front of them is known.
 use Rattle.std.proofs.Common.{◌≡◌, ◌∙◌, refl, sym, ap, subst, true, ℕ, ◌<◌, ◌≤◌, ◌^◌, List, [], ◌∷◌, ◌++◌, length, map, arith}
-use Rattle.std.proofs.Common.{length-append, Vec, Option}
+use Rattle.std.proofs.Common.{length-append, Vec, Option, inl, inr, ◌⊎◌, ◌+◌}
+use Rattle.std.specs.Io.KnownBytes.{IsAtEnd}
 use Rattle.std.specs.declared.alloc.Global.{Global}
 use Rattle.tm_terms.specs.declared.refusals.Refusal.{Refusal}
 use Rattle.tm_laid.specs.declared.scales.Scale.{Scale}
@@ -18,7 +19,7 @@ use Rattle.alarm_contexts.specs.declared.alarm_context.AlarmContexts.{AlarmConte
 use Rattle.alarm_contexts.proofs.One.{report_alarms, no_races}
 use Rattle.request_circles.specs.declared.rings.Ring.{Ring}
 use Rattle.request_circles.specs.Rings.{ring_places}
-use Rattle.source_programs.specs.LaidSources.{longest_source, IsLaidSourceOn}
+use Rattle.source_programs.specs.LaidSources.{longest_on, IsLaidSourceOn}
 use Rattle.source_programs.specs.Sources.{IsAcceptedOn, IsRefusedOn}
 use Rattle.source_programs.specs.Sources.IsRefusedOn.{too_long, not_lexed, not_parsed, not_typed, not_laid}
 use Rattle.source_programs.specs.Sources.IsRefusedOn.{not_prepared}
@@ -391,7 +392,13 @@ notes_are_whole scale n bytes NoMemory text h = absurd h
 
 -- ## Sources that are too long
 
-longer_refused : (scale : Scale) (bytes more : List ℕ) (refusal : Refusal) → longest_source < length bytes
+-- what is read up to one byte more than this number is read to its end, or past the number
+pub past_number : (longest most n : ℕ) (left' : Option (List ℕ)) → most ≡ longest + 1
+    → IsAtEnd left' ⊎ (most ≤ n) → IsAtEnd left' ⊎ (longest < n)
+past_number longest most n left' one-more (inl end) = inl end
+past_number longest most n left' one-more (inr many) = inr (omega (arith, one-more, many))
+
+longer_refused : (scale : Scale) (bytes more : List ℕ) (refusal : Refusal) → longest_on scale < length bytes
     → IsRefusedOn scale bytes refusal → IsRefusedOn scale (bytes ++ more) refusal
 longer_refused scale bytes more refusal h (too_long k) = too_long (omega (arith, length-append bytes more))
 longer_refused scale bytes more refusal h (not_lexed k l) = absurd (omega arith)
@@ -399,13 +406,13 @@ longer_refused scale bytes more refusal h (not_parsed k l q) = absurd (omega ari
 longer_refused scale bytes more refusal h (not_typed k l t) = absurd (omega arith)
 longer_refused scale bytes more refusal h (not_laid k l t e) = absurd (omega arith)
 longer_refused scale bytes more refusal h (not_prepared source e) =
-    absurd (let k : length bytes ≤ longest_source = source.short in omega arith)
+    absurd (let k : length bytes ≤ longest_on scale = source.short in omega arith)
 
-not_solved : (scale : Scale) (bytes : List ℕ) → longest_source < length bytes → SolvesOn scale bytes → ⊥
+not_solved : (scale : Scale) (bytes : List ℕ) → longest_on scale < length bytes → SolvesOn scale bytes → ⊥
 not_solved scale bytes long s =
     let accepted = s.accepted in
     let source = accepted.source in
-    let short : length bytes ≤ longest_source = source.short in
+    let short : length bytes ≤ longest_on scale = source.short in
     omega (arith, long, short)
 
 solved_by : (scale : Scale) (n : Note) (bytes : List ℕ) (status : Status) (text : List ℕ)
@@ -419,7 +426,7 @@ solved_by scale Whole bytes status text t = (let f = t.finds in let r = f.report
 solved_by scale Assumptions bytes status text t = (let f = t.finds in f.solves)
 solved_by scale Parts bytes status text t = (let q = t.report in let r = q.told in let f = r.finds in f.solves)
 
-pub longer_notes : (scale : Scale) (n : Note) (bytes more : List ℕ) → longest_source < length bytes
+pub longer_notes : (scale : Scale) (n : Note) (bytes more : List ℕ) → longest_on scale < length bytes
     → (status : Status) (text : List ℕ) → HasNotes scale n bytes status text
     → HasNotes scale n (bytes ++ more) status text
 longer_notes scale n bytes more long NoAlarm text h =

@@ -7,7 +7,7 @@ use Rattle.program_streams.specs.declared.statuses.Status.TheVariants.{ReadFault
 use Rattle.program_streams.specs.Statuses.{IsWhole}
 use Rattle.program_streams.specs.Streams.{IsReadOut}
 use Rattle.program_streams.specs.Taken.{Answers, TakesNoMore}
-use Rattle.source_programs.specs.LaidSources.{longest_source}
+use Rattle.source_programs.specs.LaidSources.{longest_on}
 use Rattle.source_notes.specs.declared.answers.Note.{Note}
 use Rattle.source_notes.specs.Notes.{HasNotes}
 
@@ -29,8 +29,8 @@ pub record IsTold (scale : Scale) (note : Note) (left left' taken taken' : Optio
   pub whole : IsWhole result → Answers (HasNotes scale note) left taken taken' result
   -- Whatever comes, the sink has taken nothing, or a front of such a text.
   pub front : TakesNoMore (HasNotes scale note) left taken taken'
-  -- All that the source has left is read, unless it is too long.
-  pub all : IsWhole result → IsReadOut longest_source left left'
+  -- All that the source has left is read, unless it is too long on the scale.
+  pub all : IsWhole result → IsReadOut (longest_on scale) left left'
   -- A fault comes exactly where a count of faults rose. After a read fault nothing is taken.
   pub read : result ≡ ReadFault → Rose reads reads' × (taken' ≡ taken)
   pub write : result ≡ WriteFault → Rose writes writes'

@@ -1,7 +1,6 @@
 //! The answer to the bytes of a source, on a scale.
 ghost use Rattle.std.specs.Prelude.{◌≡◌, ◌≤◌, true, length, IfOk};
-ghost use Rattle.tm_terms.specs.Limits.{limit_number};
-ghost use Rattle.tm_terms.specs.declared.refusals.Limit.TheVariants as Limits;
+ghost use Rattle.tm_terms.specs.Limits.{most_bytes};
 ghost use Rattle.tm_laid.specs.tm_typed.TypedFiles.{typed_file_tree};
 ghost use Rattle.tm_laid.specs.Layable.{IsLayable};
 ghost use Rattle.tm_laid.specs.Layouts.{laid_tree};
@@ -438,7 +437,7 @@ fn opened_for(
     laid: &Laid,
     graphs: &[Graph],
 ) -> Result<Opened, NoMemory>
-    requires short { length bytes.now ≤ limit_number Limits.Source }
+    requires short { length bytes.now ≤ most_bytes }
     requires layable { IsLayable (typed_file_tree laid.now.file) laid.now.file.order.items }
     requires few { length laid.now.cells.items ≤ 65536 }
     ensures { IfOk result (λ o. is_assuming note ≡ true → IsOpened bytes.now (laid_tree laid.now) graphs.now o) }

@@ -1,5 +1,6 @@
 //! The answer to what a stream has.
-ghost use Rattle.std.specs.Prelude.{◌≤◌, IfOk};
+ghost use Rattle.std.specs.Prelude.{◌≡◌, ◌+◌, ◌≤◌, IfOk};
+ghost use Rattle.source_programs.specs.LaidSources.{longest_on};
 ghost use Rattle.source_notes.specs.Streams.{IsTold};
 ghost use Rattle.source_notes.specs.reading.Finders.{IsFound};
 
@@ -13,11 +14,18 @@ use std::thread::Threads;
 use tm_io::{Gate, Sink, Source};
 use tm_laid::Scale;
 use tm_lattice::NoMemory;
-use tm_terms::limits::SOURCE;
+use tm_terms::limits::{MOST_BYTES, SOURCE};
 use worker_solutions::Analysis;
 
-/// How many bytes of a source are read at most: one more than it may have.
-const MOST: usize = SOURCE as usize + 1;
+/// How many bytes of a source are read at most on a scale: one more than it may have.
+fn most_read(scale: Scale) -> usize
+    ensures { result ≡ longest_on scale + 1 }
+{
+    match scale {
+        Scale::Usual => SOURCE as usize + 1,
+        Scale::Large => MOST_BYTES as usize + 1,
+    }
+}
 
 /// Reads a source to its end, or past the limit, and writes notes on it by what finds its least solution.
 fn tell_by<F: Finder, S: Source, K: Sink>(
@@ -33,7 +41,8 @@ fn tell_by<F: Finder, S: Source, K: Sink>(
         (S.faults source.old) (S.faults source.new) (K.faults out.old) (K.faults out.new) result }
 {
     let mut bytes = Vec::new(alloc);
-    match read_whole(source, &mut bytes, MOST) {
+    let most = most_read(scale);
+    match read_whole(source, &mut bytes, most) {
         Ok(()) => {}
         Err(InputError::Failed) => return Status::ReadFault,
         Err(InputError::NoMemory) => return Status::NoMemory,

@@ -15,6 +15,7 @@ use Rattle.mutex_configs.specs.Programs.{AreConfigured}
 use Rattle.program_graphs.specs.graph_builder.Lowered.{AreGraphs}
 use Rattle.program_graphs.specs.Prepared.{Graphed, IsPrepared}
 use Rattle.program_laws.specs.program_equations.Programs.{ProgramBodies}
+use Rattle.c_lexer.proofs.AnswerLemmas.{lexes_more}
 use Rattle.source_programs.specs.LaidSources.{IsLaidSourceOn}
 use Rattle.source_programs.specs.Sources.{IsAcceptedOn}
 use Rattle.source_programs.specs.Laws.{LargeAcceptsMore}
@@ -24,15 +25,15 @@ use Rattle.source_programs.proofs.Stations.{err_is_ok}
 
 -- each limit of the large scale is at least that of the commands
 at_least : (limit : Limit) → limit_number limit ≤ large_number limit
-at_least Limits.Source = (let z : 1048576 ≤ 1048576 = omega arith in z)
-at_least Limits.Tokens = (let z : 200000 ≤ 200000 = omega arith in z)
+at_least Limits.Source = (let z : 1048576 ≤ 16777216 = omega arith in z)
+at_least Limits.Tokens = (let z : 200000 ≤ 4000000 = omega arith in z)
 at_least Limits.Tasks = (let z : 32 ≤ 32 = omega arith in z)
 at_least Limits.Mutexes = (let z : 16 ≤ 16 = omega arith in z)
 at_least Limits.Paths = (let z : 4096 ≤ 65536 = omega arith in z)
 at_least Limits.Cells = (let z : 65536 ≤ 65536 = omega arith in z)
 at_least Limits.Abstract = (let z : 4096 ≤ 65536 = omega arith in z)
 at_least Limits.Nodes = (let z : 20000 ≤ 200000 = omega arith in z)
-at_least Limits.Work = (let z : 8000000 ≤ 4000000000 = omega arith in z)
+at_least Limits.Work = (let z : 8000000 ≤ 12800000000 = omega arith in z)
 
 not_exceeded : (file : TypedFileTree) (limit : Limit) → is_exceeded Scales.Usual file limit ≡ false
     → is_exceeded Scales.Large file limit ≡ false
@@ -78,9 +79,9 @@ large_layout file laid e =
 large_source : (bytes : List ℕ) (laid : LaidTree) → IsLaidSourceOn Scales.Usual bytes laid
     → IsLaidSourceOn Scales.Large bytes laid
 large_source bytes laid source = record {
-  short = source.short;
+  short = (let short = source.short in omega (arith, short));
   tokens = source.tokens;
-  lexed = source.lexed;
+  lexed = lexes_more bytes 200000 4000000 source.tokens (omega arith) source.lexed;
   file = source.file;
   typed = source.typed;
   answered = large_layout source.file laid source.answered;

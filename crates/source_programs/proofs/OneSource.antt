@@ -23,10 +23,10 @@ use Rattle.program_graphs.specs.Prepared.{Graphed, IsPrepared}
 use Rattle.thresholds.specs.Thresholds.{AreInOrder, AreThresholds, numbers_of}
 use Rattle.program_laws.specs.task_equations.Bodies.{Body}
 use Rattle.program_laws.specs.program_equations.Programs.{ProgramBodies, body_at, pointers_in, IsBodyIn, IsProgramOf}
-use Rattle.c_lexer.proofs.AnswerLemmas.{one_answer as one_lexing}
+use Rattle.c_lexer.proofs.AnswerLemmas.{one_answer as one_lexing_of, lexes_alike}
 use Rattle.c_parser.proofs.FileComplete.{file_complete}
 use Rattle.c_typing.proofs.low.typing_laws.OneAnswer.{one_answer as one_typing}
-use Rattle.source_programs.specs.LaidSources.{longest_source, main_in, TypesAs, IsLaidSourceOn}
+use Rattle.source_programs.specs.LaidSources.{longest_on, LexesOn, main_in, TypesAs, IsLaidSourceOn}
 use Rattle.source_programs.specs.Sources.{IsAcceptedOn, source_limit, IsRefusedOn}
 use Rattle.source_programs.specs.Sources.{too_long, not_lexed, not_parsed, not_typed, not_laid, not_prepared}
 use Rattle.source_programs.specs.Laws.{NoneIsBoth, OneProgram, AreSyntaxErrors, OneRefusal}
@@ -108,22 +108,28 @@ typed_is_parsed : {main : Option Name} (tokens : List Token) (a : Result TypedFi
     → TypesAs main tokens a → Parses tokens (Err r) → ⊥
 typed_is_parsed tokens a r t p = not_both_parsed tokens t.items r (Ok t.items) (Err r) t.parsed p refl refl
 
+-- the lexis has one answer on a scale
+one_lexing : (scale : Scale) (bytes : List ℕ) {answer other : Result (List Token) Refusal} → LexesOn scale bytes answer
+    → LexesOn scale bytes other → answer ≡ other
+one_lexing scale bytes h k = one_lexing_of bytes _ h k
+
 module _ (bytes : List ℕ) where
-  -- the tokens of a source are one list
-  one_list : (tokens others : List Token) → Lexes bytes (Ok tokens) → Lexes bytes (Ok others) → tokens ≡ others
-  one_list tokens others h k = from_ok (one_lexing bytes h k)
+  -- the tokens of a source are one list, however many it may have
+  one_list : {most more : ℕ} (tokens others : List Token) → Lexes most bytes (Ok tokens)
+      → Lexes more bytes (Ok others) → tokens ≡ others
+  one_list {most} {more} tokens others h k = lexes_alike bytes most more tokens others h k
 
   -- and typing has one answer for them
-  one_answer : (tokens others : List Token) (a b : Result TypedFileTree Refusal) → Lexes bytes (Ok tokens)
-      → Lexes bytes (Ok others) → TypesAs (main_in bytes tokens) tokens a → TypesAs (main_in bytes others) others b
-      → a ≡ b
+  one_answer : {most more : ℕ} (tokens others : List Token) (a b : Result TypedFileTree Refusal)
+      → Lexes most bytes (Ok tokens) → Lexes more bytes (Ok others) → TypesAs (main_in bytes tokens) tokens a
+      → TypesAs (main_in bytes others) others b → a ≡ b
   one_answer tokens others a b h k t u =
       let same : tokens ≡ others = one_list tokens others h k in
       one_typed (main_in bytes others) others a b (subst (λ ts. TypesAs (main_in bytes ts) ts a) same t) u
 
   -- tokens that spell a typed file are not refused by the grammar
-  typed_not_parsed : (tokens others : List Token) (a : Result TypedFileTree Refusal) (r : Refusal)
-      → Lexes bytes (Ok tokens) → Lexes bytes (Ok others) → TypesAs (main_in bytes tokens) tokens a
+  typed_not_parsed : {most more : ℕ} (tokens others : List Token) (a : Result TypedFileTree Refusal) (r : Refusal)
+      → Lexes most bytes (Ok tokens) → Lexes more bytes (Ok others) → TypesAs (main_in bytes tokens) tokens a
       → Parses others (Err r) → ⊥
   typed_not_parsed tokens others a r h k t p =
       let same : tokens ≡ others = one_list tokens others h k in
@@ -144,7 +150,7 @@ module _ (bytes : List ℕ) where
   pub none : (scale : Scale) (laid : LaidTree) (r : Refusal) → IsLaidSourceOn scale bytes laid
       → ((s : Refusal) → IsPrepared scale laid (Err (Fails.Refused s)) → ⊥) → IsRefusedOn scale bytes r → ⊥
   none scale laid _ h never (too_long l) = let short = h.short in omega (arith, short, l)
-  none scale laid _ h never (not_lexed s l) = ok_is_err (one_lexing bytes h.lexed l)
+  none scale laid _ h never (not_lexed s l) = ok_is_err (one_lexing scale bytes h.lexed l)
   none scale laid _ h never (not_parsed {tokens = ts} {refusal = r} s l p) =
       typed_not_parsed h.tokens ts (Ok h.file) r h.lexed l h.typed p
   none scale laid _ h never (not_typed {tokens = ts} {refusal = r} s l t) =
@@ -254,7 +260,7 @@ one_program scale other given bytes p q a b =
 prepared_once : (scale : Scale) (bytes : List ℕ) (laid : LaidTree) (r s : Refusal) → IsLaidSourceOn scale bytes laid
     → IsPrepared scale laid (Err (Fails.Refused r)) → IsRefusedOn scale bytes s → SameRefusal r s
 prepared_once scale bytes laid r _ h p (too_long l) = absurd (let short = h.short in omega (arith, short, l))
-prepared_once scale bytes laid r _ h p (not_lexed a l) = absurd (ok_is_err (one_lexing bytes h.lexed l))
+prepared_once scale bytes laid r _ h p (not_lexed a l) = absurd (ok_is_err (one_lexing scale bytes h.lexed l))
 prepared_once scale bytes laid r _ h p (not_parsed {tokens = ts} {refusal = s} a l q) =
     absurd (typed_not_parsed bytes h.tokens ts (Ok h.file) s h.lexed l h.typed q)
 prepared_once scale bytes laid r _ h p (not_typed {tokens = ts} {refusal = s} a l t) =
@@ -272,10 +278,10 @@ swapped r s (inr (p, q, e, f)) = inr (q, p, f, e)
 
 -- what typing says of a source, or else its layout
 laid_once : (scale : Scale) (bytes : List ℕ) (tokens : List Token) (file : TypedFileTree) (r s : Refusal)
-    → length bytes ≤ longest_source → Lexes bytes (Ok tokens) → TypesAs (main_in bytes tokens) tokens (Ok file)
+    → length bytes ≤ longest_on scale → LexesOn scale bytes (Ok tokens) → TypesAs (main_in bytes tokens) tokens (Ok file)
     → laid_out scale file ≡ Err r → IsRefusedOn scale bytes s → SameRefusal r s
 laid_once scale bytes tokens file r _ short h t e (too_long l) = absurd (omega (arith, short, l))
-laid_once scale bytes tokens file r _ short h t e (not_lexed a l) = absurd (ok_is_err (one_lexing bytes h l))
+laid_once scale bytes tokens file r _ short h t e (not_lexed a l) = absurd (ok_is_err (one_lexing scale bytes h l))
 laid_once scale bytes tokens file r _ short h t e (not_parsed {tokens = ts} {refusal = s} a l q) =
     absurd (typed_not_parsed bytes tokens ts (Ok file) s h l t q)
 laid_once scale bytes tokens file r _ short h t e (not_typed {tokens = ts} {refusal = s} a l u) =
@@ -286,11 +292,11 @@ laid_once scale bytes tokens file r _ short h t e (not_laid {tokens = ts} {file 
 laid_once scale bytes tokens file r _ short h t e (not_prepared {laid = other} {refusal = s} k q) =
     swapped s r (prepared_once scale bytes other s r k q (not_laid {tokens = tokens} {file = file} short h t e))
 
-typed_once : (scale : Scale) (bytes : List ℕ) (tokens : List Token) (r s : Refusal) → length bytes ≤ longest_source
-    → Lexes bytes (Ok tokens) → TypesAs (main_in bytes tokens) tokens (Err r) → IsRefusedOn scale bytes s
+typed_once : (scale : Scale) (bytes : List ℕ) (tokens : List Token) (r s : Refusal) → length bytes ≤ longest_on scale
+    → LexesOn scale bytes (Ok tokens) → TypesAs (main_in bytes tokens) tokens (Err r) → IsRefusedOn scale bytes s
     → SameRefusal r s
 typed_once scale bytes tokens r _ short h t (too_long l) = absurd (omega (arith, short, l))
-typed_once scale bytes tokens r _ short h t (not_lexed a l) = absurd (ok_is_err (one_lexing bytes h l))
+typed_once scale bytes tokens r _ short h t (not_lexed a l) = absurd (ok_is_err (one_lexing scale bytes h l))
 typed_once scale bytes tokens r _ short h t (not_parsed {tokens = ts} {refusal = s} a l q) =
     absurd (typed_not_parsed bytes tokens ts (Err r) s h l t q)
 typed_once scale bytes tokens r _ short h t (not_typed {tokens = ts} {refusal = s} a l u) =
@@ -300,10 +306,10 @@ typed_once scale bytes tokens r _ short h t (not_laid {tokens = ts} {file = file
 typed_once scale bytes tokens r _ short h t (not_prepared {laid = other} {refusal = s} k q) =
     swapped s r (prepared_once scale bytes other s r k q (not_typed {tokens = tokens} short h t))
 
-parsed_at_all : (scale : Scale) (bytes : List ℕ) (tokens : List Token) (r s : Refusal) → length bytes ≤ longest_source
-    → Lexes bytes (Ok tokens) → Parses tokens (Err r) → IsRefusedOn scale bytes s → SameRefusal r s
+parsed_at_all : (scale : Scale) (bytes : List ℕ) (tokens : List Token) (r s : Refusal) → length bytes ≤ longest_on scale
+    → LexesOn scale bytes (Ok tokens) → Parses tokens (Err r) → IsRefusedOn scale bytes s → SameRefusal r s
 parsed_at_all scale bytes tokens r _ short h p (too_long l) = absurd (omega (arith, short, l))
-parsed_at_all scale bytes tokens r _ short h p (not_lexed a l) = absurd (ok_is_err (one_lexing bytes h l))
+parsed_at_all scale bytes tokens r _ short h p (not_lexed a l) = absurd (ok_is_err (one_lexing scale bytes h l))
 parsed_at_all scale bytes tokens r _ short h p (not_parsed {tokens = ts} {refusal = s} a l q) =
     parsed_once ts (Err r) (Err s) r s (subst (λ us. Parses us (Err r)) (one_list bytes tokens ts h l) p) q refl refl
 parsed_at_all scale bytes tokens r _ short h p (not_typed {tokens = ts} {refusal = s} a l u) =
@@ -313,16 +319,16 @@ parsed_at_all scale bytes tokens r _ short h p (not_laid {tokens = ts} {file = f
 parsed_at_all scale bytes tokens r _ short h p (not_prepared {laid = other} {refusal = s} k q) =
     swapped s r (prepared_once scale bytes other s r k q (not_parsed {tokens = tokens} short h p))
 
-lexed_once : (scale : Scale) (bytes : List ℕ) (r s : Refusal) → length bytes ≤ longest_source → Lexes bytes (Err r)
+lexed_once : (scale : Scale) (bytes : List ℕ) (r s : Refusal) → length bytes ≤ longest_on scale → LexesOn scale bytes (Err r)
     → IsRefusedOn scale bytes s → SameRefusal r s
 lexed_once scale bytes r _ short h (too_long l) = absurd (omega (arith, short, l))
-lexed_once scale bytes r _ short h (not_lexed a l) = inl (from_err (one_lexing bytes h l))
-lexed_once scale bytes r _ short h (not_parsed a l q) = absurd (ok_is_err (one_lexing bytes l h))
-lexed_once scale bytes r _ short h (not_typed a l u) = absurd (ok_is_err (one_lexing bytes l h))
-lexed_once scale bytes r _ short h (not_laid a l u e) = absurd (ok_is_err (one_lexing bytes l h))
-lexed_once scale bytes r _ short h (not_prepared k q) = absurd (ok_is_err (one_lexing bytes k.lexed h))
+lexed_once scale bytes r _ short h (not_lexed a l) = inl (from_err (one_lexing scale bytes h l))
+lexed_once scale bytes r _ short h (not_parsed a l q) = absurd (ok_is_err (one_lexing scale bytes l h))
+lexed_once scale bytes r _ short h (not_typed a l u) = absurd (ok_is_err (one_lexing scale bytes l h))
+lexed_once scale bytes r _ short h (not_laid a l u e) = absurd (ok_is_err (one_lexing scale bytes l h))
+lexed_once scale bytes r _ short h (not_prepared k q) = absurd (ok_is_err (one_lexing scale bytes k.lexed h))
 
-long_once : (scale : Scale) (bytes : List ℕ) (s : Refusal) → longest_source < length bytes → IsRefusedOn scale bytes s
+long_once : (scale : Scale) (bytes : List ℕ) (s : Refusal) → longest_on scale < length bytes → IsRefusedOn scale bytes s
     → SameRefusal source_limit s
 long_once scale bytes _ h (too_long l) = inl refl
 long_once scale bytes _ h (not_lexed a l) = absurd (omega (arith, h, a))

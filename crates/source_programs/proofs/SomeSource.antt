@@ -5,11 +5,11 @@ use Rattle.std.proofs.lemmas.Bool.{cases_lt}
 use Rattle.tm_terms.specs.declared.refusals.Limit.TheVariants as Limits
 use Rattle.tm_terms.specs.declared.refusals.Refusal.{Refusal}
 use Rattle.tm_terms.specs.declared.tokens.Token.{Token}
-use Rattle.tm_terms.specs.Spelling.{Lexes}
 use Rattle.tm_trees.specs.FileTrees.{ItemTree}
 use Rattle.tm_trees.specs.Parsing.{Parses}
 use Rattle.tm_laid.specs.tm_typed.Files.{TypedFileTree, IsTyped}
 use Rattle.tm_laid.specs.declared.scales.Scale.{Scale}
+use Rattle.tm_laid.specs.Scales.{number_on}
 use Rattle.tm_laid.specs.Layouts.{LaidTree, beyond, laid_out}
 use Rattle.program_graphs.specs.Prepared.{Graphed}
 use Rattle.configured_laws.specs.Laws.{IsProgram, IsBeyond}
@@ -18,7 +18,7 @@ use Rattle.program_laws.specs.program_equations.Programs.{ProgramBodies}
 use Rattle.c_lexer.proofs.TotalLemmas.{some_answer as some_lexing}
 use Rattle.c_parser.proofs.FileAnswers.{answered as some_file}
 use Rattle.c_typing.proofs.low.typing_laws.SomeAnswer.{some_answer as some_typing}
-use Rattle.source_programs.specs.LaidSources.{longest_source, main_in, TypesAs, IsLaidSourceOn}
+use Rattle.source_programs.specs.LaidSources.{longest_on, LexesOn, main_in, TypesAs, IsLaidSourceOn}
 use Rattle.source_programs.specs.Sources.{IsAcceptedOn, source_limit, IsRefusedOn}
 use Rattle.source_programs.specs.Sources.{too_long, not_lexed, not_parsed, not_typed, not_laid, not_prepared}
 use Rattle.source_programs.specs.Laws.{AreInReach, HasProgram, SomeSource}
@@ -63,8 +63,8 @@ module _ (scale : Scale) (bytes : List ℕ) (laid : LaidTree) (source : IsLaidSo
 
 -- ## Sources
 
-module _ (scale : Scale) (bytes : List ℕ) (short : length bytes ≤ longest_source) where
-  module _ (tokens : List Token) (lexed : Lexes bytes (Ok tokens)) where
+module _ (scale : Scale) (bytes : List ℕ) (short : length bytes ≤ longest_on scale) where
+  module _ (tokens : List Token) (lexed : LexesOn scale bytes (Ok tokens)) where
     of_file : (file : TypedFileTree) → TypesAs (main_in bytes tokens) tokens (Ok file)
         → (answer : Result LaidTree Refusal) → laid_out scale file ≡ answer → Answered scale bytes
     of_file file t (Ok laid) e =
@@ -99,15 +99,17 @@ module _ (scale : Scale) (bytes : List ℕ) (short : length bytes ≤ longest_so
         of_typed items p t.0 t.1
     of_parsed (Err refusal) p = inr (refusal, not_parsed short lexed p)
 
-  of_lexed : (answer : Result (List Token) Refusal) → Lexes bytes answer → Answered scale bytes
+  of_lexed : (answer : Result (List Token) Refusal) → LexesOn scale bytes answer → Answered scale bytes
   of_lexed (Ok tokens) lexed =
       let p = some_file tokens in
       of_parsed tokens lexed p.0 p.1
   of_lexed (Err refusal) lexed = inr (refusal, not_lexed short lexed)
 
 pub some_source : SomeSource
-some_source scale bytes = by_length (cases_lt longest_source (length bytes))
+some_source scale bytes = by_length (cases_lt (longest_on scale) (length bytes))
   where
-    by_length : (longest_source < length bytes) ⊎ (length bytes ≤ longest_source) → Answered scale bytes
+    by_length : (longest_on scale < length bytes) ⊎ (length bytes ≤ longest_on scale) → Answered scale bytes
     by_length (inl long) = inr (source_limit, too_long long)
-    by_length (inr short) = of_lexed scale bytes short (some_lexing bytes).0 (some_lexing bytes).1
+    by_length (inr short) =
+        let lexing = some_lexing bytes (number_on scale Limits.Tokens) in
+        of_lexed scale bytes short lexing.0 lexing.1

@@ -2,14 +2,14 @@
 use Rattle.std.specs.Prelude.{◌≡◌, ℕ, ◌<◌, ◌≤◌, ◌^◌, List, [], length, All, Option, Some, None, IfOk, IfSome}
 use Rattle.std.specs.Prelude.{Result, Ok, Err}
 use Rattle.std.specs.declared.alloc.Global.{Global}
-use Rattle.std.proofs.Common.{refl, sym, ap, subst, ◌∙◌}
+use Rattle.std.proofs.Common.{refl, sym, ap, subst, ◌∙◌, arith}
 use Rattle.tm_terms.specs.declared.refusals.Fail.{Fail}
 use Rattle.tm_terms.specs.declared.refusals.Fail.TheVariants as Fails
 use Rattle.tm_terms.specs.declared.refusals.Limit.{Limit}
 use Rattle.tm_terms.specs.declared.refusals.Refusal.{Refusal}
 use Rattle.tm_terms.specs.declared.tokens.Name.{Name}
 use Rattle.tm_terms.specs.declared.tokens.Token.{Token}
-use Rattle.tm_terms.specs.Spelling.{Lexes}
+use Rattle.tm_terms.specs.Limits.{most_bytes}
 use Rattle.tm_terms.specs.Spelling.{answer_of as lexed_answer}
 use Rattle.tm_trees.specs.FileTrees.{ItemTree}
 use Rattle.tm_trees.specs.Parsing.{Parses}
@@ -19,6 +19,7 @@ use Rattle.tm_laid.specs.tm_typed.Files.{TypedFileTree, IsTyped}
 use Rattle.tm_laid.specs.tm_typed.TypedFiles.{typed_file_tree}
 use Rattle.tm_laid.specs.declared.layouts.Laid.{Laid}
 use Rattle.tm_laid.specs.declared.scales.Scale.{Scale}
+use Rattle.tm_laid.specs.declared.scales.Scale.TheVariants as Scales
 use Rattle.tm_laid.specs.Layable.{IsLayable}
 use Rattle.tm_laid.specs.Layouts.{LaidTree, laid_tree, layout_of, unless_beyond, laid_out}
 use Rattle.tm_laid.specs.Layouts.{answer_of as laid_answer}
@@ -31,26 +32,33 @@ use Rattle.mutex_configs.specs.declared.programs.Program.{Program}
 use Rattle.program_graphs.specs.Prepared.{answer_of, IsPrepared}
 use Rattle.thresholds.specs.Thresholds.{numbers_of, AreThresholds}
 use Rattle.program_laws.specs.program_equations.Programs.{ProgramBodies, IsProgramOf}
-use Rattle.source_programs.specs.LaidSources.{longest_source, main_in, TypesAs, IsLaidSourceOn}
+use Rattle.source_programs.specs.LaidSources.{longest_on, LexesOn, main_in, TypesAs, IsLaidSourceOn}
 use Rattle.source_programs.specs.Sources.{IsAcceptedOn, IsRefusedOn}
 use Rattle.source_programs.specs.Sources.{IfRefused, source_limit}
 use Rattle.source_programs.specs.Sources.{too_long, not_lexed, not_parsed, not_typed, not_laid, not_prepared}
 
+-- ## Lengths
+
+-- no scale allows more bytes than the lexis reads
+pub short_enough : (scale : Scale) (n : ℕ) → n ≤ longest_on scale → n ≤ most_bytes
+short_enough Scales.Usual n short = omega (arith, short)
+short_enough Scales.Large n short = omega (arith, short)
+
 -- ## Refusals of stations
 
 -- a source that is too long
-pub long_refused : (scale : Scale) (bytes : List ℕ) → longest_source < length bytes → (fail : Fail)
+pub long_refused : (scale : Scale) (bytes : List ℕ) → longest_on scale < length bytes → (fail : Fail)
     → fail ≡ Fails.Refused source_limit → IfRefused {A = Program} (Err fail) (IsRefusedOn scale bytes)
 long_refused scale bytes long fail e =
     subst (λ (f : Fail). IfRefused {A = Program} (Err f) (IsRefusedOn scale bytes)) (sym e) (too_long long)
 
-module _ (scale : Scale) (bytes : List ℕ) (short : length bytes ≤ longest_source) where
-  pub lexing_refused : (fail : Fail) → IfSome (lexed_answer {A = Global} (Err fail)) (λ answer. Lexes bytes answer)
+module _ (scale : Scale) (bytes : List ℕ) (short : length bytes ≤ longest_on scale) where
+  pub lexing_refused : (fail : Fail) → IfSome (lexed_answer {A = Global} (Err fail)) (λ answer. LexesOn scale bytes answer)
       → IfRefused {A = Program} (Err fail) (IsRefusedOn scale bytes)
   lexing_refused (Fails.Refused r) told = not_lexed short told
   lexing_refused Fails.NoMemory told = tt
 
-  module _ (tokens : List Token) (lexed : Lexes bytes (Ok tokens)) where
+  module _ (tokens : List Token) (lexed : LexesOn scale bytes (Ok tokens)) where
     pub parsing_refused : (fail : Fail) → IfSome (parsed_answer (Err fail)) (λ answer. Parses tokens answer)
         → IfRefused {A = Program} (Err fail) (IsRefusedOn scale bytes)
     parsing_refused (Fails.Refused r) told = not_parsed short lexed told

@@ -8,20 +8,27 @@ use Rattle.tm_terms.specs.declared.tokens.Name.{Name}
 use Rattle.tm_terms.specs.declared.tokens.Shape.{Shape}
 use Rattle.tm_terms.specs.declared.tokens.Shape.TheVariants as Shapes
 use Rattle.tm_terms.specs.declared.tokens.Token.{Token}
-use Rattle.tm_terms.specs.Limits.{limit_number}
 use Rattle.tm_terms.specs.Spelling.{text_of, Lexes}
 use Rattle.tm_trees.specs.FileTrees.{ItemTree}
 use Rattle.tm_trees.specs.Parsing.{Parses}
 use Rattle.tm_laid.specs.tm_typed.Files.{TypedFileTree, IsTyped}
 use Rattle.tm_laid.specs.declared.scales.Scale.{Scale}
 use Rattle.tm_laid.specs.declared.scales.Scale.TheVariants as Scales
+use Rattle.tm_laid.specs.Scales.{number_on}
 use Rattle.tm_laid.specs.Layouts.{LaidTree, laid_out}
 
 -- ## From bytes to a file
 
--- the greatest number of bytes of a source
+-- the greatest number of bytes of a source on a scale, and within the limits of the commands
+abbrev pub longest_on : Scale → ℕ
+longest_on scale = number_on scale Limits.Source
+
 abbrev pub longest_source : ℕ
-longest_source = limit_number Limits.Source
+longest_source = longest_on Scales.Usual
+
+-- the answer of the lexis to a source on a scale
+abbrev pub LexesOn : Scale → List ℕ → Result (List Token) Refusal → Type 0
+LexesOn scale = Lexes (number_on scale Limits.Tokens)
 
 -- the name is spelled `main`
 abbrev pub is_main : List ℕ → Name → Bool
@@ -46,9 +53,9 @@ pub record TypesAs (main : Option Name) (tokens : List Token) (answer : Result T
 
 -- these bytes are a source of a typed file, which has this layout on a scale
 pub record IsLaidSourceOn (scale : Scale) (bytes : List ℕ) (laid : LaidTree) : Type 0 where
-  pub short : length bytes ≤ longest_source
+  pub short : length bytes ≤ longest_on scale
   pub tokens : List Token
-  pub lexed : Lexes bytes (Ok tokens)
+  pub lexed : LexesOn scale bytes (Ok tokens)
   pub file : TypedFileTree
   pub typed : TypesAs (main_in bytes tokens) tokens (Ok file)
   pub answered : laid_out scale file ≡ Ok laid

@@ -6,13 +6,12 @@ use Rattle.tm_terms.specs.declared.refusals.Kind.TheVariants as Kinds
 use Rattle.tm_terms.specs.declared.refusals.Limit.TheVariants as Limits
 use Rattle.tm_terms.specs.declared.refusals.Refusal.{Refusal}
 use Rattle.tm_terms.specs.declared.tokens.Token.{Token}
-use Rattle.tm_terms.specs.Spelling.{Lexes}
 use Rattle.tm_trees.specs.Parsing.{Parses}
 use Rattle.tm_laid.specs.tm_typed.Files.{TypedFileTree}
 use Rattle.tm_laid.specs.declared.scales.Scale.{Scale}
 use Rattle.tm_laid.specs.declared.scales.Scale.TheVariants as Scales
 use Rattle.tm_laid.specs.Layouts.{LaidTree, laid_out}
-use Rattle.source_programs.specs.LaidSources.{longest_source, main_in, TypesAs, IsLaidSourceOn}
+use Rattle.source_programs.specs.LaidSources.{longest_on, LexesOn, main_in, TypesAs, IsLaidSourceOn}
 use Rattle.program_graphs.specs.Prepared.{Graphed, IsPrepared}
 use Rattle.thresholds.specs.Thresholds.{numbers_of, AreThresholds}
 use Rattle.program_laws.specs.program_equations.Programs.{ProgramBodies, IsProgramOf}
@@ -43,15 +42,15 @@ source_limit = record { kind = Kinds.Limit; place = record { line = 0; col = 0 }
 -- Why these bytes are refused on a scale: they are too many; or else the lexis refuses them; or else the grammar their
 -- tokens; or else typing their file; or else that exceeds a limit of layouts; or else its graphs exceed a limit.
 pub data IsRefusedOn (scale : Scale) (bytes : List ℕ) : Refusal → Type 0 where
-  too_long : longest_source < length bytes → IsRefusedOn scale bytes source_limit
-  not_lexed : {refusal : Refusal} → length bytes ≤ longest_source → Lexes bytes (Err refusal)
+  too_long : longest_on scale < length bytes → IsRefusedOn scale bytes source_limit
+  not_lexed : {refusal : Refusal} → length bytes ≤ longest_on scale → LexesOn scale bytes (Err refusal)
       → IsRefusedOn scale bytes refusal
-  not_parsed : {tokens : List Token} {refusal : Refusal} → length bytes ≤ longest_source → Lexes bytes (Ok tokens)
+  not_parsed : {tokens : List Token} {refusal : Refusal} → length bytes ≤ longest_on scale → LexesOn scale bytes (Ok tokens)
       → Parses tokens (Err refusal) → IsRefusedOn scale bytes refusal
-  not_typed : {tokens : List Token} {refusal : Refusal} → length bytes ≤ longest_source → Lexes bytes (Ok tokens)
+  not_typed : {tokens : List Token} {refusal : Refusal} → length bytes ≤ longest_on scale → LexesOn scale bytes (Ok tokens)
       → TypesAs (main_in bytes tokens) tokens (Err refusal) → IsRefusedOn scale bytes refusal
-  not_laid : {tokens : List Token} {file : TypedFileTree} {refusal : Refusal} → length bytes ≤ longest_source
-      → Lexes bytes (Ok tokens) → TypesAs (main_in bytes tokens) tokens (Ok file) → laid_out scale file ≡ Err refusal
+  not_laid : {tokens : List Token} {file : TypedFileTree} {refusal : Refusal} → length bytes ≤ longest_on scale
+      → LexesOn scale bytes (Ok tokens) → TypesAs (main_in bytes tokens) tokens (Ok file) → laid_out scale file ≡ Err refusal
       → IsRefusedOn scale bytes refusal
   not_prepared : {laid : LaidTree} {refusal : Refusal} → IsLaidSourceOn scale bytes laid
       → IsPrepared scale laid (Err (Fails.Refused refusal)) → IsRefusedOn scale bytes refusal

@@ -1,7 +1,6 @@
 //! The program of a source.
 ghost use Rattle.std.specs.Prelude.{◌≡◌, ◌≤◌, ◌^◌, length, Ok, IfOk};
 ghost use Rattle.tm_terms.specs.declared.refusals.Fail.TheVariants as Fails;
-ghost use Rattle.tm_terms.specs.Spelling.{Lexes};
 ghost use Rattle.tm_trees.specs.FileTrees.{file_tree};
 ghost use Rattle.tm_trees.specs.Parsing.{Parses};
 ghost use Rattle.tm_laid.specs.declared.scales.Scale.TheVariants as Scales;
@@ -11,7 +10,7 @@ ghost use Rattle.program_graphs.specs.Prepared.{answer_of, IsPrepared};
 ghost use Rattle.thresholds.specs.Thresholds.{numbers_of, AreThresholds};
 ghost use Rattle.program_laws.specs.program_equations.Programs.{ProgramBodies, IsProgramOf};
 ghost use Rattle.program_laws.specs.program_systems.Analysable.{IsAnalysable};
-ghost use Rattle.source_programs.specs.LaidSources.{longest_source, IsLaidSourceOn, IsLaidSource};
+ghost use Rattle.source_programs.specs.LaidSources.{longest_on, LexesOn, IsLaidSourceOn, IsLaidSource};
 ghost use Rattle.source_programs.specs.Sources.{IsAcceptedOn, IsAccepted, source_limit, IsRefusedOn, IsRefused};
 ghost use Rattle.source_programs.specs.Sources.{IfRefused};
 
@@ -26,7 +25,6 @@ use std::alloc::Global;
 use thresholds::marks;
 use tm_laid::{Laid, Scale};
 use tm_lattice::NoMemory;
-use tm_terms::limits::SOURCE;
 use tm_terms::{Fail, Kind, Limit, Place, Refusal, Token};
 use tm_trees::File;
 
@@ -72,8 +70,8 @@ fn typed_program(
     file: &File,
     given: &[u32],
 ) -> Result<Program, Fail>
-    requires short { length bytes.now ≤ longest_source }
-    requires lexed { Lexes bytes.now (Ok tokens.now) }
+    requires short { length bytes.now ≤ longest_on scale }
+    requires lexed { LexesOn scale bytes.now (Ok tokens.now) }
     requires parsed { Parses tokens.now (Ok (file_tree file.now)) }
     ensures accepted { IfOk result (λ program. (p : ProgramBodies) →
         IsProgramOf (laid_tree program.laid) program.graphs.graphs.items program.configured.items program.marks p →
@@ -101,8 +99,8 @@ fn parsed_program(
     tokens: &[Token],
     given: &[u32],
 ) -> Result<Program, Fail>
-    requires short { length bytes.now ≤ longest_source }
-    requires lexed { Lexes bytes.now (Ok tokens.now) }
+    requires short { length bytes.now ≤ longest_on scale }
+    requires lexed { LexesOn scale bytes.now (Ok tokens.now) }
     ensures accepted { IfOk result (λ program. (p : ProgramBodies) →
         IsProgramOf (laid_tree program.laid) program.graphs.graphs.items program.configured.items program.marks p →
         IsAcceptedOn scale given.now bytes.now p) }
@@ -120,7 +118,7 @@ fn parsed_program(
 
 // The program of a source that is not too long.
 fn lexed_program(alloc: Global, scale: Scale, bytes: &[u8], given: &[u32]) -> Result<Program, Fail>
-    requires { length bytes.now ≤ longest_source }
+    requires { length bytes.now ≤ longest_on scale }
     ensures accepted { IfOk result (λ program. (p : ProgramBodies) →
         IsProgramOf (laid_tree program.laid) program.graphs.graphs.items program.configured.items program.marks p →
         IsAcceptedOn scale given.now bytes.now p) }
@@ -130,7 +128,7 @@ fn lexed_program(alloc: Global, scale: Scale, bytes: &[u8], given: &[u32]) -> Re
     ensures prepared { IfOk result (λ program. IsPrepared scale (laid_tree program.laid) (answer_of (Ok program))) }
     ensures refused { IfRefused result (IsRefusedOn scale bytes.now) }
 {
-    match lex(alloc, bytes) {
+    match lex(alloc, bytes, scale.number(Limit::Tokens) as usize) {
         Ok(tokens) => parsed_program(alloc, scale, bytes, &tokens, given),
         Err(fail) => Err(fail),
     }
@@ -163,7 +161,7 @@ pub fn source_program_on(
     // Every refusal is one of the source. Beside these answers comes only want of memory.
     ensures refused { IfRefused result (IsRefusedOn scale bytes.now) }
 {
-    if bytes.len() > SOURCE as usize {
+    if bytes.len() > scale.number(Limit::Source) as usize {
         Err(too_long())
     } else {
         lexed_program(alloc, scale, bytes, given)

@@ -7,6 +7,7 @@ use c_lexer::lex;
 use std::alloc::{AllocError, Global};
 use std::process::Abort;
 use std::test::Fail;
+use tm_terms::limits::TOKENS;
 use tm_terms::{Expr, Name, Names, Place, Shape, Sign, Token};
 
 // A text, its longest expression as its operands and then their operator, each by the first byte of the token
@@ -190,7 +191,7 @@ fn push_text(alloc: Global, out: &mut String, text: &[u8]) -> Result<(), Fail> {
     if text.len() > 100 {
         return Err("too long")?;
     }
-    match lex(alloc, text) {
+    match lex(alloc, text, TOKENS as usize) {
         Ok(tokens) => push_read(alloc, out, text, &tokens),
         Err(_) => Err("no tokens")?,
     }

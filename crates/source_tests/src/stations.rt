@@ -20,6 +20,7 @@ use std::alloc::Global;
 use std::process::Abort;
 use std::test::Fail;
 use tm_laid::Laid;
+use tm_terms::limits::TOKENS;
 use tm_terms::{Fail as Refused, Name, Token, refusal_line};
 use tm_trees::File;
 
@@ -224,7 +225,7 @@ fn push_source(alloc: Global, text: &mut String, way: Way, source: &[u8]) -> Res
         text.push_str("too long")?;
         return Ok(());
     }
-    match lex(alloc, source) {
+    match lex(alloc, source, TOKENS as usize) {
         Ok(tokens) => push_parsed(alloc, text, way, source, &tokens),
         Err(fail) => push_refusal(alloc, text, fail),
     }

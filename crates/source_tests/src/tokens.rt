@@ -4,6 +4,7 @@ use crate::stations::{Way, answers, rows_are_so};
 use c_lexer::lex;
 use std::alloc::Global;
 use std::test::Fail;
+use tm_terms::limits::TOKENS;
 use tm_terms::{IntConstant, Longs, Name, Place, Shape, Sign, Token, Word};
 
 // Line and column; the word.
@@ -454,7 +455,7 @@ fn has_tokens(alloc: Global, source: &[u8], expected: &[Token]) -> bool {
     if source.len() > 1_048_576 {
         return false;
     }
-    match lex(alloc, source) {
+    match lex(alloc, source, TOKENS as usize) {
         Ok(tokens) => tokens.as_slice() == expected,
         Err(_) => false,
     }

@@ -3,6 +3,7 @@ use Rattle.std.proofs.Common.{◌≡◌, ℕ, List, Ok, refl, sym, subst, inl, i
 use Rattle.tm_terms.specs.declared.places.Place.{Place}
 use Rattle.tm_terms.specs.declared.tokens.Token.{Token}
 use Rattle.tm_terms.specs.Spelling.{Lexes}
+use Rattle.tm_terms.specs.Limits.{most_tokens}
 use Rattle.tm_trees.specs.FileTrees.{ItemTree}
 use Rattle.tm_trees.specs.Parsing.{Parses}
 use Rattle.tm_laid.specs.Layouts.{LaidTree}
@@ -21,7 +22,7 @@ use Rattle.text_choices.proofs.Additions.{Adds-same, Adds-behind}
 
 -- ## The signs `(`
 
-pub opens_some : (bytes : List ℕ) (known : List Token) (places : List Place) → ((tokens : List Token) → Lexes bytes (Ok tokens) → known ≡ tokens) → AreOpensAmong known places → AreOpens bytes places
+pub opens_some : (bytes : List ℕ) (known : List Token) (places : List Place) → ((tokens : List Token) → Lexes most_tokens bytes (Ok tokens) → known ≡ tokens) → AreOpensAmong known places → AreOpens bytes places
 opens_some bytes known places one opens = λ tokens lexed. subst (λ ts. AreOpensAmong ts places) (one tokens lexed) opens
 
 -- ## The whole
@@ -35,7 +36,7 @@ module _ (bytes : List ℕ) (laid : LaidTree) where
   without_open c (inr (inl s)) = open_by Kinds.Layout c s.0 s.1
   without_open c (inr (inr b)) = open_by Kinds.Enum c b.0 b.1
 
-  module _ (tokens : List Token) (lexed : Lexes bytes (Ok tokens)) where
+  module _ (tokens : List Token) (lexed : Lexes most_tokens bytes (Ok tokens)) where
     reserved_open : (items : List ItemTree) → Parses tokens (Ok items) → (place : Place) → IsReservedAmong bytes (declared_in items) place → IsReserved bytes place
     reserved_open items parsed place r = record {
       tokens = tokens;
@@ -82,7 +83,7 @@ module _ (bytes : List ℕ) (laid : LaidTree) where
 
   -- what is open is so whether or not there are tokens, or some tokens leave it open
   abbrev Left : Choice → Type 0
-  Left c = IsWithoutTokens bytes laid c ⊎ ((tokens : List Token) × Lexes bytes (Ok tokens) × IsOfTokens bytes laid tokens c)
+  Left c = IsWithoutTokens bytes laid c ⊎ ((tokens : List Token) × Lexes most_tokens bytes (Ok tokens) × IsOfTokens bytes laid tokens c)
 
   left_by : (k : Kind) (c : Choice) → c.kind ≡ k → IsOpenByText bytes laid k c.place → Left c
   left_by Kinds.Const c e h =
@@ -138,7 +139,7 @@ module _ (bytes : List ℕ) (laid : LaidTree) where
   text_left c h = left_by c.kind c refl h
 
   -- the source has no tokens
-  pub adds_without : (old new : List Choice) → ((tokens : List Token) → Lexes bytes (Ok tokens) → ⊥) → Adds old new (IsWithoutTokens bytes laid) → Adds old new (IsOfText bytes laid)
+  pub adds_without : (old new : List Choice) → ((tokens : List Token) → Lexes most_tokens bytes (Ok tokens) → ⊥) → Adds old new (IsWithoutTokens bytes laid) → Adds old new (IsOfText bytes laid)
   adds_without old new none h = Adds-same old new (IsWithoutTokens bytes laid) (IsOfText bytes laid) without_open (λ c t. back c (text_left c t)) h
     where
       back : (c : Choice) → Left c → IsWithoutTokens bytes laid c
@@ -146,7 +147,7 @@ module _ (bytes : List ℕ) (laid : LaidTree) where
       back c (inr w) = absurd (none w.0 w.1)
 
   -- it has these tokens
-  pub adds_all : (old new newer : List Choice) (tokens : List Token) → Lexes bytes (Ok tokens) → ((others : List Token) → Lexes bytes (Ok others) → tokens ≡ others)
+  pub adds_all : (old new newer : List Choice) (tokens : List Token) → Lexes most_tokens bytes (Ok tokens) → ((others : List Token) → Lexes most_tokens bytes (Ok others) → tokens ≡ others)
       → Adds old new (IsWithoutTokens bytes laid) → Adds new newer (IsOfTokens bytes laid tokens) → Adds old newer (IsOfText bytes laid)
   adds_all old new newer tokens lexed one h k =
       Adds-same old newer (λ c. IsWithoutTokens bytes laid c ⊎ IsOfTokens bytes laid tokens c) (IsOfText bytes laid) to (λ c t. back c (text_left c t))

@@ -7,6 +7,7 @@ use Rattle.tm_terms.specs.declared.tokens.Name.{Name}
 use Rattle.tm_terms.specs.declared.tokens.Token.{Token}
 use Rattle.tm_terms.specs.declared.types_named.Storage.TheVariants as Storages
 use Rattle.tm_terms.specs.Spelling.{Lexes}
+use Rattle.tm_terms.specs.Limits.{most_tokens}
 use Rattle.tm_terms.specs.ExprTrees.{Tree, place_of}
 use Rattle.tm_trees.specs.DeclarationTrees.{ValueTree, an_expression, a_list, ValueTrees, and_value, InitDeclaratorTree}
 use Rattle.tm_trees.specs.DeclarationTrees.{InitialiserTree, DeclarationTree, declared_name}
@@ -106,7 +107,7 @@ named_at laid n p = option_map (static_spot laid) (last_named 0 laid.file.static
 -- an expression in the initialiser of an object of static storage
 pub record IsStaticValue (bytes : List ℕ) (e : Tree) (one : InitDeclaratorTree) : Type 0 where
   pub tokens : List Token
-  pub lexed : Lexes bytes (Ok tokens)
+  pub lexed : Lexes most_tokens bytes (Ok tokens)
   pub items : List ItemTree
   pub parsed : Parses tokens (Ok items)
   pub item : ItemTree

@@ -19,6 +19,7 @@ use Rattle.tm_trees.specs.Parsing.{Parses}
 use Rattle.text_choices.specs.Library.{library}
 use Rattle.tm_terms.specs.Lexis.{begins, front, behind, is_name_byte, is_blank_in_line}
 use Rattle.tm_terms.specs.Spelling.{Lexes, Reading, reading, text_of}
+use Rattle.tm_terms.specs.Limits.{most_tokens}
 
 -- PRAGMA (C99 6.10.6): where a reading of the source stands, a line with the word `pragma` is skipped
 pub record IsPragma (bytes : List ℕ) (place : Place) : Type 0 where
@@ -35,13 +36,13 @@ pub record IsPragma (bytes : List ℕ) (place : Place) : Type 0 where
 
 -- the signs `(` of a source stand at these places
 abbrev pub AreOpens : List ℕ → List Place → Type 0
-AreOpens bytes places = (tokens : List Token) → Lexes bytes (Ok tokens) → (place : Place) → Contains places place
+AreOpens bytes places = (tokens : List Token) → Lexes most_tokens bytes (Ok tokens) → (place : Place) → Contains places place
     ↔ Contains tokens (record { shape = Shapes.Sign Signs.OpenParenthesis; place = place })
 
 -- RESTRICT (C99 6.7.3.1): the word stands among the tokens
 pub record IsRestricted (bytes : List ℕ) (place : Place) : Type 0 where
   pub tokens : List Token
-  pub lexed : Lexes bytes (Ok tokens)
+  pub lexed : Lexes most_tokens bytes (Ok tokens)
   pub stands : Contains tokens (record { shape = Shapes.Word Words.Restrict; place = place })
 
 -- ## RESERVED (C99 7.1.3p1)
@@ -109,7 +110,7 @@ pub data IsReservedName (text : List ℕ) : Type 0 where
 -- as defined where it is declared.
 pub record IsReserved (bytes : List ℕ) (place : Place) : Type 0 where
   pub tokens : List Token
-  pub lexed : Lexes bytes (Ok tokens)
+  pub lexed : Lexes most_tokens bytes (Ok tokens)
   pub items : List ItemTree
   pub parsed : Parses tokens (Ok items)
   pub it : Declared

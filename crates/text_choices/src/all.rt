@@ -1,7 +1,6 @@
 //! All that the text and the tree of a source leave open.
 ghost use Rattle.std.specs.Prelude.{◌≡◌, ◌≤◌, IfOk, OnOk, length};
-ghost use Rattle.tm_terms.specs.Limits.{limit_number};
-ghost use Rattle.tm_terms.specs.declared.refusals.Limit.TheVariants as Limits;
+ghost use Rattle.tm_terms.specs.Limits.{most_bytes};
 ghost use Rattle.tm_typed.specs.TypedFiles.{typed_file_tree};
 ghost use Rattle.tm_laid.specs.Layable.{IsLayable};
 ghost use Rattle.tm_laid.specs.Layouts.{laid_tree};
@@ -26,15 +25,16 @@ use c_parser::parse;
 use std::alloc::Global;
 use tm_laid::Laid;
 use tm_lattice::NoMemory;
+use tm_terms::limits::MOST_TOKENS;
 use tm_terms::{Fail, Place, Shape, Sign, Token};
 use tm_trees::File;
 
 // The tokens of a source, if it has some.
 fn tokens_of(alloc: Global, bytes: &[u8]) -> Result<Option<Vec<Token>>, NoMemory>
-    requires { length bytes.now ≤ limit_number Limits.Source }
+    requires { length bytes.now ≤ most_bytes }
     ensures { IfOk result (AreTokens bytes.now) }
 {
-    match lex(alloc, bytes) {
+    match lex(alloc, bytes, MOST_TOKENS as usize) {
         Ok(tokens) => Ok(Some(tokens)),
         Err(Fail::Refused(_)) => Ok(None),
         Err(Fail::NoMemory) => Err(NoMemory),
@@ -103,7 +103,7 @@ fn add_of_typed(laid: &Laid, choices: &mut Vec<Choice>) -> Result<(), NoMemory>
 
 // Adds what a source leaves open whether or not it has tokens.
 fn add_without_tokens(bytes: &[u8], laid: &Laid, choices: &mut Vec<Choice>) -> Result<(), NoMemory>
-    requires { length bytes.now ≤ limit_number Limits.Source }
+    requires { length bytes.now ≤ most_bytes }
     ensures { OnOk result (Adds choices.old.items choices.new.items (IsWithoutTokens bytes.now (laid_tree laid.now))) }
 {
     add_pragmas(bytes, choices)?;
@@ -118,7 +118,7 @@ pub fn add_text_choices(
     laid: &Laid,
     choices: &mut Vec<Choice>,
 ) -> Result<(), NoMemory>
-    requires short { length bytes.now ≤ limit_number Limits.Source }
+    requires short { length bytes.now ≤ most_bytes }
     requires layable { IsLayable (typed_file_tree laid.now.file) laid.now.file.order.items }
     requires few { length laid.now.cells.items ≤ 65536 }
     ensures { OnOk result (Adds choices.old.items choices.new.items (IsOfText bytes.now (laid_tree laid.now))) }
@@ -164,7 +164,7 @@ fn opens_among(alloc: Global, tokens: &[Token]) -> Result<Vec<Place>, NoMemory>
 
 /// The places of the signs `(` of a source, in their order.
 pub fn opening_places(alloc: Global, bytes: &[u8]) -> Result<Vec<Place>, NoMemory>
-    requires { length bytes.now ≤ limit_number Limits.Source }
+    requires { length bytes.now ≤ most_bytes }
     ensures { IfOk result (λ places. AreOpens bytes.now places.items) }
 {
     match tokens_of(alloc, bytes)? {

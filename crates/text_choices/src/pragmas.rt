@@ -2,8 +2,7 @@
 ghost use Rattle.std.specs.Prelude.{◌≡◌, ◌≤◌, length, OnOk};
 ghost use Rattle.std.specs.List.{prefix_len};
 ghost use Rattle.tm_terms.specs.Lexis.{is_blank_in_line};
-ghost use Rattle.tm_terms.specs.Limits.{limit_number};
-ghost use Rattle.tm_terms.specs.declared.refusals.Limit.TheVariants as Limits;
+ghost use Rattle.tm_terms.specs.Limits.{most_bytes};
 ghost use Rattle.text_choices.specs.Choices.{Adds, OfKind};
 ghost use Rattle.text_choices.specs.Texts.{IsPragma};
 ghost use Rattle.text_choices.specs.reading.Pragmas.{is_pragma, is_pragma_piece};
@@ -60,7 +59,7 @@ fn is_pragma_piece(shape: Option<Shape>, text: &[u8]) -> bool
 /// Adds the places of skipped `#pragma` lines (C99 6.10.6): what begins with `#` is skipped whole, and is one of these
 /// words alone, `line` or a number.
 pub(crate) fn add_pragmas(bytes: &[u8], choices: &mut Vec<Choice>) -> Result<(), NoMemory>
-    requires { length bytes.now ≤ limit_number Limits.Source }
+    requires { length bytes.now ≤ most_bytes }
     ensures { OnOk result (Adds choices.old.items choices.new.items (OfKind Kind.Pragma (IsPragma bytes.now))) }
 {
     let mut at = 0;

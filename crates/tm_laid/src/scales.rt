@@ -9,24 +9,25 @@ use tm_typed::Limit;
 pub enum Scale {
     /// The limits that the commands have.
     Usual,
-    /// More call paths, abstract cells, nodes and work; bytes, tokens, tasks, mutexes and cells as usual.
+    /// More bytes, tokens, call paths, abstract cells, nodes and work; tasks, mutexes and cells as usual.
     Large,
 }
 
 impl Scale {
     /// The greatest count that a limit allows on this scale.
-    pub fn number(self, limit: Limit) -> u32
+    pub fn number(self, limit: Limit) -> u64
         ensures { result ≡ number_on self limit }
     {
         match self {
-            Scale::Usual => limit.number(),
+            Scale::Usual => u64::from(limit.number()),
             Scale::Large => match limit {
+                Limit::Source => 16_777_216,
+                Limit::Tokens => 4_000_000,
                 Limit::Paths => 65_536,
                 Limit::Abstract => 65_536,
                 Limit::Nodes => 200_000,
-                Limit::Work => 4_000_000_000,
-                Limit::Source | Limit::Tokens | Limit::Tasks | Limit::Mutexes | Limit::Cells =>
-                    limit.number(),
+                Limit::Work => 12_800_000_000,
+                Limit::Tasks | Limit::Mutexes | Limit::Cells => u64::from(limit.number()),
             },
         }
     }

@@ -14,3 +14,11 @@ limit_number Cells = 65536
 limit_number Abstract = 4096
 limit_number Nodes = 20000
 limit_number Work = 8000000
+
+-- no scale allows more bytes of a source
+abbrev pub most_bytes : ℕ
+most_bytes = 16777216
+
+-- no scale allows more tokens of a source
+abbrev pub most_tokens : ℕ
+most_tokens = 4000000

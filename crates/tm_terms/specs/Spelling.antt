@@ -3,7 +3,6 @@ use Rattle.std.specs.Prelude.{◌≡◌, ℕ, ◌+◌, ◌<◌, zero, suc, Bool,
 use Rattle.std.specs.Prelude.{[], ◌∷◌, ◌++◌, length, take, drop, Option, Some, None, Result, Ok, Err, option_map}
 use Rattle.std.specs.Prelude.{Contains, option_and_then, unwrap_or, is_some, bytes_eq, fold, find, Vec}
 use Rattle.tm_terms.specs.Lexis.{begins, is_blank}
-use Rattle.tm_terms.specs.Limits.{limit_number}
 use Rattle.tm_terms.specs.declared.places.Place.{Place}
 use Rattle.tm_terms.specs.declared.refusals.Fail.{Fail}
 use Rattle.tm_terms.specs.declared.refusals.Fail.TheVariants as fail
@@ -157,20 +156,23 @@ too_many_tokens = record { kind = kind.Limit; place = no_place; limit = Some cou
 abbrev pub unsupported : Token → Refusal
 unsupported t = record { kind = kind.Unsupported; place = t.place; limit = None }
 
--- What the tokens of a source are answered with: the limit, else the first unsupported one, else they themselves.
-unfoldable pub checked : List Token → Result (List Token) Refusal
-checked tokens =
-    if nat_lt (limit_number counted.Tokens) (length tokens) then Err too_many_tokens
-    else refused (find (λ t. is_unsupported t.shape) tokens)
-  where
-    refused : Option Token → Result (List Token) Refusal
-    refused None = Ok tokens
-    refused (Some t) = Err (unsupported t)
+-- the tokens, unless this one is refused
+abbrev pub unless_refused : List Token → Option Token → Result (List Token) Refusal
+unless_refused tokens None = Ok tokens
+unless_refused tokens (Some t) = Err (unsupported t)
 
--- The answer to a source: a place where nothing begins is refused, and else its tokens are checked.
-pub data Lexes (source : List ℕ) : Result (List Token) Refusal → Type 0 where
-  stops : {place : Place} → StopsAt source place → Lexes source (Err (lexical place))
-  spells : {tokens : List Token} → Spells source tokens → Lexes source (checked tokens)
+-- What the tokens of a source are answered with, of which at most so many are allowed: the limit, else the first
+-- unsupported one, else they themselves.
+unfoldable pub checked : ℕ → List Token → Result (List Token) Refusal
+checked most tokens =
+    if nat_lt most (length tokens) then Err too_many_tokens
+    else unless_refused tokens (find (λ t. is_unsupported t.shape) tokens)
+
+-- The answer to a source that may have so many tokens: a place where nothing begins is refused, and else its tokens
+-- are checked.
+pub data Lexes (most : ℕ) (source : List ℕ) : Result (List Token) Refusal → Type 0 where
+  stops : {place : Place} → StopsAt source place → Lexes most source (Err (lexical place))
+  spells : {tokens : List Token} → Spells source tokens → Lexes most source (checked most tokens)
 
 -- ## Clauses of a call that answers with the tokens
 

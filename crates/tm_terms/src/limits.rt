@@ -30,6 +30,12 @@ pub const NODES: u32 = 20_000;
 /// static storage or its own.
 pub const WORK: u32 = 8_000_000;
 
+/// Bytes of a source, on any scale.
+pub const MOST_BYTES: u32 = 16_777_216;
+
+/// Tokens of a source, on any scale.
+pub const MOST_TOKENS: u32 = 4_000_000;
+
 impl Limit {
     ghost use Rattle.std.specs.Prelude.{◌≡◌};
     ghost use Rattle.tm_terms.specs.Limits.{limit_number};

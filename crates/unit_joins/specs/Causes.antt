@@ -2,6 +2,7 @@
 use Rattle.std.specs.Prelude.{◌≡◌, ◌≢◌, ℕ, List, [], Ok, Err, None, Some, slice_get}
 use Rattle.source_marks.specs.Marks.{IsBrokenAt, lines_of, origins_of}
 use Rattle.tm_terms.specs.Spelling.{Lexes}
+use Rattle.tm_terms.specs.Limits.{most_tokens}
 use Rattle.tm_terms.specs.declared.places.Place.{Place}
 use Rattle.tm_terms.specs.declared.tokens.Name.{Name}
 use Rattle.tm_terms.specs.declared.tokens.Shape.TheVariants as shape
@@ -29,7 +30,7 @@ pub record IsPair (tokens : List Token) (first second : Place) : Type 0 where
 pub record IsPairApart (units : List ℕ) (first second : Place) : Type 0 where
   pub tokens : List Token
   pub borders : List ℕ
-  pub lexed : Lexes units (Ok tokens)
+  pub lexed : Lexes most_tokens units (Ok tokens)
   pub parted : AreBorders units borders
   pub pair : IsPair tokens first second
   pub apart : unit_of borders first.line ≢ unit_of borders second.line
@@ -38,13 +39,13 @@ pub record IsPairApart (units : List ℕ) (first second : Place) : Type 0 where
 pub record IsTold (units : List ℕ) (why : Cause) : Type 0 where
   pub tokens : List Token
   pub borders : List ℕ
-  pub lexed : Lexes units (Ok tokens)
+  pub lexed : Lexes most_tokens units (Ok tokens)
   pub parted : AreBorders units borders
   pub told : cause_of borders tokens ≡ Some why
 
 -- what is so of units that are refused for a cause
 abbrev pub IsCauseOf : List ℕ → Cause → Type 0
-IsCauseOf units (cause.Lexis refusal) = Lexes units (Err refusal)
+IsCauseOf units (cause.Lexis refusal) = Lexes most_tokens units (Err refusal)
 IsCauseOf units (cause.BrokenMark n) = (origins_of [] units ≡ None) × IsBrokenAt (lines_of units) n
 IsCauseOf units (cause.Twice first second) = IsPairApart units first second × IsTold units (cause.Twice first second)
 IsCauseOf units (cause.Open place) = IsTold units (cause.Open place)

@@ -3,6 +3,7 @@
 use Rattle.std.specs.Prelude.{◌≡◌, ℕ, ◌<◌, ◌-◌, List, [], All, Some, Ok, length, map, filter, slice_get}
 use Rattle.source_marks.specs.Marks.{Origin, origins_of}
 use Rattle.tm_terms.specs.Spelling.{Lexes}
+use Rattle.tm_terms.specs.Limits.{most_tokens}
 use Rattle.tm_terms.specs.declared.tokens.Token.{Token}
 use Rattle.unit_joins.specs.Parts.{AreBorders}
 use Rattle.unit_plans.specs.Plans.{AreFates}
@@ -33,8 +34,8 @@ pub record IsJoined (units joined : List ℕ) : Type 0 where
   pub joined_tokens : List Token
   pub origins : List Origin
   pub joined_origins : List Origin
-  pub lexed : Lexes units (Ok tokens)
-  pub joined_lexed : Lexes joined (Ok joined_tokens)
+  pub lexed : Lexes most_tokens units (Ok tokens)
+  pub joined_lexed : Lexes most_tokens joined (Ok joined_tokens)
   pub traced : origins_of [] units ≡ Some origins
   pub joined_traced : origins_of [] joined ≡ Some joined_origins
   -- the lines that stand before units, and a mark that stands nowhere in them

@@ -2,8 +2,7 @@
 
 ghost use Rattle.std.specs.Prelude.{◌≡◌, ◌<◌, ◌≤◌, ◌++◌, IfErr, IfOk, ◌∷◌, OnOk, length, string_bytes};
 ghost use Rattle.source_marks.specs.Marks.{lines_of};
-ghost use Rattle.tm_terms.specs.Limits.{limit_number};
-ghost use Rattle.tm_terms.specs.declared.refusals.Limit.TheVariants as Limits;
+ghost use Rattle.tm_terms.specs.Limits.{most_bytes};
 ghost use Rattle.unit_joins.specs.Causes.{IsCause};
 ghost use Rattle.unit_joins.specs.Parts.{AreBorders, border_at, border_numbers, head_text};
 
@@ -30,7 +29,7 @@ fn note(borders: &mut Vec<u32>, line: &[u8], number: u32) -> Result<(), AllocErr
 
 /// The numbers of the lines that stand before units.
 fn border_lines(alloc: Global, text: &[u8]) -> Result<Vec<u32>, AllocError>
-    requires { length text.now ≤ limit_number Limits.Source }
+    requires { length text.now ≤ most_bytes }
     ensures { IfOk result (λ borders. borders.items ≡ border_numbers 1 (lines_of text.now)) }
 {
     let mut borders = Vec::new(alloc);
@@ -58,7 +57,7 @@ fn head(alloc: Global, count: usize) -> Result<String, AllocError>
 
 /// The lines that stand before the units of a text, where its first line tells their number.
 pub fn parted(alloc: Global, text: &[u8]) -> Result<Vec<u32>, JoinFail>
-    requires { length text.now ≤ limit_number Limits.Source }
+    requires { length text.now ≤ most_bytes }
     ensures ok { IfOk result (λ borders. AreBorders text.now borders.items) }
     ensures refused { IfErr result (IsCause text.now) }
 {

@@ -3,9 +3,8 @@
 ghost use Rattle.std.specs.Prelude.{◌≡◌, ◌≤◌, All, IfErr, IfOk, IsTrue, List, Ok, Some, ℕ, [], filter, length, map};
 ghost use Rattle.source_marks.specs.Marks.{origins_of};
 ghost use Rattle.source_marks.specs.reading.Seen.{origin_seen};
-ghost use Rattle.tm_terms.specs.Limits.{limit_number};
+ghost use Rattle.tm_terms.specs.Limits.{most_bytes, most_tokens};
 ghost use Rattle.tm_terms.specs.Spelling.{Lexes};
-ghost use Rattle.tm_terms.specs.declared.refusals.Limit.TheVariants as Limits;
 ghost use Rattle.unit_joins.specs.Causes.{IsCause};
 ghost use Rattle.unit_joins.specs.Joins.{AreWritten, IsJoined};
 ghost use Rattle.unit_joins.specs.Parts.{AreBorders};
@@ -21,7 +20,7 @@ use c_lexer::lex;
 use source_marks::{MarkFail, Origin, line_origins};
 use std::alloc::Global;
 use tm_lattice::NoMemory;
-use tm_terms::limits::SOURCE;
+use tm_terms::limits::{MOST_BYTES, MOST_TOKENS};
 use tm_terms::{Fail, Token};
 use unit_plans::{Cause, JoinFail, fates_of_units};
 use unit_tokens::{Fated, Renaming, are_rightly_left, is_nowhere, kept, with_fates};
@@ -31,14 +30,14 @@ const LONGEST_RUN: usize = 30;
 
 /// The tokens of a text.
 fn lexed(alloc: Global, text: &[u8]) -> Result<Vec<Token>, JoinFail>
-    ensures ok { IfOk result (λ tokens. Lexes text.now (Ok tokens.items)) }
-    ensures short { IfOk result (λ tokens. length text.now ≤ limit_number Limits.Source) }
+    ensures ok { IfOk result (λ tokens. Lexes most_tokens text.now (Ok tokens.items)) }
+    ensures short { IfOk result (λ tokens. length text.now ≤ most_bytes) }
     ensures refused { IfErr result (IsCause text.now) }
 {
-    if text.len() > SOURCE as usize {
+    if text.len() > MOST_BYTES as usize {
         return Err(JoinFail::Refused(Cause::Long));
     }
-    match lex(alloc, text) {
+    match lex(alloc, text, MOST_TOKENS as usize) {
         Ok(tokens) => Ok(tokens),
         Err(Fail::Refused(refusal)) => Err(JoinFail::Refused(Cause::Lexis(refusal))),
         Err(Fail::NoMemory) => Err(JoinFail::NoMemory),
@@ -80,7 +79,7 @@ fn other_fail(fail: JoinFail) -> JoinFail
 
 /// Why the tokens of units have no fates.
 fn plan_fail(borders: &[u32], tokens: &[Token], fail: JoinFail) -> JoinFail
-    ensures { (units : List ℕ) → Lexes units (Ok tokens.now) → AreBorders units borders.now
+    ensures { (units : List ℕ) → Lexes most_tokens units (Ok tokens.now) → AreBorders units borders.now
         → IsRefusal borders.now tokens.now fail → IsCause units result }
 {
     match fail {
@@ -106,7 +105,7 @@ fn plan_fail(borders: &[u32], tokens: &[Token], fail: JoinFail) -> JoinFail
 fn planned(alloc: Global, borders: &[u32], tokens: &[Token]) -> Result<Vec<Fated>, JoinFail>
     ensures ok { IfOk result (λ fated. map (λ f. f.token) fated.items ≡ tokens.now) }
     ensures fates { IfOk result (λ fated. AreFates borders.now tokens.now (map (λ f. f.fate) fated.items)) }
-    ensures refused { IfErr result (λ fail. (units : List ℕ) → Lexes units (Ok tokens.now)
+    ensures refused { IfErr result (λ fail. (units : List ℕ) → Lexes most_tokens units (Ok tokens.now)
         → AreBorders units borders.now → IsCause units fail) }
 {
     let fates = match fates_of_units(alloc, borders, tokens) {
@@ -163,7 +162,7 @@ fn mark_for(alloc: Global, text: &[u8]) -> Result<Vec<u8>, JoinFail>
 
 /// The tokens of a text that is made, where the lexis takes it.
 fn lexed_anew(alloc: Global, text: &[u8]) -> Result<Vec<Token>, JoinFail>
-    ensures ok { IfOk result (λ tokens. Lexes text.now (Ok tokens.items)) }
+    ensures ok { IfOk result (λ tokens. Lexes most_tokens text.now (Ok tokens.items)) }
     ensures refused { IfErr result (λ fail. (units : List ℕ) → IsCause units fail) }
 {
     match lexed(alloc, text) {
@@ -204,7 +203,7 @@ fn is_alike(
 
 /// Whether a text is the joined one of the units.
 fn is_joined(alloc: Global, plan: Plan<'_>, text: &[u8]) -> Result<bool, JoinFail>
-    requires lexed { Lexes plan.text.now (Ok plan.tokens.now) }
+    requires lexed { Lexes most_tokens plan.text.now (Ok plan.tokens.now) }
     requires traced { origins_of [] plan.text.now ≡ Some (map origin_seen plan.origins.now) }
     requires parted { AreBorders plan.text.now plan.borders.now }
     requires nowhere { IsNowhere plan.mark.now plan.text.now }

@@ -3,7 +3,7 @@
 
 use source_marks::Origin;
 use std::alloc::Global;
-use tm_terms::limits::SOURCE;
+use tm_terms::limits::MOST_BYTES;
 use tm_terms::{Place, Shape, Token};
 use unit_plans::{Cause, JoinFail};
 use unit_tokens::{Fate, Fated, new_name, unit_of};
@@ -144,7 +144,7 @@ pub fn written(alloc: Global, plan: Plan<'_>) -> Result<Vec<u8>, JoinFail> {
     };
     for i in 0..plan.text.len() {
         let byte = plan.text[i];
-        if writer.out.len() > SOURCE as usize {
+        if writer.out.len() > MOST_BYTES as usize {
             return Err(JoinFail::Refused(Cause::Long));
         }
         if byte == b'\n' {

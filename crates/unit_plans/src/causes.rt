@@ -92,11 +92,12 @@ fn place_line(alloc: Global, place: Place) -> Result<String, AllocError> {
     format!(in alloc; "{line}:{col} refused Syntax\n")
 }
 
-/// The line that tells a cause which the lexis does not give.
+/// The line that tells a cause that is no refusal of the lexis but by its limit.
 fn said(alloc: Global, cause: Cause) -> Result<String, AllocError> {
     match cause {
         Cause::NotUnits => String::from_str(alloc, "refused Units\n"),
-        Cause::Long | Cause::Lexis(_) => String::from_str(alloc, "refused Limit source 1048576\n"),
+        Cause::Long => String::from_str(alloc, "refused Limit source 16777216\n"),
+        Cause::Lexis(_) => String::from_str(alloc, "refused Limit tokens 4000000\n"),
         Cause::BrokenMark(number) => format!(in alloc; "refused Mark {number}\n"),
         Cause::Open(place) => place_line(alloc, place),
         Cause::Twice(first, second) => places_line(alloc, "Twice", first, second),
@@ -110,7 +111,9 @@ fn said(alloc: Global, cause: Cause) -> Result<String, AllocError> {
 /// The line that tells a cause.
 pub fn cause_line(alloc: Global, cause: Cause) -> Result<String, NoMemory> {
     if let Cause::Lexis(refusal) = cause {
-        return refusal_line(alloc, &refusal);
+        if refusal.limit.is_none() {
+            return refusal_line(alloc, &refusal);
+        }
     }
     match said(alloc, cause) {
         Ok(text) => Ok(text),

@@ -11,9 +11,9 @@ use Rattle.tm_laid.specs.Paths.{tree_of, bodies_of, locals_of}
 use Rattle.tm_laid.specs.Layable.{tables_of}
 use Rattle.tm_laid.specs.Scales.{large_number}
 
--- one above what the limit allows on the large scale
+-- one above what the limit allows on the large scale, or above 2^32 - 2
 abbrev pub beyond_number : Limit → ℕ
-beyond_number l = large_number l + 1
+beyond_number l = min 4294967294 (large_number l) + 1
 
 -- what the columns of a type say of what a limit counts
 unfoldable pub column_of : TypedFileTree → Limit → ℕ → ℕ

@@ -7,6 +7,7 @@ use Rattle.tm_terms.specs.declared.tokens.Shape.TheVariants as Shapes
 use Rattle.tm_terms.specs.declared.tokens.Sign.TheVariants as Signs
 use Rattle.tm_terms.specs.declared.tokens.Word.TheVariants as Words
 use Rattle.tm_terms.specs.Spelling.{Lexes}
+use Rattle.tm_terms.specs.Limits.{most_tokens}
 
 abbrev pub is_restrict : Shape → Bool
 is_restrict (Shapes.Word Words.Restrict) = true
@@ -24,9 +25,9 @@ open_at place = record { shape = Shapes.Sign Signs.OpenParenthesis; place = plac
 
 -- the tokens of a source, if it has some
 abbrev pub AreTokens : {A : Type 0} → List ℕ → Option (Vec Token A) → Type 0
-AreTokens bytes None = (tokens : List Token) → Lexes bytes (Ok tokens) → ⊥
+AreTokens bytes None = (tokens : List Token) → Lexes most_tokens bytes (Ok tokens) → ⊥
 AreTokens bytes (Some given) =
-    Lexes bytes (Ok given.items) × ((tokens : List Token) → Lexes bytes (Ok tokens) → given.items ≡ tokens)
+    Lexes most_tokens bytes (Ok given.items) × ((tokens : List Token) → Lexes most_tokens bytes (Ok tokens) → given.items ≡ tokens)
 
 -- the signs `(` among tokens stand at these places
 abbrev pub AreOpensAmong : List Token → List Place → Type 0

@@ -11,7 +11,7 @@ loop-at-init c = record {
   col = omega arith;
   counted = omega arith;
   few = omega arith;
-  stands = rw c.new-tokens.ensures.items (Stands-start c.args.bytes.now);
+  stands = rw c.new-tokens.ensures.items (Stands-start c.args.most c.args.bytes.now);
 }
 
 pub loop-at-preserved : goal.loop-at-preserved
@@ -25,7 +25,7 @@ loop-at-preserved c =
       counted = omega arith;
       few = c.in_ok-keep.ensures.few;
       stands =
-          Stands-past c.args.bytes.now c.loop-at.at c.loop-at.place c.place_after-place.result c.loop-at.bare c.bare_after-bare.result c.loop-at.tokens.items c.keep.new.tokens.items c.in-Some.piece c.behind-rest.result.now c.front-text.result.now
+          Stands-past c.args.most c.args.bytes.now c.loop-at.at c.loop-at.place c.place_after-place.result c.loop-at.bare c.bare_after-bare.result c.loop-at.tokens.items c.keep.new.tokens.items c.in-Some.piece c.behind-rest.result.now c.front-text.result.now
           c.loop-at.invariant.stands c.behind-rest.ensures c.in-Some.ensures.value c.in_ok-keep.ensures.kept c.front-text.ensures c.place_after-place.ensures.value c.bare_after-bare.ensures;
     }
 
@@ -36,5 +36,5 @@ returns-clause-whole c =
 
 pub returns-in_default-clause-stops : goal.returns-in_default-clause-stops
 returns-in_default-clause-stops c =
-    Lexes-stopped c.args.bytes.now c.loop-at.at c.loop-at.place c.loop-at.bare c.loop-at.tokens.items c.behind-rest.result.now c.lexical.result
+    Lexes-stopped c.args.bytes.now c.args.most c.loop-at.at c.loop-at.place c.loop-at.bare c.loop-at.tokens.items c.behind-rest.result.now c.lexical.result
     c.loop-at.invariant.stands (omega arith) c.behind-rest.ensures c.in_default.ensures.value c.lexical.ensures

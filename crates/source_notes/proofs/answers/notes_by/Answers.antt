@@ -7,6 +7,7 @@ use Rattle.worker_solutions.specs.program_solutions.LeastReports.{IsLeastPair}
 use Rattle.worker_solutions.specs.tm_laid.Layouts.{laid_tree}
 use Rattle.layout_laws.proofs.Kept.{limits_kept}
 use Rattle.source_findings.proofs.Solved.{if_ok_by}
+use Rattle.source_programs.proofs.Stations.{short_enough}
 use Rattle.certificate_check.proofs.Sourced.{few_objects}
 use Rattle.source_assumptions.proofs.Listed.{have_edges}
 use Rattle.source_notes.specs.reading.PartsTold.{TellsOf}
@@ -15,7 +16,8 @@ use Rattle.source_notes.proofs.answers.notes_by.Goals as goal
 
 -- The source is as short as sources are, and its layout keeps the limits.
 pub opened_for-requires-clause-short : goal.opened_for-requires-clause-short
-opened_for-requires-clause-short g c = (let source = c.in-Ok.ensures.source in source.short)
+opened_for-requires-clause-short g c =
+    (let source = c.in-Ok.ensures.source in short_enough c.args.scale _ source.short)
 
 pub opened_for-requires-clause-layable : goal.opened_for-requires-clause-layable
 opened_for-requires-clause-layable g c = (let analysable = c.in-Ok.ensures.analysable in analysable.layable)

@@ -1,8 +1,8 @@
 use Rattle.std.proofs.Common.{subst}
-use Rattle.program_streams.proofs.Sent.{known, past_limit, read_out, sent_whole, sent_front}
-use Rattle.source_programs.specs.LaidSources.{longest_source}
+use Rattle.program_streams.proofs.Sent.{known, read_out, sent_whole, sent_front}
+use Rattle.source_programs.specs.LaidSources.{longest_on}
 use Rattle.source_notes.specs.Notes.{HasNotes}
-use Rattle.source_notes.proofs.NotesTold.{longer_notes, notes_are_whole}
+use Rattle.source_notes.proofs.NotesTold.{longer_notes, notes_are_whole, past_number}
 use Rattle.source_notes.proofs.streams.tell_by.Goals as goal
 
 pub returns-in-Ok-notes_by : goal.returns-in-Ok-notes_by
@@ -12,16 +12,17 @@ returns-in-Ok-notes_by g c =
     let reply = c.in-Ok-notes_by.reply in
     let text = reply.text.items in
     let read = c.in-Ok.ensures.read in
-    let limit = past_limit longest_source _ _ read.whole in
-    let answer = known longest_source May longer _ c.read_whole.new.bytes.items _ reply.status text read.taken limit
+    let longest = longest_on c.args.scale in
+    let limit = past_number longest c.most_read-most.result _ _ c.most_read-most.ensures read.whole in
+    let answer = known longest May longer _ c.read_whole.new.bytes.items _ reply.status text read.taken limit
     (subst (λ b. May b reply.status text) c.deref.ensures.value c.in-Ok-notes_by.ensures) in
     let sent = c.deref-in-Ok-notes_by.result.now in
     let same = c.deref-in-Ok-notes_by.ensures.value in
     record {
-      whole = λ h. sent_whole longest_source May longer _ _ _ reply.status _ text sent answer same
+      whole = λ h. sent_whole longest May longer _ _ _ reply.status _ text sent answer same
           (c.send.ensures.whole h).0 (c.send.ensures.whole h).1;
-      front = sent_front longest_source May longer _ _ _ reply.status text sent answer same c.send.ensures.front;
-      all = λ h. read_out longest_source _ _ _ read.taken limit;
+      front = sent_front longest May longer _ _ _ reply.status text sent answer same c.send.ensures.front;
+      all = λ h. read_out longest _ _ _ read.taken limit;
       read = λ e. absurd (c.send.ensures.read e);
       write = c.send.ensures.write;
       source_faults = λ other. c.in-Ok.ensures.same;
