@@ -1,5 +1,6 @@
 pub mod SeenPlaced
 pub mod Alike
+pub mod Rising
 pub mod Chosen
 pub mod Seen
 pub mod Parts

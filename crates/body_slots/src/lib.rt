@@ -13,10 +13,12 @@ mod laws;
 mod rows;
 mod slots;
 mod solving;
+mod starts;
 mod systems;
 mod tables;
 
 pub use laws::{slots_are_read, slots_solve_bodies};
 pub use slots::BodySlots;
-pub use solving::sparse_table;
+pub use solving::{SlotTable, sparse_table, sparse_table_from};
+pub use starts::SlotValues;
 pub use systems::SlotSystem;

@@ -61,6 +61,12 @@ impl Model for BodySlots {
 }
 
 impl BodySlots {
+    /// Whether there are few variables beside the cells of all nodes.
+    pub fn is_sparse(&self) -> bool {
+        let cells = self.graph.nodes.saturating_mul(self.graph.cells);
+        self.numbers.variable_count() < cells / 16
+    }
+
     /// The slots of a body, by the cells that each copy of its edges may touch, that it carries and at which it may look,
     /// and by what may be copied, fresh and pending. None where there is not one set for each copy, the cells cannot be placed so,
     /// or one of them is not seen by the body.

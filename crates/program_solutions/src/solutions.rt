@@ -33,6 +33,7 @@ pub fn solution(alloc: Global, analysis: &Analysis) -> Result<Solution, NoMemory
     let Turns {
         store,
         tables,
+        starts: _,
         next: _,
         quiet: _,
     } = passes_in_turn(alloc, analysis)?;

@@ -6,7 +6,7 @@ use Rattle.shared_programs.proofs.Programs.{program_field_send, program_field_sy
 use Rattle.shared_programs.proofs.States.{store_send, store_sync}
 use Rattle.shared_programs.proofs.Facts.{program_facts_send, program_facts_sync, node_state_send, node_state_sync}
 use Rattle.shared_programs.proofs.Facts.{entry_send, entry_sync}
-use Rattle.shared_analyses.proofs.Slots.{slots_send, slots_sync}
+use Rattle.shared_analyses.proofs.Starts.{program_slots_send, program_slots_sync, start_send, start_sync}
 use Rattle.thread_pass.specs.contracts.analyses.SectionTable as SectionTable
 use Rattle.thread_pass.specs.contracts.analyses.SectionTable.TheInside as SectionInside
 use Rattle.thread_pass.specs.contracts.analyses.Analysis as Analysis
@@ -23,14 +23,23 @@ pub analysis_send : IsSend Analysis.the_row
 analysis_send =
     view_send AnalysisInside.the_row _ _ _ _
     (as_row_send AnalysisInside.the_field
-    (search (program_field_send, program_facts_send, slots_send, section_send, entry_send, Vec-send, sendable)
-    depth 20))
+    (search (
+      program_field_send,
+      program_facts_send,
+      program_slots_send,
+      program_slots_sync,
+      section_send,
+      entry_send,
+      Vec-send,
+      Arc-send,
+      sendable,
+    ) depth 20))
 
 pub kept_send : IsSend Kept.the_row
 kept_send =
     view_send KeptInside.the_row _ _ _ _
     (as_row_send KeptInside.the_field
-    (search (node_state_send, store_send, store_sync, Vec-send, Arc-send, sendable) depth 20))
+    (search (node_state_send, store_send, store_sync, start_send, Vec-send, Arc-send, sendable) depth 20))
 
 section_sync : IsSync SectionTable.the_row
 section_sync =
@@ -41,11 +50,20 @@ pub analysis_sync : IsSync Analysis.the_row
 analysis_sync =
     view_sync AnalysisInside.the_row _ _ _ _
     (as_row_sync AnalysisInside.the_field
-    (search (program_field_sync, program_facts_sync, slots_sync, section_sync, entry_sync, Vec-sync, sendable)
-    depth 20))
+    (search (
+      program_field_sync,
+      program_facts_sync,
+      program_slots_send,
+      program_slots_sync,
+      section_sync,
+      entry_sync,
+      Vec-sync,
+      Arc-sync,
+      sendable,
+    ) depth 20))
 
 pub kept_sync : IsSync Kept.the_row
 kept_sync =
     view_sync KeptInside.the_row _ _ _ _
     (as_row_sync KeptInside.the_field
-    (search (node_state_sync, store_send, store_sync, Vec-sync, Arc-sync, sendable) depth 20))
+    (search (node_state_sync, store_send, store_sync, start_sync, Vec-sync, Arc-sync, sendable) depth 20))

@@ -1,2 +1,3 @@
 mod Slots
+mod Starts
 pub mod Analyses

@@ -2,24 +2,22 @@
 use Rattle.std.specs.Prelude.{◌≡◌, ℕ, ◌<◌, List, length, map, Bool, true, false, slice_index_or}
 use Rattle.std.specs.Prelude.{Option, Some, None, refl}
 use Rattle.std.proofs.Common.{sym, ap, subst, ◌∙◌}
-use Rattle.interfere_set.specs.Stores.{Interferences, no_interference, joined_store}
+use Rattle.interfere_set.specs.Stores.{Interferences}
 use Rattle.interfere_set.specs.laws.StoreLaws.{store_order, store_join, store_closure}
 use Rattle.program_equality.specs.transfer_rows.StateForms.{State}
 use Rattle.program_equality.specs.state_fits.laws.PlacesFit.{states_order, states_join}
 use Rattle.cell_env.specs.tm_lattice.Tables.{IsBelow}
-use Rattle.table_covers.specs.Systems.{IsLawfulSystem, from_of, to_of}
+use Rattle.table_covers.specs.Systems.{from_of, to_of}
 use Rattle.table_covers.specs.Solutions.{NodeTable, at, brought, IsNodewiseBelow, IsStarted, IsClosedTable}
-use Rattle.least_tables.specs.Settling.{IsLeastAbove, IsMetOrPending}
-use Rattle.table_covers.specs.Solutions.{IsLeastSolution}
-use Rattle.table_covers.specs.Passes.{added_below}
+use Rattle.least_tables.specs.Settling.{IsMetOrPending}
 use Rattle.table_covers.specs.laws.WholeLeast as least
 use Rattle.table_covers.specs.laws.Closing as closing
 use Rattle.program_equality.specs.task_equations.Bodies.{Body, copy_at}
-use Rattle.program_equality.specs.task_equations.Equations.{equations_of, link_of, after_along, added_along}
+use Rattle.program_equality.specs.task_equations.Equations.{equations_of, link_of, after_along}
 use Rattle.program_equality.specs.program_equations.Programs.{ProgramBodies, body_at, IsProgram}
 use Rattle.program_equality.specs.program_equations.Systems.{states, stores, FitsBody, FitsProgram, task_entry}
 use Rattle.program_equality.specs.program_equations.Systems.{task_system}
-use Rattle.program_equality.specs.program_equations.Systems.{least_section, least_local, pass_of, IsSection}
+use Rattle.program_equality.specs.program_equations.Systems.{least_section, least_local, IsSection}
 use Rattle.program_equality.specs.program_equations.Systems.{IsSectionBelow}
 use Rattle.program_equality.specs.program_equations.Solutions.{node_count, links_in, after_in, entry_in, outward_in}
 use Rattle.program_equality.specs.program_equations.Solutions.{heads_in, suits_in}
@@ -27,8 +25,6 @@ use Rattle.program_equality.specs.program_equations.Solutions.{height_of, limit_
 use Rattle.program_equality.specs.program_equations.laws.StoresFit.{bottom}
 use Rattle.program_equality.specs.program_equations.laws.Lawful.{program_is_lawful}
 use Rattle.program_equality.specs.program_equations.laws.Passing.{fitting}
-use Rattle.program_equality.specs.program_equations.laws.Sections.{section_is_least}
-use Rattle.program_equality.specs.program_equations.laws.Tables.{pass_is_one}
 use Rattle.thread_pass.specs.Analyses.{IsStartTable}
 use Rattle.thread_pass.specs.StoreUses.{reads_along}
 use Rattle.thread_pass.proofs.Uses.{mark_at, unread_along}
@@ -38,15 +34,11 @@ module _ (p : ProgramBodies) (is : IsProgram p) (t : ℕ) (lt : t < p.tasks) (st
   abbrev IsStartedOver : List (Option State) → Body → Option State → Interferences → Type 0
   IsStartedOver table b entry given = IsStarted states (FitsBody b) (equations_of b entry given) (at table)
 
-  abbrev IsClosedOver : List (Option State) → Body → Option State → Interferences → Type 0
-  IsClosedOver table b entry given = IsClosedTable states (FitsBody b) (equations_of b entry given) (at table)
-
-  abbrev IsAboveOver : List (Option State) → List (Option State) → Body → Option State → Interferences → Type 0
-  IsAboveOver table last b entry given =
-      IsLeastAbove states (FitsBody b) (equations_of b entry given) (at table) (at last)
-
-  abbrev IsLeastOver : List (Option State) → Body → Option State → Interferences → Type 0
-  IsLeastOver table b entry given = IsLeastSolution states (FitsBody b) (equations_of b entry given) (at table)
+  -- it lies below each closed table
+  abbrev LiesBelow : List (Option State) → Body → Option State → Interferences → Type 0
+  LiesBelow table b entry given = (other : NodeTable State)
+      → IsClosedTable states (FitsBody b) (equations_of b entry given) other
+      → IsNodewiseBelow states (FitsBody b) (equations_of b entry given) (at table) other
 
   abbrev IsPendingOver : List (Option State) → List Bool → Body → Option State → Interferences → Type 0
   IsPendingOver table reads b entry given =
@@ -54,10 +46,6 @@ module _ (p : ProgramBodies) (is : IsProgram p) (t : ℕ) (lt : t < p.tasks) (st
 
   abbrev first : Option State
   first = task_entry p (least_section p) t
-
-  lawful : IsLawfulSystem states.is_value states.leq states.joined (FitsBody (body_at p t))
-      (task_system p (least_section p) store t)
-  lawful = (let law = program_is_lawful p is in law.system t store (least_section p) lt fits law.begins)
 
   module _ (table : List (Option State)) (start : IsStartTable p t store table) where
     started_here : IsStartedOver table (body_at p t) first store
@@ -101,12 +89,6 @@ module _ (p : ProgramBodies) (is : IsProgram p) (t : ℕ) (lt : t < p.tasks) (st
         same e quiet None = refl
         same e quiet (Some s) = unread_along (body_at p t) (copy_at (body_at p t) e) quiet s start.before store
 
-    least_here : (last : List (Option State)) → IsClosedOver last (body_at p t) first store
-        → IsAboveOver table last (body_at p t) first store → IsLeastOver last (body_at p t) first store
-    least_here last closed above =
-        closing.closed_is_least states (FitsBody (body_at p t)) (task_system p (least_section p) store t) states_order
-        states_join lawful (at last) closed (λ other other-closed. above other other-closed (below_here other other-closed))
-
   module _ (b : Body) (entry : Option State) (given : Interferences) (b-is : b ≡ body_at p t)
       (entry-is : entry ≡ first) (store-is : given ≡ store) where
     -- what holds of the equations of the program holds of those that are given, and the other way
@@ -130,21 +112,7 @@ module _ (p : ProgramBodies) (is : IsProgram p) (t : ℕ) (lt : t < p.tasks) (st
           → IsMetOrPending states (FitsBody b) (equations_of b entry given) (at table) reads
       is_pending reads is-reads = onto (IsPendingOver table reads) (pending_here table start reads is-reads)
 
-      -- and where it ends, the table is the least
-      module _ (last : List (Option State))
-          (closed : IsClosedTable states (FitsBody b) (equations_of b entry given) (at last))
-          (above : IsLeastAbove states (FitsBody b) (equations_of b entry given) (at table) (at last)) where
-        pub last_is_least : IsLeastSolution states (FitsBody b) (equations_of b entry given) (at last)
-        last_is_least = onto (IsLeastOver last)
-            (least_here table start last (back (IsClosedOver last) closed) (back (IsAboveOver table last) above))
-
-        abbrev added_by : Body → Interferences
-        added_by x = added_below (map link_of x.copies) no_interference (λ k v. added_along x (copy_at x k) v)
-            joined_store (length (map link_of x.copies)) (at last)
-
-        -- what its edges add is the pass
-        pub last_added : (added : Interferences) → added ≡ added_by b → added ≡ pass_of p t store
-        last_added added e =
-            e ∙ ap added_by b-is
-            ∙ pass_is_one p is (least_section p) (section_is_least p is) t lt store fits (at last)
-            (least_here table start last (back (IsClosedOver last) closed) (back (IsAboveOver table last) above))
+      pub is_below : (other : NodeTable State)
+          → IsClosedTable states (FitsBody b) (equations_of b entry given) other
+          → IsNodewiseBelow states (FitsBody b) (equations_of b entry given) (at table) other
+      is_below = onto (LiesBelow table) (below_here table start)

@@ -1,5 +1,5 @@
 //! Programs with their initial section analysed.
-ghost use Rattle.std.specs.Prelude.{◌≡◌, ◌↔◌, ◌<◌, ◌^◌, length, IfOk, MatchOption};
+ghost use Rattle.std.specs.Prelude.{◌≡◌, ◌<◌, IfOk, MatchOption};
 ghost use Rattle.flow_graph.specs.tm_laid.Layouts.{laid_tree};
 ghost use Rattle.program_equality.specs.program_equations.Programs.{HasSection, IsProgramOf};
 ghost use Rattle.program_systems.specs.Analysable.{IsAnalysable};
@@ -9,6 +9,7 @@ ghost use Rattle.thread_pass.specs.Analyses.{AreProgramSlots, IsSectionTable};
 
 use crate::body_tables::{BodyTable, body_table};
 use crate::program_slots::program_slots;
+use crate::starts::ProgramSlots;
 use body_slots::BodySlots;
 use cell_env::State;
 use interfere_set::Store;
@@ -17,6 +18,7 @@ use pointer_dom::AbsValue;
 use program_systems::{BodyState, ProgramFacts, body_over_store, section_entry, task_entries};
 use std::alloc::Global;
 use std::marker::Model;
+use std::sync::Arc;
 use tm_lattice::NoMemory;
 
 /// The table of an initial section: for each node of its configured graph a state, or none.
@@ -51,8 +53,8 @@ impl SectionTable {
 pub struct Analysis {
     pub(crate) program: Program,
     pub(crate) facts: ProgramFacts,
-    // For each body its slots, none where its tables are to be found without.
-    pub(crate) slots: Vec<Option<BodySlots>>,
+    // The slots of its bodies. Passes keep them with what they found by them.
+    pub(crate) slots: Arc<ProgramSlots>,
     // Empty where there is no initial section.
     section: SectionTable,
     // For each task the state in which it begins, none where it does not.
@@ -73,6 +75,7 @@ impl Drop for Analysis {
 }
 
 impl Model for Analysis {
+    ghost use Rattle.std.specs.Arc.{arc_value};
     ghost use Rattle.program_systems.specs.ReadPrograms.{ReadProgram};
     ghost use Rattle.program_systems.specs.ProgramFacts.{read_with};
     ghost use Rattle.thread_pass.specs.Analyses.{IsAnalysis};
@@ -81,7 +84,7 @@ impl Model for Analysis {
 
     ghost view = { λ a. read_with a.program a.facts };
 
-    ghost invariant = { λ a. IsAnalysis a.program a.facts a.slots.items a.section a.entries.items };
+    ghost invariant = { λ a. IsAnalysis a.program a.facts (arc_value a.slots) a.section a.entries.items };
 }
 
 // The least table of the initial section; an empty one where there is none.
@@ -109,6 +112,7 @@ fn section_table(
     let BodyTable {
         table,
         visits: _visits,
+        values: _values,
     } = body_table(alloc, &body, slots)?;
     Ok(SectionTable { states: table })
 }
@@ -121,9 +125,10 @@ impl Analysis {
             program.configured.items program.marks (program_of a)) }
     {
         let facts = ProgramFacts::new(alloc, &program)?;
-        let slots = program_slots(alloc, &program, &facts)?;
-        let section = section_table(alloc, &program, &facts, &slots)?;
+        let each = program_slots(alloc, &program, &facts)?;
+        let section = section_table(alloc, &program, &facts, &each)?;
         let entries = task_entries(alloc, &program, &facts, section.states())?;
+        let slots = Arc::new(alloc, ProgramSlots { each })?;
         Ok(Analysis {
             program,
             facts,

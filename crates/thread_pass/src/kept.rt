@@ -2,6 +2,7 @@
 ghost use Rattle.std.specs.Prelude.{◌≡◌};
 ghost use Rattle.std.specs.Arc.{arc_value};
 
+use crate::starts::TaskStart;
 use interfere_set::Store;
 use program_systems::BodyState;
 use std::marker::Model;
@@ -15,22 +16,25 @@ pub struct Kept {
     pub(crate) added: Store,
     pub(crate) store: Arc<Store>,
     pub(crate) visits: Option<u64>,
+    pub(crate) start: Option<TaskStart>,
 }
 
 impl Model for Kept {
     ghost use Rattle.std.specs.Arc.{arc_value};
     ghost use Rattle.thread_pass.specs.Kept.{KeptTable};
+    ghost use Rattle.thread_pass.specs.contracts.starts.TaskStart as of_start;
     ghost use Rattle.thread_pass.specs.laws.Codes.{kept_code};
 
     ghost Value = { KeptTable };
 
-    ghost coded = { kept_code };
+    ghost coded = { kept_code of_start.the_row.coded };
 
     ghost view = { λ a. record {
       table = a.table.items;
       added = a.added;
       store = arc_value a.store;
       visits = a.visits;
+      start = a.start;
     } };
 }
 

@@ -5,7 +5,7 @@ ghost use Rattle.interfere_set.specs.Stores.{IsStoreBelow};
 ghost use Rattle.table_covers.specs.Solutions.{at};
 ghost use Rattle.program_equality.specs.program_equations.Systems.{FitsProgram, pass_of};
 ghost use Rattle.program_systems.specs.ReadPrograms.{program_of};
-ghost use Rattle.thread_pass.specs.Kept.{IsKeptOf, AreVisitsOf, AreTold, first_of, unvisited};
+ghost use Rattle.thread_pass.specs.Kept.{IsKeptOf, AreVisitsOf, AreToldUnless, first_of, unvisited};
 
 use crate::analyses::Analysis;
 use crate::kept::Kept;
@@ -53,7 +53,7 @@ pub fn next_pass(
     ensures made { IfOk result (λ r. IsKeptOf (program_of analysis.now) task r.0) }
     ensures over { IfOk result (λ r. r.0.store ≡ arc_value store.now) }
     ensures added { IfOk result (λ r. r.1 ≡ pass_of (program_of analysis.now) task (arc_value store.now)) }
-    ensures visits { IfOk result (λ r. AreTold r.0.visits (λ visits. AreVisitsOf (program_of analysis.now) task
+    ensures visits { IfOk result (λ r. AreToldUnless kept.start r.0.visits (λ visits. AreVisitsOf (program_of analysis.now) task
         (arc_value store.now) visits (at kept.table) r.0.table)) }
     ensures same { IfOk result (λ r. arc_value store.now ≡ kept.store → r.0 ≡ unvisited kept) }
 {
@@ -65,8 +65,9 @@ pub fn next_pass(
         added: _added,
         store: _earlier,
         visits: _visits,
+        start,
     } = kept;
-    let pass = local_from(alloc, analysis, task, table, store)?;
+    let pass = local_from(alloc, analysis, task, table, start, store)?;
     keep(alloc, pass, store)
 }
 
@@ -77,6 +78,7 @@ fn keep(alloc: Global, pass: TaskPass, store: &Arc<Store>) -> Result<(Kept, Stor
       added = pass.added;
       store = arc_value store.now;
       visits = pass.visits;
+      start = pass.start;
     }) }
     ensures added { IfOk result (λ r. r.1 ≡ pass.added) }
 {
@@ -84,12 +86,14 @@ fn keep(alloc: Global, pass: TaskPass, store: &Arc<Store>) -> Result<(Kept, Stor
         table,
         added,
         visits,
+        start,
     } = pass;
     let kept = Kept {
         table,
         added: added.copied(alloc)?,
         store: store.clone()?,
         visits,
+        start,
     };
     Ok((kept, added))
 }
@@ -105,12 +109,14 @@ fn repeated(alloc: Global, kept: Kept) -> Result<(Kept, Store), NoMemory>
         added,
         store,
         visits: _visits,
+        start,
     } = kept;
     let unchanged = Kept {
         table,
         added,
         store,
         visits: Some(0),
+        start,
     };
     Ok((unchanged, more))
 }

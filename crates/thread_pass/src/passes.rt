@@ -1,21 +1,28 @@
 //! The pass of a task over a store.
-ghost use Rattle.std.specs.Prelude.{◌≡◌, ◌<◌, IfOk, IfSome};
-ghost use Rattle.program_equality.specs.program_equations.Systems.{FitsProgram, pass_of};
+ghost use Rattle.std.specs.Prelude.{◌≡◌, ◌<◌, length, get_or, None, IfOk, IfSome};
+ghost use Rattle.table_covers.specs.Solutions.{NodeTable, at, IsStarted, IsClosedTable, IsNodewiseBelow};
+ghost use Rattle.table_covers.specs.Solutions.{IsLeastSolution};
+ghost use Rattle.least_tables.specs.Settling.{IsMetOrPending, IsVisited};
+ghost use Rattle.program_equality.specs.transfer_rows.StateForms.{State};
+ghost use Rattle.program_equality.specs.program_equations.Systems.{states, FitsBody, FitsProgram, pass_of};
+ghost use Rattle.program_systems.specs.body_systems.Systems.{body_of, system_of};
 ghost use Rattle.program_systems.specs.ReadPrograms.{program_of};
-ghost use Rattle.table_covers.specs.Solutions.{at};
 ghost use Rattle.thread_pass.specs.Analyses.{IsLeastTable, IsStartTable};
-ghost use Rattle.thread_pass.specs.Kept.{AreVisitsOf, AreTold, first_of};
+ghost use Rattle.thread_pass.specs.Kept.{AreVisitsOf, AreToldUnless, first_of};
+ghost use Rattle.thread_pass.specs.Starts.{AreBodyValues, IsBodyStart, AreTaskValues, IsTaskStart};
 
 use crate::analyses::Analysis;
 use crate::body_tables::{BodyTable, body_table};
 use crate::equality::is_same_program;
 use crate::kept::Kept;
 use crate::kept_passes::{first_pass, next_pass};
+use crate::starts::{TaskStart, started};
 use crate::store_uses::{StoreUses, store_uses};
+use body_slots::{SlotTable, sparse_table_from};
 use edge_contributions::joined_contributions;
 use interfere_set::Store;
 use least_tables::{Settled, settle};
-use program_systems::{BodyState, BodySystem, body_over_store};
+use program_systems::{BodyOverStore, BodyState, BodySystem, body_over_store};
 use std::alloc::Global;
 use std::sync::Arc;
 use strided_dom::Marks;
@@ -31,6 +38,8 @@ pub struct TaskPass {
     /// How many edges were applied for the table; 2^64 - 1 stands for that many or more. None where the table was
     /// found by slots, where edges are not applied to states of all cells.
     pub visits: Option<u64>,
+    /// What the next pass of the task may go on from by slots, where that is worth keeping.
+    pub start: Option<TaskStart>,
 }
 
 /// The least table of a task over a store, and the join of what its edges contribute there. Condition: there is such a
@@ -47,49 +56,151 @@ pub fn local(
     ensures added { IfOk result (λ pass. pass.added ≡ pass_of (program_of analysis.now) task store.now) }
     ensures visits { IfOk result (λ pass. IfSome pass.visits (λ visits. AreVisitsOf (program_of analysis.now) task
         store.now visits (first_of (program_of analysis.now) task store.now) pass.table.items)) }
+    ensures start { IfOk result (λ pass.
+        IfSome pass.start (AreTaskValues (program_of analysis.now) task store.now)) }
 {
     let entry = analysis.entries[task as usize].as_ref();
     let body = body_over_store(&analysis.program, &analysis.facts, task, entry, store);
     let system = BodySystem { body: &body };
     let uses = store_uses(alloc, analysis, task)?;
-    let slots = analysis.slots[task as usize].as_ref();
-    let BodyTable { table, visits } = body_table(alloc, &body, slots)?;
+    let slots = analysis.slots.each[task as usize].as_ref();
+    let BodyTable {
+        table,
+        visits,
+        values,
+    } = body_table(alloc, &body, slots)?;
     let added = joined_contributions(alloc, &system, &table, &uses.adds)?;
+    let start = started(&analysis.slots, values)?;
     Ok(TaskPass {
         table,
         added,
         visits,
+        start,
+    })
+}
+
+// A table that goes on from an earlier one.
+#[derive(Drop)]
+struct NextTable {
+    table: Vec<Option<BodyState>>,
+    visits: Option<u64>,
+    start: Option<TaskStart>,
+}
+
+// The table that is found by slots from what stood at the variables; none where nothing did, or none is found so.
+fn table_from_start(
+    alloc: Global,
+    body: &BodyOverStore,
+    task: u32,
+    start: Option<TaskStart>,
+) -> Result<Option<NextTable>, NoMemory>
+    requires { IfSome start (λ s.
+        IsBodyStart (body_of body.now) body.now.entry body.now.store (get_or s.slots task None) s.values) }
+    ensures nodes { IfOk result (λ found. IfSome found (λ next.
+        length next.table.items ≡ (system_of body.now).node_count)) }
+    ensures least { IfOk result (λ found. IfSome found (λ next.
+        IsLeastSolution states (FitsBody (body_of body.now)) (system_of body.now) (at next.table.items))) }
+    ensures untold { IfOk result (λ found. IfSome found (λ next. next.visits ≡ None)) }
+    ensures some { IfOk result (λ found. start ≡ None → found ≡ None) }
+    ensures start { IfOk result (λ found. IfSome found (λ next. IfSome next.start (λ s.
+        AreBodyValues (body_of body.now) body.now.entry body.now.store (get_or s.slots task None) s.values))) }
+{
+    let Some(TaskStart { slots, values }) = start else {
+        return Ok(None);
+    };
+    let Some(Some(of_body)) = slots.each.get(task as usize) else {
+        return Ok(None);
+    };
+    let Some(SlotTable { table, values }) = sparse_table_from(alloc, body, of_body, values)? else {
+        return Ok(None);
+    };
+    Ok(Some(NextTable {
+        table,
+        visits: None,
+        start: started(&slots, Some(values))?,
+    }))
+}
+
+// The least table of a body, found by slots where it has a start and that succeeds; else from the table by the work
+// list, which begins with the pending edges.
+fn next_table(
+    alloc: Global,
+    body: &BodyOverStore,
+    task: u32,
+    table: Vec<Option<BodyState>>,
+    start: Option<TaskStart>,
+    pending: Vec<bool>,
+) -> Result<NextTable, NoMemory>
+    requires nodes { length table.items ≡ (system_of body.now).node_count }
+    requires started { IsStarted states (FitsBody (body_of body.now)) (system_of body.now) (at table.items) }
+    requires edges { length pending.items ≡ length (system_of body.now).links }
+    requires pending { IsMetOrPending states (FitsBody (body_of body.now)) (system_of body.now) (at table.items)
+        pending.items }
+    requires below { (other : NodeTable State)
+        → IsClosedTable states (FitsBody (body_of body.now)) (system_of body.now) other
+        → IsNodewiseBelow states (FitsBody (body_of body.now)) (system_of body.now) (at table.items) other }
+    requires begun { IfSome start (λ s.
+        IsBodyStart (body_of body.now) body.now.entry body.now.store (get_or s.slots task None) s.values) }
+    ensures nodes { IfOk result (λ next. length next.table.items ≡ (system_of body.now).node_count) }
+    ensures least { IfOk result (λ next.
+        IsLeastSolution states (FitsBody (body_of body.now)) (system_of body.now) (at next.table.items)) }
+    ensures visits { IfOk result (λ next. AreToldUnless start next.visits (λ visits.
+        IsVisited states (FitsBody (body_of body.now)) (system_of body.now) visits (at table.items)
+        (at next.table.items))) }
+    ensures start { IfOk result (λ next. IfSome next.start (λ s.
+        AreBodyValues (body_of body.now) body.now.entry body.now.store (get_or s.slots task None) s.values)) }
+{
+    if let Some(next) = table_from_start(alloc, body, task, start)? {
+        return Ok(next);
+    }
+    // The call tells that the equations keep what they ask.
+    let _store = body.store();
+    let Settled { table, visits } = settle(alloc, &BodySystem { body }, table, pending)?;
+    Ok(NextTable {
+        table,
+        visits: Some(visits),
+        start: None,
     })
 }
 
 /// The same, begun from a least table of the task over a store that lies below this one: what rose since is all that
-/// is climbed, from the edges on that look into the store. Condition: there is such a task, the store fits the program,
-/// and the table is such a table.
+/// is climbed. It goes on by slots from what an earlier pass has kept of them, where it did and that succeeds; else
+/// from the edges on that look into the store. Condition: there is such a task, the store fits the program, the table
+/// is such a table, and what was kept is of such a pass.
 pub fn local_from(
     alloc: Global,
     analysis: &Analysis,
     task: u32,
     table: Vec<Option<BodyState>>,
+    start: Option<TaskStart>,
     store: &Store,
 ) -> Result<TaskPass, NoMemory>
     requires task { task < analysis.now.tasks }
     requires fits { FitsProgram (program_of analysis.now) store.now }
     requires start { IsStartTable (program_of analysis.now) task store.now table.items }
+    requires begun { IfSome start (IsTaskStart (program_of analysis.now) task store.now) }
     ensures table { IfOk result (λ pass. IsLeastTable (program_of analysis.now) task store.now pass.table.items) }
     ensures added { IfOk result (λ pass. pass.added ≡ pass_of (program_of analysis.now) task store.now) }
-    ensures visits { IfOk result (λ pass. AreTold pass.visits (λ visits. AreVisitsOf (program_of analysis.now) task
-        store.now visits (at table.items) pass.table.items)) }
+    ensures visits { IfOk result (λ pass. AreToldUnless start pass.visits (λ visits.
+        AreVisitsOf (program_of analysis.now) task store.now visits (at table.items) pass.table.items)) }
+    ensures start { IfOk result (λ pass.
+        IfSome pass.start (AreTaskValues (program_of analysis.now) task store.now)) }
 {
     let entry = analysis.entries[task as usize].as_ref();
     let body = body_over_store(&analysis.program, &analysis.facts, task, entry, store);
     let system = BodySystem { body: &body };
     let StoreUses { reads, adds } = store_uses(alloc, analysis, task)?;
-    let Settled { table, visits } = settle(alloc, &system, table, reads)?;
+    let NextTable {
+        table,
+        visits,
+        start,
+    } = next_table(alloc, &body, task, table, start, reads)?;
     let added = joined_contributions(alloc, &system, &table, &adds)?;
     Ok(TaskPass {
         table,
         added,
-        visits: Some(visits),
+        visits,
+        start,
     })
 }
 
@@ -136,6 +247,7 @@ impl Passer for Analysis {
             table: _table,
             added,
             visits: _visits,
+            start: _start,
         } = local(alloc, self, task, store)?;
         Ok(added)
     }

@@ -1,9 +1,9 @@
--- Least assignments do not depend on how values are rounded, nor on where constraints may be applied.
+-- Closed and least assignments do not depend on how values are rounded, nor on where constraints may be applied.
 use Rattle.std.specs.Prelude.{ℕ, Option, Some, None}
 use Rattle.least_assignments.specs.tm_lattice.declared.lattices.Lattice as lattice
 use Rattle.least_assignments.specs.tm_lattice.Tables.{IsBelow}
 use Rattle.least_assignments.specs.Constraints.{Assignment, Constraints}
-use Rattle.least_assignments.specs.Solutions.{IsClosed, IsLeast}
+use Rattle.least_assignments.specs.Solutions.{IsClosed, IsLeast, IsLeastAbove}
 
 module _ {V M : Type 0} (one other : lattice.Ghosts V M) (suits : ℕ → V → Type 0)
     (allows allows' : ℕ → Assignment V → Type 0) (sys : Constraints V)
@@ -18,7 +18,7 @@ module _ {V M : Type 0} (one other : lattice.Ghosts V M) (suits : ℕ → V → 
   below_back (Some v) None h = h
   below_back (Some v) (Some w) h = back v w h
 
-  closed_onward : (a : Assignment V) → IsClosed one suits allows sys a → IsClosed other suits allows' sys a
+  pub closed_onward : (a : Assignment V) → IsClosed one suits allows sys a → IsClosed other suits allows' sys a
   closed_onward a h = record {
     round = record { fits = h.round.fits; round = h.round.round };
     met = λ k lt j j-lt. below_onward _ _ (h.met k lt j j-lt);
@@ -35,3 +35,8 @@ module _ {V M : Type 0} (one other : lattice.Ghosts V M) (suits : ℕ → V → 
     closed = closed_onward a h.closed;
     below = λ b closed i lt. below_onward _ _ (h.below b (closed_back b closed) i lt);
   }
+
+  pub above_alike : (before a : Assignment V) → IsLeastAbove one suits allows sys before a
+      → IsLeastAbove other suits allows' sys before a
+  above_alike before a h = λ b closed under i lt.
+      below_onward _ _ (h b (closed_back b closed) (λ j j-lt. below_back _ _ (under j j-lt)) i lt)

@@ -10,8 +10,8 @@ passed-requires-clause-kept c =
     let p = program_of c.args.analysis.now in
     let before = c.args.turns.now in
     let last = c.replace-last in
-    kept_at p c.tasks.ensures.program before.tables.items before.store before.next before.quiet c.requires.underway
-    c.requires.loud last.result
+    kept_at p c.tasks.ensures.program before.tables.items before.starts.items before.store before.next before.quiet
+    c.requires.underway c.requires.loud last.result
     (last.ensures.value ∙ c.index_mut.ensures.value
     ∙ ap (λ d. get_or before.tables.items before.next d) (sym last.ensures.value))
 
@@ -20,23 +20,25 @@ returns-in-Quiet-clause-underway c = λ ok.
     let p = program_of c.args.analysis.now in
     let before = c.args.turns.now in
     let brings = subst (IsPassed p before.next before.store) c.in-Quiet.is c.in_ok-table.ensures in
-    quiet_written p c.tasks.ensures.program before.tables.items before.store before.next before.quiet
-    c.requires.underway c.requires.loud c.replace-last.new.dest c.in-Quiet.table c.turn_behind-turns.result
-    c.tasks.result c.turn_behind-turns.ensures c.tasks.ensures.count brings
+    quiet_written p c.tasks.ensures.program before.tables.items before.starts.items before.store before.next
+    before.quiet c.requires.underway c.requires.loud c.replace-last.new.dest c.in-Quiet.table c.take-start.new.self
+    c.in-Quiet.start brings.1 c.turn_behind-turns.result c.tasks.result c.turn_behind-turns.ensures
+    c.tasks.ensures.count brings.0
 
 pub returns-in-Raised-clause-underway : goal.returns-in-Raised-clause-underway
 returns-in-Raised-clause-underway c = λ ok.
     let p = program_of c.args.analysis.now in
     let before = c.args.turns.now in
     let brings = subst (IsPassed p before.next before.store) c.in-Raised.is c.in_ok-table.ensures in
-    raised_written p c.tasks.ensures.program before.tables.items before.store before.next before.quiet
-    c.requires.underway c.requires.loud c.replace-last.new.dest c.in-Raised.table c.turn_behind-turns.result
-    c.tasks.result c.turn_behind-turns.ensures c.tasks.ensures.count brings.0 c.in-Raised.after brings.1
+    raised_written p c.tasks.ensures.program before.tables.items before.starts.items before.store before.next
+    before.quiet c.requires.underway c.requires.loud c.replace-last.new.dest c.in-Raised.table c.take-start.new.self
+    c.in-Raised.start brings.1 c.turn_behind-turns.result c.tasks.result c.turn_behind-turns.ensures
+    c.tasks.ensures.count brings.0 c.in-Raised.after brings.2
 
 pub returns-in-Raised-clause-smaller : goal.returns-in-Raised-clause-smaller
 returns-in-Raised-clause-smaller c = λ ok.
     let p = program_of c.args.analysis.now in
     let before = c.args.turns.now in
     let brings = subst (IsPassed p before.next before.store) c.in-Raised.is c.in_ok-table.ensures in
-    raised_less p c.tasks.ensures.program before.store (lists_of before.tables.items) before.next before.quiet
-    c.requires.underway c.requires.loud c.in-Raised.after brings.1 brings.2
+    raised_less p c.tasks.ensures.program before.store (lists_of before.tables.items) before.starts.items before.next
+    before.quiet c.requires.underway c.requires.loud c.in-Raised.after brings.2 brings.3

@@ -1,4 +1,4 @@
-use Rattle.std.proofs.Common.{ap, sym, subst, ◌∙◌}
+use Rattle.std.proofs.Common.{ap, sym, subst, ◌∙◌, Option, IfSome}
 use Rattle.std.proofs.lemmas.Bool.{false≢true}
 use Rattle.std.proofs.lemmas.Result.{IfOk-weaker}
 use Rattle.std.specs.Arc.{arc_value}
@@ -6,7 +6,8 @@ use Rattle.interfere_set.specs.Stores.{IsStoreBelow}
 use Rattle.program_systems.specs.ReadPrograms.{program_of}
 use Rattle.thread_pass.specs.Analyses.{IsStartTable}
 use Rattle.thread_pass.specs.Kept.{KeptTable}
-use Rattle.thread_pass.proofs.KeptPasses.{starts, same_below, repeated_added, repeated_over, repeated_visits}
+use Rattle.thread_pass.specs.Starts.{StartOf, IsTaskStart}
+use Rattle.thread_pass.proofs.KeptPasses.{starts, begins, same_below, repeated_added, repeated_over, repeated_visits}
 use Rattle.thread_pass.proofs.kept_passes.next_pass.Goals as goal
 
 pub returns-then-below-clause-over : goal.returns-then-below-clause-over
@@ -46,6 +47,15 @@ local_from-requires-clause-start c =
     subst (λ s. IsStartTable p c.args.task s c.kept.inside.table.items) (sym c.deref-3.ensures)
     (subst (IsStartTable p c.args.task store) (sym (ap (λ (k : KeptTable). k.table) c.kept.view_is))
     (starts p c.args.task store c.args.kept c.requires.fits c.requires.kept_fits c.requires.kept c.requires.below))
+
+pub local_from-requires-clause-begun : goal.local_from-requires-clause-begun
+local_from-requires-clause-begun c =
+    let p = program_of c.args.analysis.now in
+    let store = arc_value c.args.store.now in
+    subst (λ s. IfSome c.kept.inside.start (IsTaskStart p c.args.task s)) (sym c.deref-3.ensures)
+    (subst (λ (start : Option StartOf). IfSome start (IsTaskStart p c.args.task store))
+    (sym (ap (λ (k : KeptTable). k.start) c.kept.view_is))
+    (begins p c.args.task store c.args.kept c.requires.fits c.requires.kept_fits c.requires.kept c.requires.below))
 
 -- a kept pass over the same store is answered before
 pub returns-clause-same : goal.returns-clause-same

@@ -1,4 +1,4 @@
-use Rattle.std.proofs.Common.{◌≡◌, ◌<◌, subst, sym, ap, ◌∙◌, arith, length, map, None, IfSome}
+use Rattle.std.proofs.Common.{◌<◌, subst, sym, ap, ◌∙◌, arith, length, map, None, IfSome}
 use Rattle.std.proofs.lemmas.List.{get_or_default}
 use Rattle.interfere_set.specs.Stores.{no_interference, joined_store}
 use Rattle.program_systems.specs.body_systems.Systems.{body_of}
@@ -12,11 +12,13 @@ use Rattle.program_systems.specs.ProgramFacts.{program_with}
 use Rattle.program_systems.proofs.Bodies.{is_program}
 use Rattle.program_equality.specs.program_equations.Programs.{body_at}
 use Rattle.thread_pass.specs.Analyses.{IsLeastTable, IsStartTable}
-use Rattle.thread_pass.specs.Kept.{AreVisitsOf}
+use Rattle.thread_pass.specs.Kept.{AreVisitsOf, AreToldUnless}
+use Rattle.thread_pass.specs.Starts.{AreTaskValues, IsTaskStart}
 use Rattle.thread_pass.specs.StoreUses.{AreUses}
 use Rattle.thread_pass.proofs.Uses.{adds_nothing, nothing_below}
-use Rattle.thread_pass.proofs.TaskTables.{in_bodies, entry_fits, table_is, visits_are}
-use Rattle.thread_pass.proofs.StartTables.{start_nodes, is_started, is_pending, last_is_least, last_added}
+use Rattle.thread_pass.proofs.TaskTables.{in_bodies, entry_fits, table_is, added_is}
+use Rattle.thread_pass.proofs.StartTables.{start_nodes, is_started, is_pending, is_below}
+use Rattle.thread_pass.proofs.SlotStarts.{body_starts, next_start, next_visits_are}
 use Rattle.thread_pass.proofs.passes.local_from.Goals as goal
 
 pub body_over_store-body-requires-clause-number : goal.body_over_store-body-requires-clause-number
@@ -38,8 +40,8 @@ body_over_store-body-requires-clause-entry c =
     ∙ get_or_default inside.entries.items c.args.task c.index.result.now None within
     ∙ c.analysis.invariant.entries c.args.task within)
 
-pub settle-requires-clause-nodes : goal.settle-requires-clause-nodes
-settle-requires-clause-nodes c κs =
+pub next_table-requires-clause-nodes : goal.next_table-requires-clause-nodes
+next_table-requires-clause-nodes c =
     let inside = c.analysis.inside in
     let p = program_with inside.program inside.facts in
     let is = is_program inside.program inside.facts c.analysis.invariant.analysable c.analysis.invariant.facts in
@@ -55,8 +57,8 @@ settle-requires-clause-nodes c κs =
     start_nodes p is c.args.task task c.args.store.now fits (body_of over) over.entry over.store
     c.body_over_store-body.ensures.body entry c.body_over_store-body.ensures.store c.args.table.items start
 
-pub settle-requires-clause-started : goal.settle-requires-clause-started
-settle-requires-clause-started c κs =
+pub next_table-requires-clause-started : goal.next_table-requires-clause-started
+next_table-requires-clause-started c =
     let inside = c.analysis.inside in
     let p = program_with inside.program inside.facts in
     let is = is_program inside.program inside.facts c.analysis.invariant.analysable c.analysis.invariant.facts in
@@ -72,8 +74,8 @@ settle-requires-clause-started c κs =
     is_started p is c.args.task task c.args.store.now fits (body_of over) over.entry over.store
     c.body_over_store-body.ensures.body entry c.body_over_store-body.ensures.store c.args.table.items start
 
-pub settle-requires-clause-pending : goal.settle-requires-clause-pending
-settle-requires-clause-pending c κs =
+pub next_table-requires-clause-pending : goal.next_table-requires-clause-pending
+next_table-requires-clause-pending c =
     let inside = c.analysis.inside in
     let p = program_with inside.program inside.facts in
     let is = is_program inside.program inside.facts c.analysis.invariant.analysable c.analysis.invariant.facts in
@@ -92,91 +94,6 @@ settle-requires-clause-pending c κs =
     c.body_over_store-body.ensures.body entry c.body_over_store-body.ensures.store c.args.table.items start
     c.in_ok-reads.field-0.reads.items uses.readers
 
-pub joined_contributions-requires-clause-nodes : goal.joined_contributions-requires-clause-nodes
-joined_contributions-requires-clause-nodes c κs =
-    let inside = c.analysis.inside in
-    let p = program_with inside.program inside.facts in
-    let is = is_program inside.program inside.facts c.analysis.invariant.analysable c.analysis.invariant.facts in
-    let task : c.args.task < p.tasks = subst (λ v. c.args.task < v.tasks) (sym c.analysis.view_is) c.requires.task in
-    let within : c.args.task < length inside.entries.items = omega (arith, task, c.analysis.invariant.count) in
-    let over = c.body_over_store-body.result in
-    let entry = c.body_over_store-body.ensures.entry ∙ c.as_ref-entry.ensures.value ∙ c.index.ensures
-    ∙ get_or_default inside.entries.items c.args.task c.index.result.now None within
-    ∙ c.analysis.invariant.entries c.args.task within in
-    let fits = subst (λ v. FitsProgram (program_of v) c.args.store.now) (sym c.analysis.view_is) c.requires.fits in
-    let start = subst (λ v. IsStartTable (program_of v) c.args.task c.args.store.now c.args.table.items)
-    (sym c.analysis.view_is) c.requires.start in
-    ap length c.deref.ensures.value ∙ c.in_ok-table.ensures.nodes
-    ∙ start_nodes p is c.args.task task c.args.store.now fits (body_of over) over.entry over.store
-    c.body_over_store-body.ensures.body entry c.body_over_store-body.ensures.store c.args.table.items start
-
-pub joined_contributions-requires-clause-fits : goal.joined_contributions-requires-clause-fits
-joined_contributions-requires-clause-fits c κs =
-    let inside = c.analysis.inside in
-    let p = program_with inside.program inside.facts in
-    let is = is_program inside.program inside.facts c.analysis.invariant.analysable c.analysis.invariant.facts in
-    let task : c.args.task < p.tasks = subst (λ v. c.args.task < v.tasks) (sym c.analysis.view_is) c.requires.task in
-    let within : c.args.task < length inside.entries.items = omega (arith, task, c.analysis.invariant.count) in
-    let over = c.body_over_store-body.result in
-    let entry = c.body_over_store-body.ensures.entry ∙ c.as_ref-entry.ensures.value ∙ c.index.ensures
-    ∙ get_or_default inside.entries.items c.args.task c.index.result.now None within
-    ∙ c.analysis.invariant.entries c.args.task within in
-    let fits = subst (λ v. FitsProgram (program_of v) c.args.store.now) (sym c.analysis.view_is) c.requires.fits in
-    let start = subst (λ v. IsStartTable (program_of v) c.args.task c.args.store.now c.args.table.items)
-    (sym c.analysis.view_is) c.requires.start in
-    let least = last_is_least p is c.args.task task c.args.store.now fits (body_of over) over.entry over.store
-    c.body_over_store-body.ensures.body entry c.body_over_store-body.ensures.store c.args.table.items start
-    c.in_ok-table.field-0.table.items c.in_ok-table.ensures.closed c.in_ok-table.ensures.least in
-    λ n lt. subst (λ xs. IfSome (at xs n) (FitsBody (body_of over) n)) (sym c.deref.ensures.value)
-    (least.solves.fits n lt)
-
-pub returns-clause-table : goal.returns-clause-table
-returns-clause-table c =
-    let inside = c.analysis.inside in
-    let p = program_with inside.program inside.facts in
-    let is = is_program inside.program inside.facts c.analysis.invariant.analysable c.analysis.invariant.facts in
-    let task : c.args.task < p.tasks = subst (λ v. c.args.task < v.tasks) (sym c.analysis.view_is) c.requires.task in
-    let within : c.args.task < length inside.entries.items = omega (arith, task, c.analysis.invariant.count) in
-    let over = c.body_over_store-body.result in
-    let entry = c.body_over_store-body.ensures.entry ∙ c.as_ref-entry.ensures.value ∙ c.index.ensures
-    ∙ get_or_default inside.entries.items c.args.task c.index.result.now None within
-    ∙ c.analysis.invariant.entries c.args.task within in
-    let fits = subst (λ v. FitsProgram (program_of v) c.args.store.now) (sym c.analysis.view_is) c.requires.fits in
-    let start = subst (λ v. IsStartTable (program_of v) c.args.task c.args.store.now c.args.table.items)
-    (sym c.analysis.view_is) c.requires.start in
-    subst (λ v. IsLeastTable (program_of v) c.args.task c.args.store.now c.in_ok-table.field-0.table.items) c.analysis.view_is
-    (table_is p is c.args.task task (body_of over) over.entry c.args.store.now over.store
-    c.body_over_store-body.ensures.body entry c.body_over_store-body.ensures.store fits c.in_ok-table.field-0.table.items
-    (c.in_ok-table.ensures.nodes
-    ∙ start_nodes p is c.args.task task c.args.store.now fits (body_of over) over.entry over.store
-    c.body_over_store-body.ensures.body entry c.body_over_store-body.ensures.store c.args.table.items start)
-    (last_is_least p is c.args.task task c.args.store.now fits (body_of over) over.entry over.store
-    c.body_over_store-body.ensures.body entry c.body_over_store-body.ensures.store c.args.table.items start
-    c.in_ok-table.field-0.table.items c.in_ok-table.ensures.closed c.in_ok-table.ensures.least))
-
-pub returns-clause-added : goal.returns-clause-added
-returns-clause-added c =
-    let inside = c.analysis.inside in
-    let p = program_with inside.program inside.facts in
-    let is = is_program inside.program inside.facts c.analysis.invariant.analysable c.analysis.invariant.facts in
-    let task : c.args.task < p.tasks = subst (λ v. c.args.task < v.tasks) (sym c.analysis.view_is) c.requires.task in
-    let within : c.args.task < length inside.entries.items = omega (arith, task, c.analysis.invariant.count) in
-    let over = c.body_over_store-body.result in
-    let entry = c.body_over_store-body.ensures.entry ∙ c.as_ref-entry.ensures.value ∙ c.index.ensures
-    ∙ get_or_default inside.entries.items c.args.task c.index.result.now None within
-    ∙ c.analysis.invariant.entries c.args.task within in
-    let fits = subst (λ v. FitsProgram (program_of v) c.args.store.now) (sym c.analysis.view_is) c.requires.fits in
-    let start = subst (λ v. IsStartTable (program_of v) c.args.task c.args.store.now c.args.table.items)
-    (sym c.analysis.view_is) c.requires.start in
-    let b = body_of over in
-    subst (λ v. c.in_ok-added.added ≡ pass_of (program_of v) c.args.task c.args.store.now) c.analysis.view_is
-    (last_added p is c.args.task task c.args.store.now fits (body_of over) over.entry over.store
-    c.body_over_store-body.ensures.body entry c.body_over_store-body.ensures.store c.args.table.items start
-    c.in_ok-table.field-0.table.items c.in_ok-table.ensures.closed c.in_ok-table.ensures.least c.in_ok-added.added
-    (c.in_ok-added.ensures ∙ ap (λ xs. added_below (map link_of b.copies) no_interference
-    (λ k v. added_along b (copy_at b k) v) joined_store (length (map link_of b.copies)) (at xs))
-    c.deref.ensures.value))
-
 pub joined_contributions-requires-clause-adds : goal.joined_contributions-requires-clause-adds
 joined_contributions-requires-clause-adds c κs = λ k lt quiet s.
     let inside = c.analysis.inside in
@@ -190,6 +107,87 @@ joined_contributions-requires-clause-adds c κs = λ k lt quiet s.
 pub joined_contributions-requires-clause-least : goal.joined_contributions-requires-clause-least
 joined_contributions-requires-clause-least c κs = nothing_below
 
+pub next_table-requires-clause-below : goal.next_table-requires-clause-below
+next_table-requires-clause-below c =
+    let inside = c.analysis.inside in
+    let p = program_with inside.program inside.facts in
+    let is = is_program inside.program inside.facts c.analysis.invariant.analysable c.analysis.invariant.facts in
+    let task : c.args.task < p.tasks = subst (λ v. c.args.task < v.tasks) (sym c.analysis.view_is) c.requires.task in
+    let within : c.args.task < length inside.entries.items = omega (arith, task, c.analysis.invariant.count) in
+    let over = c.body_over_store-body.result in
+    let entry = c.body_over_store-body.ensures.entry ∙ c.as_ref-entry.ensures.value ∙ c.index.ensures
+    ∙ get_or_default inside.entries.items c.args.task c.index.result.now None within
+    ∙ c.analysis.invariant.entries c.args.task within in
+    let fits = subst (λ v. FitsProgram (program_of v) c.args.store.now) (sym c.analysis.view_is) c.requires.fits in
+    let start = subst (λ v. IsStartTable (program_of v) c.args.task c.args.store.now c.args.table.items)
+    (sym c.analysis.view_is) c.requires.start in
+    is_below p is c.args.task task c.args.store.now fits (body_of over) over.entry over.store
+    c.body_over_store-body.ensures.body entry c.body_over_store-body.ensures.store c.args.table.items start
+
+pub next_table-requires-clause-begun : goal.next_table-requires-clause-begun
+next_table-requires-clause-begun c =
+    let inside = c.analysis.inside in
+    let p = program_with inside.program inside.facts in
+    let is = is_program inside.program inside.facts c.analysis.invariant.analysable c.analysis.invariant.facts in
+    let task : c.args.task < p.tasks = subst (λ v. c.args.task < v.tasks) (sym c.analysis.view_is) c.requires.task in
+    let within : c.args.task < length inside.entries.items = omega (arith, task, c.analysis.invariant.count) in
+    let over = c.body_over_store-body.result in
+    let entry = c.body_over_store-body.ensures.entry ∙ c.as_ref-entry.ensures.value ∙ c.index.ensures
+    ∙ get_or_default inside.entries.items c.args.task c.index.result.now None within
+    ∙ c.analysis.invariant.entries c.args.task within in
+    let fits = subst (λ v. FitsProgram (program_of v) c.args.store.now) (sym c.analysis.view_is) c.requires.fits in
+    let begun = subst (λ v. IfSome c.args.start (IsTaskStart (program_of v) c.args.task c.args.store.now))
+    (sym c.analysis.view_is) c.requires.begun in
+    body_starts p is c.args.task task (body_of over) over.entry c.args.store.now over.store
+    c.body_over_store-body.ensures.body entry c.body_over_store-body.ensures.store fits c.args.start begun
+
+pub joined_contributions-requires-clause-nodes : goal.joined_contributions-requires-clause-nodes
+joined_contributions-requires-clause-nodes c κs = ap length c.deref.ensures.value ∙ c.in_ok-table.ensures.nodes
+
+pub joined_contributions-requires-clause-fits : goal.joined_contributions-requires-clause-fits
+joined_contributions-requires-clause-fits c κs =
+    let over = c.body_over_store-body.result in
+    let least = c.in_ok-table.ensures.least in
+    λ n lt. subst (λ xs. IfSome (at xs n) (FitsBody (body_of over) n)) (sym c.deref.ensures.value) (least.solves.fits n lt)
+
+pub returns-clause-table : goal.returns-clause-table
+returns-clause-table c =
+    let inside = c.analysis.inside in
+    let p = program_with inside.program inside.facts in
+    let is = is_program inside.program inside.facts c.analysis.invariant.analysable c.analysis.invariant.facts in
+    let task : c.args.task < p.tasks = subst (λ v. c.args.task < v.tasks) (sym c.analysis.view_is) c.requires.task in
+    let within : c.args.task < length inside.entries.items = omega (arith, task, c.analysis.invariant.count) in
+    let over = c.body_over_store-body.result in
+    let entry = c.body_over_store-body.ensures.entry ∙ c.as_ref-entry.ensures.value ∙ c.index.ensures
+    ∙ get_or_default inside.entries.items c.args.task c.index.result.now None within
+    ∙ c.analysis.invariant.entries c.args.task within in
+    let fits = subst (λ v. FitsProgram (program_of v) c.args.store.now) (sym c.analysis.view_is) c.requires.fits in
+    subst (λ v. IsLeastTable (program_of v) c.args.task c.args.store.now c.in_ok-table.field-0.table.items)
+    c.analysis.view_is
+    (table_is p is c.args.task task (body_of over) over.entry c.args.store.now over.store
+    c.body_over_store-body.ensures.body entry c.body_over_store-body.ensures.store fits
+    c.in_ok-table.field-0.table.items c.in_ok-table.ensures.nodes c.in_ok-table.ensures.least)
+
+pub returns-clause-added : goal.returns-clause-added
+returns-clause-added c =
+    let inside = c.analysis.inside in
+    let p = program_with inside.program inside.facts in
+    let is = is_program inside.program inside.facts c.analysis.invariant.analysable c.analysis.invariant.facts in
+    let task : c.args.task < p.tasks = subst (λ v. c.args.task < v.tasks) (sym c.analysis.view_is) c.requires.task in
+    let within : c.args.task < length inside.entries.items = omega (arith, task, c.analysis.invariant.count) in
+    let over = c.body_over_store-body.result in
+    let entry = c.body_over_store-body.ensures.entry ∙ c.as_ref-entry.ensures.value ∙ c.index.ensures
+    ∙ get_or_default inside.entries.items c.args.task c.index.result.now None within
+    ∙ c.analysis.invariant.entries c.args.task within in
+    let fits = subst (λ v. FitsProgram (program_of v) c.args.store.now) (sym c.analysis.view_is) c.requires.fits in
+    let b = body_of over in
+    added_is p is c.args.task task (body_of over) over.entry c.args.store.now over.store
+    c.body_over_store-body.ensures.body entry c.body_over_store-body.ensures.store fits
+    c.in_ok-table.field-0.table.items c.in_ok-table.ensures.nodes c.in_ok-table.ensures.least
+    c.in_ok-added.added (c.in_ok-added.ensures ∙ ap (λ xs. added_below (map link_of b.copies) no_interference
+    (λ k v. added_along b (copy_at b k) v) joined_store (length (map link_of b.copies)) (at xs)) c.deref.ensures.value)
+    ∙ ap (λ v. pass_of (program_of v) c.args.task c.args.store.now) c.analysis.view_is
+
 pub returns-clause-visits : goal.returns-clause-visits
 returns-clause-visits c =
     let inside = c.analysis.inside in
@@ -202,8 +200,26 @@ returns-clause-visits c =
     ∙ get_or_default inside.entries.items c.args.task c.index.result.now None within
     ∙ c.analysis.invariant.entries c.args.task within in
     let fits = subst (λ v. FitsProgram (program_of v) c.args.store.now) (sym c.analysis.view_is) c.requires.fits in
-    subst (λ v. AreVisitsOf (program_of v) c.args.task c.args.store.now c.in_ok-table.field-0.visits
-    (at c.args.table.items) c.in_ok-table.field-0.table.items) c.analysis.view_is
-    (visits_are p is c.args.task task (body_of over) over.entry c.args.store.now over.store
-    c.body_over_store-body.ensures.body entry c.body_over_store-body.ensures.store fits
+    subst (λ v. AreToldUnless c.args.start c.in_ok-table.field-0.visits (λ n. AreVisitsOf (program_of v) c.args.task
+    c.args.store.now n (at c.args.table.items) c.in_ok-table.field-0.table.items)) c.analysis.view_is
+    (next_visits_are p is c.args.task task (body_of over) over.entry c.args.store.now over.store
+    c.body_over_store-body.ensures.body entry c.body_over_store-body.ensures.store fits c.args.start
     c.in_ok-table.field-0.visits (at c.args.table.items) c.in_ok-table.field-0.table.items c.in_ok-table.ensures.visits)
+
+pub returns-clause-start : goal.returns-clause-start
+returns-clause-start c =
+    let inside = c.analysis.inside in
+    let p = program_with inside.program inside.facts in
+    let is = is_program inside.program inside.facts c.analysis.invariant.analysable c.analysis.invariant.facts in
+    let task : c.args.task < p.tasks = subst (λ v. c.args.task < v.tasks) (sym c.analysis.view_is) c.requires.task in
+    let within : c.args.task < length inside.entries.items = omega (arith, task, c.analysis.invariant.count) in
+    let over = c.body_over_store-body.result in
+    let entry = c.body_over_store-body.ensures.entry ∙ c.as_ref-entry.ensures.value ∙ c.index.ensures
+    ∙ get_or_default inside.entries.items c.args.task c.index.result.now None within
+    ∙ c.analysis.invariant.entries c.args.task within in
+    let fits = subst (λ v. FitsProgram (program_of v) c.args.store.now) (sym c.analysis.view_is) c.requires.fits in
+    subst (λ v. IfSome c.in_ok-table.field-0.start (AreTaskValues (program_of v) c.args.task c.args.store.now))
+    c.analysis.view_is
+    (next_start p is c.args.task task (body_of over) over.entry c.args.store.now over.store
+    c.body_over_store-body.ensures.body entry c.body_over_store-body.ensures.store fits c.in_ok-table.field-0.start
+    c.in_ok-table.ensures.start)

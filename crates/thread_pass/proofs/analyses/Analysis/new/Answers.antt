@@ -1,8 +1,9 @@
-use Rattle.std.proofs.Common.{ap, ◌∙◌, List, Option}
+use Rattle.std.proofs.Common.{ap, sym, subst, ◌∙◌, List, Option}
 use Rattle.program_equality.specs.transfer_rows.StateForms.{State}
 use Rattle.program_equality.specs.program_equations.Systems.{task_entry}
 use Rattle.program_systems.specs.ProgramFacts.{program_with}
 use Rattle.program_systems.proofs.Bodies.{is_program, is_program_of}
+use Rattle.thread_pass.specs.Analyses.{AreProgramSlots}
 use Rattle.thread_pass.proofs.TaskTables.{entry_from}
 use Rattle.thread_pass.proofs.analyses.Analysis.new.Goals as goal
 
@@ -13,7 +14,7 @@ invariant_of-result c =
     record {
       analysable = c.requires;
       facts = c.in_ok-facts.ensures;
-      slots = c.in_ok-slots.ensures;
+      slots = subst (AreProgramSlots (program_with program facts)) (sym c.in_ok-slots.ensures.ok) c.in_ok-each.ensures;
       section = c.in_ok-section.ensures;
       count = c.in_ok-entries.ensures.count;
       entries = λ t lt.
