@@ -8,7 +8,7 @@ top=$(readlink -f "$(dirname "${BASH_SOURCE[0]}")/..")
 . "$top/benches/copies.sh"
 work=$(mktemp -d)
 trap 'rm -rf "$work"' EXIT
-copy_crates "$top" "$work" tm_lattice strided_dom pointer_dom state_tree cell_env
+copy_crates "$top" "$work" tm_lattice shared_tables strided_dom pointer_dom state_tree cell_env
 cat > "$work/crates/speed/src/main.rt" <<'PROGRAM'
 #![tactic(auto)]
 

@@ -34,7 +34,7 @@ STATIONS = {
     " source_programs",
     "Values": "tm_numbers strided_dom interval_dom congruence_dom transfer_int pointer_dom filters operator_values"
     " typed_values temporary_extents value_heights",
-    "States and transfers": "tm_lattice state_tree cell_env interfere_set transfer_rows calculations edge_actions"
+    "States and transfers": "tm_lattice shared_tables state_tree cell_env interfere_set transfer_rows calculations edge_actions"
     " edge_effects edge_filters memory_effects transfer_mem state_fits",
     "Equations and passes": "table_covers edge_contributions least_tables task_equations program_equations store_limits"
     " body_systems entry_states program_systems program_equality program_laws thread_pass post_recheck"

@@ -17,11 +17,11 @@ ghost use Rattle.calculations.specs.reading.Ends.{Alive, Stands};
 use crate::values::{Calculated, no_classes, pointers_of};
 use cell_env::State;
 use cell_types::stands_at;
-use pointer_dom::{AbsValue, Ends, Offsets, PointerSet, Reached};
+use pointer_dom::{AbsValue, Ends, ObjectTable, Offsets, PointerSet, Reached};
 use std::alloc::Global;
 use strided_dom::Strided;
 use tm_laid::{Laid, is_alive};
-use tm_lattice::{Keyed, Lattice, NoMemory};
+use tm_lattice::{Lattice, NoMemory};
 use transfer_int::Classes;
 
 /// How a pointer is followed: to objects that are alive on a call path, where the cells of the type `target` stand.
@@ -96,15 +96,15 @@ fn standing_offsets(followed: &Followed, object: u32, offsets: &Offsets) -> (Off
 fn standing_objects(
     alloc: Global,
     followed: &Followed,
-    objects: &Keyed<Offsets>,
-) -> Result<(Keyed<Offsets>, bool), NoMemory>
+    objects: &ObjectTable,
+) -> Result<(ObjectTable, bool), NoMemory>
     requires layable { IsLayable (typed_file_tree followed.now.laid.now.file) followed.now.laid.now.file.order.items }
     requires few { length followed.now.laid.now.cells.items ≤ 65536 }
     ensures objects { IfOk result (λ r. IsGiven (IsStandingIn (Alive followed.now) (Stands followed.now)) objects.now
         r.0) }
     ensures all { IfOk result (λ r. IsTrue r.1 ↔ AllStandIn (Alive followed.now) (Stands followed.now) objects.now) }
 {
-    let mut reached = Keyed::new(alloc);
+    let mut reached = ObjectTable::new(alloc);
     let mut all = true;
     for (object, offsets) in objects.entries() {
         let (standing, whole) = standing_offsets(followed, *object, offsets);

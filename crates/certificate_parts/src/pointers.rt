@@ -12,10 +12,10 @@ ghost use Rattle.certificate_parts.specs.Pointers.{ArePointers, BeginsWithNoBit,
 use crate::sets::set_in;
 use crate::words::first_number;
 use certificate_words::Word;
-use pointer_dom::{Offsets, PointerSet};
+use pointer_dom::{ObjectTable, Offsets, PointerSet};
 use std::alloc::Global;
 use strided_dom::Strided;
-use tm_lattice::{Keyed, NoMemory};
+use tm_lattice::NoMemory;
 
 /// The numbers of a set as offsets in an object of this size: none where one lies outside.
 fn offsets_of(size: u32, set: &Strided) -> Option<Offsets>
@@ -77,13 +77,13 @@ pub fn objects_in(
     alloc: Global,
     words: &[Word],
     sizes: &[u32],
-) -> Result<Option<Keyed<Offsets>>, NoMemory>
+) -> Result<Option<ObjectTable>, NoMemory>
     requires lawful { AreWords (words_of words.now) }
     requires few { length sizes.now ≤ 2 ^ 32 }
     ensures { IfOk result (λ found. MatchOption found (HasNoObjects sizes.now (words_of words.now))
         (λ t. AreEntries object_onto (FitsObject sizes.now) IsNoWord (words_of words.now) (entries t) [])) }
 {
-    let mut objects = Keyed::new(alloc);
+    let mut objects = ObjectTable::new(alloc);
     let mut at = 0;
     let mut bound = 0u64;
     while at < words.len() {

@@ -3,10 +3,10 @@
 use crate::number_sets::{NONE, Numbers, marks, set};
 use crate::pointer_operations::{is_equality, is_reached_by};
 use crate::tables::{Row, assert_rows};
-use pointer_dom::{AbsValue, Offsets, Parts, PointerSet};
+use pointer_dom::{AbsValue, ObjectTable, Offsets, Parts, PointerSet};
 use std::alloc::Global;
 use std::test::Fail;
-use tm_lattice::{Keyed, Lattice, NoMemory};
+use tm_lattice::{Lattice, NoMemory};
 
 /// Whether null and the invalid pointer are there, and the offsets in object 1, of 10 cells, and in object 2, of 5
 /// cells.
@@ -61,7 +61,7 @@ pub(crate) fn offsets_within(size: u32, row: Numbers) -> Offsets {
 }
 
 pub(crate) fn pointers(alloc: Global, row: &Targets) -> Result<PointerSet, NoMemory> {
-    let mut objects = Keyed::new(alloc);
+    let mut objects = ObjectTable::new(alloc);
     objects.join_at(1, &offsets_within(10, row.2))?;
     objects.join_at(2, &offsets_within(5, row.3))?;
     Ok(PointerSet::from_parts(row.0, row.1, objects))

@@ -159,7 +159,7 @@ fn no_values<V: Drop>(alloc: Global, variables: usize) -> Result<Vec<Option<V>>,
     ensures { IfOk result (λ values. (length values.items ≡ variables)
         × ((i : ℕ) → slice_index_or values.items i None ≡ None)) }
 {
-    let mut values = Vec::new(alloc);
+    let mut values = Vec::with_capacity(alloc, variables)?;
     for _ in 0..variables {
         values.push(None)?;
     }

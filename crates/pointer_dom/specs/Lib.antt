@@ -3,6 +3,7 @@
 -- and dereferences (Selections), equality (Equality).
 -- The crates below, passed on to those above.
 pub use Rattle.strided_dom.specs as strided_dom
+pub use Rattle.shared_tables.specs as shared_tables
 pub use Rattle.tm_lattice.specs as tm_lattice
 pub mod Offset
 pub mod StridedSets

@@ -6,10 +6,10 @@ ghost use Rattle.pointer_dom.specs.OffsetSets.{IsOffsetsOf};
 ghost use Rattle.pointer_dom.specs.Advances.{IsShortStep, IsAdvanced, IsReached, IsGiven, StayInside};
 
 use crate::offsets::Offsets;
-use crate::pointer_set::PointerSet;
+use crate::pointer_set::{ObjectTable, PointerSet};
 use std::alloc::Global;
 use strided_dom::Strided;
-use tm_lattice::{Keyed, NoMemory};
+use tm_lattice::NoMemory;
 
 /// What an operation on pointers gives: the pointers, and whether its class of error is not excluded.
 #[derive(Drop)]
@@ -23,14 +23,14 @@ pub struct Reached {
 /// The offsets in all objects, each advanced by each of the steps, and whether all of them stay in their objects.
 pub(crate) fn advanced_objects(
     alloc: Global,
-    objects: &Keyed<Offsets>,
+    objects: &ObjectTable,
     steps: &Strided,
-) -> Result<(Keyed<Offsets>, bool), NoMemory>
+) -> Result<(ObjectTable, bool), NoMemory>
     requires { (n : ℤ) → Has steps.now n → IsShortStep n }
     ensures objects { IfOk result (λ r. IsGiven (λ object. IsReached (Has steps.now)) objects.now r.0) }
     ensures inside { IfOk result (λ r. IsTrue r.1 ↔ StayInside (Has steps.now) objects.now) }
 {
-    let mut reached = Keyed::new(alloc);
+    let mut reached = ObjectTable::new(alloc);
     let mut inside = true;
     for (object, offsets) in objects.entries() {
         let (moved, stay) = advanced(offsets, steps);

@@ -8,9 +8,9 @@ ghost use Rattle.pointer_dom.specs.Equality.{HasTwo};
 ghost use Rattle.pointer_dom.specs.PointerForms.{pointer_of, flag_alone};
 
 use crate::offsets::Offsets;
-use crate::pointer_set::PointerSet;
+use crate::pointer_set::{ObjectTable, PointerSet};
 use strided_dom::Strided;
-use tm_lattice::{Keyed, Lattice};
+use tm_lattice::Lattice;
 
 /// A pointer of C as a value.
 #[derive(Clone, Copy, PartialEq, Eq)]
@@ -65,7 +65,7 @@ fn may_be_same(p: &PointerSet, q: &PointerSet) -> bool
 }
 
 /// Whether some object has an offset in both tables.
-fn have_common_offset(one: &Keyed<Offsets>, other: &Keyed<Offsets>) -> bool
+fn have_common_offset(one: &ObjectTable, other: &ObjectTable) -> bool
     ensures { IsTrue result ↔ MeetTables one.now other.now }
 {
     for (object, offsets) in one.entries() {

@@ -10,10 +10,10 @@ ghost use Rattle.pointer_dom.specs.Selections.{AllStandAt, AllStandIn};
 
 use crate::advances::Reached;
 use crate::offsets::Offsets;
-use crate::pointer_set::PointerSet;
+use crate::pointer_set::{ObjectTable, PointerSet};
 use std::alloc::Global;
 use strided_dom::Strided;
-use tm_lattice::{Keyed, NoMemory};
+use tm_lattice::NoMemory;
 
 /// What a dereference of a pointer to one type has to know of objects: which are alive, and at which offsets the scalar
 /// cells of the pointed type stand in order.
@@ -55,15 +55,15 @@ impl PointerSet {
 /// Of the offsets in each object those at which a dereference finds cells, and whether it finds them at all.
 fn standing_objects<L: Layout>(
     alloc: Global,
-    objects: &Keyed<Offsets>,
+    objects: &ObjectTable,
     layout: &L,
-) -> Result<(Keyed<Offsets>, bool), NoMemory>
+) -> Result<(ObjectTable, bool), NoMemory>
     ensures objects { IfOk result (λ r. IsGiven
         (IsStandingIn (L.alive layout.now) (L.stands layout.now)) objects.now r.0) }
     ensures all { IfOk result (λ r. IsTrue r.1
         ↔ AllStandIn (L.alive layout.now) (L.stands layout.now) objects.now) }
 {
-    let mut reached = Keyed::new(alloc);
+    let mut reached = ObjectTable::new(alloc);
     let mut all = true;
     for (object, offsets) in objects.entries() {
         let (standing, whole) = standing_offsets(layout, *object, offsets);

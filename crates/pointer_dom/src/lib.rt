@@ -23,4 +23,4 @@ pub use arithmetic::distances;
 pub use comparisons::{PointerValue, equality};
 pub use dereferences::Layout;
 pub use offsets::{Ends, Offsets};
-pub use pointer_set::PointerSet;
+pub use pointer_set::{ObjectTable, PointerSet};

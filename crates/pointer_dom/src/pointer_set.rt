@@ -5,10 +5,14 @@ ghost use Rattle.std.specs.FinMap as map;
 ghost use Rattle.pointer_dom.specs.PointerSets.{IsPointers, IsMeet, IsTableMeet, no_pointer, pointer_to};
 
 use crate::offsets::Offsets;
+use shared_tables::SharedTable;
 use std::alloc::Global;
 use std::marker::Model;
 use strided_dom::Marks;
-use tm_lattice::{Keyed, Lattice, NoMemory};
+use tm_lattice::{Lattice, NoMemory};
+
+/// A table of objects by their numbers, with the offsets of the pointers to each. Copies of it share the entries.
+pub type ObjectTable = SharedTable<Offsets>;
 
 /// A set of pointers: whether the null pointer and the invalid pointer are there, and for some objects a set of offsets
 /// that is not empty. Objects go by their numbers. An invalid pointer is what a pointer cell holds before it is stored.
@@ -16,7 +20,7 @@ use tm_lattice::{Keyed, Lattice, NoMemory};
 pub struct PointerSet {
     null: bool,
     invalid: bool,
-    objects: Keyed<Offsets>,
+    objects: ObjectTable,
 }
 
 impl Model for PointerSet {
@@ -37,21 +41,21 @@ impl PointerSet {
     pub fn new(alloc: Global) -> PointerSet
         ensures { result ≡ no_pointer }
     {
-        PointerSet::from_parts(false, false, Keyed::new(alloc))
+        PointerSet::from_parts(false, false, ObjectTable::new(alloc))
     }
 
     /// The null pointer alone (C99 6.3.2.3). It takes no memory.
     pub fn null(alloc: Global) -> PointerSet
         ensures { result ≡ record { null = true; invalid = false; objects = map.empty } }
     {
-        PointerSet::from_parts(true, false, Keyed::new(alloc))
+        PointerSet::from_parts(true, false, ObjectTable::new(alloc))
     }
 
     /// The invalid pointer alone. It takes no memory.
     pub fn invalid(alloc: Global) -> PointerSet
         ensures { result ≡ record { null = false; invalid = true; objects = map.empty } }
     {
-        PointerSet::from_parts(false, true, Keyed::new(alloc))
+        PointerSet::from_parts(false, true, ObjectTable::new(alloc))
     }
 
     /// The pointer to an object of this size, at this offset, alone.
@@ -59,13 +63,13 @@ impl PointerSet {
         requires { offset ≤ size }
         ensures { IfOk result (λ set. set ≡ pointer_to object size offset) }
     {
-        let mut objects = Keyed::new(alloc);
+        let mut objects = ObjectTable::new(alloc);
         objects.join_at(object, &Offsets::one(size, offset))?;
         Ok(PointerSet::from_parts(false, false, objects))
     }
 
     /// The set of these parts.
-    pub fn from_parts(null: bool, invalid: bool, objects: Keyed<Offsets>) -> PointerSet
+    pub fn from_parts(null: bool, invalid: bool, objects: ObjectTable) -> PointerSet
         ensures { result ≡ record { null = null; invalid = invalid; objects = objects } }
     {
         // The call tells that each entry of the table is a value, and that none is nothing.
@@ -92,7 +96,7 @@ impl PointerSet {
     }
 
     /// The table of the objects to which a pointer is in the set, with their offsets.
-    pub fn objects(&self) -> &Keyed<Offsets>
+    pub fn objects(&self) -> &ObjectTable
         ensures value { result.now ≡ self.now.objects }
         ensures within { IsPointers self.now }
     {
@@ -204,12 +208,12 @@ fn implies(one: bool, other: bool) -> bool
 /// The offsets in both tables, object by object.
 fn common_offsets(
     alloc: Global,
-    one: &Keyed<Offsets>,
-    other: &Keyed<Offsets>,
-) -> Result<Keyed<Offsets>, NoMemory>
+    one: &ObjectTable,
+    other: &ObjectTable,
+) -> Result<ObjectTable, NoMemory>
     ensures { IfOk result (λ both. IsTableMeet one.now other.now both) }
 {
-    let mut both = Keyed::new(alloc);
+    let mut both = ObjectTable::new(alloc);
     for (object, offsets) in one.entries() {
         if let Some(others) = other.get(*object) {
             both.join_at(*object, &offsets.meet(others))?;

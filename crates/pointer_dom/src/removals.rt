@@ -7,9 +7,9 @@ ghost use Rattle.pointer_dom.specs.Selections.{IsHullOfPointers, IsOtherPointer,
 
 use crate::comparisons::PointerValue;
 use crate::offsets::Offsets;
-use crate::pointer_set::PointerSet;
+use crate::pointer_set::{ObjectTable, PointerSet};
 use std::alloc::Global;
-use tm_lattice::{Keyed, Lattice, NoMemory};
+use tm_lattice::{Lattice, NoMemory};
 
 impl PointerSet {
     /// The pointers other than this one; of offsets in its object, the least strided set with those that are left.
@@ -38,13 +38,13 @@ impl PointerSet {
 /// The offsets in all objects, without one offset in one object.
 fn other_objects(
     alloc: Global,
-    objects: &Keyed<Offsets>,
+    objects: &ObjectTable,
     object: u32,
     offset: u32,
-) -> Result<Keyed<Offsets>, NoMemory>
+) -> Result<ObjectTable, NoMemory>
     ensures { IfOk result (λ others. IsGiven (IsOtherOffset object offset) objects.now others) }
 {
-    let mut others = Keyed::new(alloc);
+    let mut others = ObjectTable::new(alloc);
     for (key, offsets) in objects.entries() {
         others.join_at(*key, &other_offsets(*key, offsets, object, offset))?;
     }

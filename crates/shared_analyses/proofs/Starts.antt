@@ -1,22 +1,12 @@
 -- What passes keep of slots may be sent to other threads, and be shared by them.
 use denote.RattleType.{RattleType}
-use denote.Param.Send.{IsSend, IsSync, view_send, view_sync, fixed_send, fixed_sync, struct_send, struct_sync, sendable}
+use denote.Param.Send.{IsSend, IsSync, view_send, view_sync, struct_send, struct_sync, sendable}
 use denote.Param.SendFields.{as_row_send, as_row_sync}
 use denote.Struct.Declared.{shape}
 use Rattle.std.specs.contracts.option.Option as Option
 use Rattle.std.proofs.Crossing.{Vec-send, Vec-sync, Arc-send, Arc-sync}
-use Rattle.thread_pass.specs.program_systems.strided_dom.declared.sets.Strided.TheView as OfStrided
 use Rattle.thread_pass.specs.program_systems.strided_dom.contracts.rounding.Marks as Marks
-use Rattle.thread_pass.specs.program_systems.strided_dom.contracts.sets.Strided as Strided
-use Rattle.thread_pass.specs.program_systems.strided_dom.contracts.sets.Strided.TheInside as StridedInside
-use Rattle.thread_pass.specs.program_systems.pointer_dom.declared.offsets.Offsets.TheView as OfOffsetSets
-use Rattle.thread_pass.specs.program_systems.pointer_dom.contracts.offsets.Offsets as Offsets
-use Rattle.thread_pass.specs.program_systems.pointer_dom.contracts.offsets.Offsets.TheInside as OffsetsInside
-use Rattle.thread_pass.specs.program_systems.pointer_dom.contracts.offsets.OffsetsLattice.TheImpl as OfOffsets
-use Rattle.thread_pass.specs.program_systems.pointer_dom.contracts.pointer_set.PointerSet as PointerSet
-use Rattle.thread_pass.specs.program_systems.pointer_dom.contracts.pointer_set.PointerSet.TheInside as PointersInside
 use Rattle.thread_pass.specs.program_systems.pointer_dom.contracts.abs_value.AbsValue as AbsValue
-use Rattle.thread_pass.specs.program_systems.pointer_dom.contracts.abs_value.AbsValue.TheInside as ValueInside
 use Rattle.thread_pass.specs.program_systems.pointer_dom.contracts.abs_value.AbsValueLattice.TheImpl as OfValues
 use Rattle.thread_pass.specs.program_systems.tm_lattice.contracts.tables.Keyed as Keyed
 use Rattle.thread_pass.specs.program_systems.cell_env.contracts.cells.CellState as CellState
@@ -29,7 +19,8 @@ use Rattle.thread_pass.specs.contracts.starts.ProgramSlots as ProgramSlots
 use Rattle.thread_pass.specs.contracts.starts.ProgramSlots.TheInside as ProgramInside
 use Rattle.thread_pass.specs.contracts.starts.TaskStart as TaskStart
 use Rattle.thread_pass.specs.contracts.starts.TaskStart.TheInside as StartInside
-use Rattle.shared_programs.proofs.Tables.{keyed_send, keyed_sync}
+use Rattle.shared_programs.proofs.States.{value_send, value_sync}
+use Rattle.shared_programs.proofs.Tables.{keyed_send, keyed_sync, temp_send, temp_sync, cell_send, cell_sync}
 use Rattle.shared_analyses.proofs.Slots.{slots_send, slots_sync}
 
 abbrev V : RattleType
@@ -47,46 +38,18 @@ Front =
 abbrev Cell : RattleType
 Cell = CellState.the_row V M
 
--- ---- values
-strided_send : IsSend Strided.the_row
-strided_send =
-    fixed_send StridedInside.the_row _ _ OfStrided.inverse OfStrided.view OfStrided.invariant
-    (as_row_send StridedInside.the_field (search sendable depth 20))
-
-offsets_send : IsSend Offsets.the_row
-offsets_send =
-    fixed_send OffsetsInside.the_row _ _ OfOffsetSets.inverse OfOffsetSets.view OfOffsetSets.invariant
-    (as_row_send OffsetsInside.the_field (search (strided_send, sendable) depth 20))
-
-pointers_send : IsSend PointerSet.the_row
-pointers_send =
-    view_send PointersInside.the_row _ _ _ _
-    (as_row_send PointersInside.the_field
-    (struct_send (shape PointersInside.the_type)
-    (search sendable, (search sendable, (keyed_send Offsets.the_row Marks.the_row OfOffsets.ghosts offsets_send, tt)))))
-
-value_send : IsSend V
-value_send =
-    view_send ValueInside.the_row _ _ _ _
-    (as_row_send ValueInside.the_field (search (strided_send, pointers_send, sendable) depth 20))
-
-temp_send : IsSend (TempState.the_row V M)
-temp_send = as_row_send (TempState.the_field V M) (search (value_send, sendable) depth 20)
-
-cell_send : IsSend Cell
-cell_send = as_row_send (CellState.the_field V M) (search (value_send, sendable) depth 20)
-
 -- ---- what stands at variables
 front_send : IsSend Front
 front_send =
     keyed_send (TempState.the_row V M) M (OfTemps.ghosts V M OfValues.ghosts OfTemps.no_dict OfTemps.no_dict
-    OfTemps.no_dict) temp_send
+    OfTemps.no_dict) (temp_send V M OfValues.ghosts value_send)
 
 maybe_front_send : IsSend (Option.the_field Front).row
 maybe_front_send = search (front_send, sendable) depth 20
 
 maybe_cell_send : IsSend (Option.the_field Cell).row
-maybe_cell_send = search (cell_send, sendable) depth 20
+maybe_cell_send =
+    let c = cell_send V M OfValues.ghosts value_send in search (c, sendable) depth 20
 
 standing_send : IsSend (Standing.the_row Front Cell)
 standing_send =
@@ -108,46 +71,18 @@ program_slots_send =
     view_send ProgramInside.the_row _ _ _ _
     (as_row_send ProgramInside.the_field (search (slots_send, Vec-send, sendable) depth 20))
 
--- ---- values
-strided_sync : IsSync Strided.the_row
-strided_sync =
-    fixed_sync StridedInside.the_row _ _ OfStrided.inverse OfStrided.view OfStrided.invariant
-    (as_row_sync StridedInside.the_field (search sendable depth 20))
-
-offsets_sync : IsSync Offsets.the_row
-offsets_sync =
-    fixed_sync OffsetsInside.the_row _ _ OfOffsetSets.inverse OfOffsetSets.view OfOffsetSets.invariant
-    (as_row_sync OffsetsInside.the_field (search (strided_sync, sendable) depth 20))
-
-pointers_sync : IsSync PointerSet.the_row
-pointers_sync =
-    view_sync PointersInside.the_row _ _ _ _
-    (as_row_sync PointersInside.the_field
-    (struct_sync (shape PointersInside.the_type)
-    (search sendable, (search sendable, (keyed_sync Offsets.the_row Marks.the_row OfOffsets.ghosts offsets_sync, tt)))))
-
-value_sync : IsSync V
-value_sync =
-    view_sync ValueInside.the_row _ _ _ _
-    (as_row_sync ValueInside.the_field (search (strided_sync, pointers_sync, sendable) depth 20))
-
-temp_sync : IsSync (TempState.the_row V M)
-temp_sync = as_row_sync (TempState.the_field V M) (search (value_sync, sendable) depth 20)
-
-cell_sync : IsSync Cell
-cell_sync = as_row_sync (CellState.the_field V M) (search (value_sync, sendable) depth 20)
-
 -- ---- what stands at variables
 front_sync : IsSync Front
 front_sync =
     keyed_sync (TempState.the_row V M) M (OfTemps.ghosts V M OfValues.ghosts OfTemps.no_dict OfTemps.no_dict
-    OfTemps.no_dict) temp_sync
+    OfTemps.no_dict) (temp_sync V M OfValues.ghosts value_sync)
 
 maybe_front_sync : IsSync (Option.the_field Front).row
 maybe_front_sync = search (front_sync, sendable) depth 20
 
 maybe_cell_sync : IsSync (Option.the_field Cell).row
-maybe_cell_sync = search (cell_sync, sendable) depth 20
+maybe_cell_sync =
+    let c = cell_sync V M OfValues.ghosts value_sync in search (c, sendable) depth 20
 
 standing_sync : IsSync (Standing.the_row Front Cell)
 standing_sync =

@@ -22,7 +22,8 @@ use Rattle.program_systems.specs.tm_lattice.contracts.tables.KeyedLattice.TheImp
 use Rattle.program_systems.specs.cell_env.contracts.states.State as State
 use Rattle.program_systems.specs.interfere_set.contracts.stores.Store as Store
 use Rattle.program_systems.specs.interfere_set.contracts.stores.Store.TheInside as StoreInside
-use Rattle.shared_programs.proofs.Tables.{keyed_send, keyed_sync, state_send, state_sync}
+use Rattle.shared_programs.proofs.Tables.{keyed_send, keyed_sync, shared_table_send, shared_table_sync}
+use Rattle.shared_programs.proofs.Tables.{state_send, state_sync}
 
 strided_send : IsSend Strided.the_row
 strided_send =
@@ -34,18 +35,6 @@ offsets_send =
     fixed_send OffsetsInside.the_row _ _ OfOffsetSets.inverse OfOffsetSets.view OfOffsetSets.invariant
     (as_row_send OffsetsInside.the_field (search (strided_send, sendable) depth 20))
 
-pointers_send : IsSend PointerSet.the_row
-pointers_send =
-    view_send PointersInside.the_row _ _ _ _
-    (as_row_send PointersInside.the_field
-    (struct_send (shape PointersInside.the_type)
-    (search sendable, (search sendable, (keyed_send Offsets.the_row Marks.the_row OfOffsets.ghosts offsets_send, tt)))))
-
-value_send : IsSend AbsValue.the_row
-value_send =
-    view_send ValueInside.the_row _ _ _ _
-    (as_row_send ValueInside.the_field (search (strided_send, pointers_send, sendable) depth 20))
-
 strided_sync : IsSync Strided.the_row
 strided_sync =
     fixed_sync StridedInside.the_row _ _ OfStrided.inverse OfStrided.view OfStrided.invariant
@@ -56,14 +45,26 @@ offsets_sync =
     fixed_sync OffsetsInside.the_row _ _ OfOffsetSets.inverse OfOffsetSets.view OfOffsetSets.invariant
     (as_row_sync OffsetsInside.the_field (search (strided_sync, sendable) depth 20))
 
+pointers_send : IsSend PointerSet.the_row
+pointers_send =
+    view_send PointersInside.the_row _ _ _ _
+    (as_row_send PointersInside.the_field
+    (struct_send (shape PointersInside.the_type)
+    (search sendable, (search sendable, (shared_table_send Offsets.the_row Marks.the_row OfOffsets.ghosts offsets_send offsets_sync, tt)))))
+
+pub value_send : IsSend AbsValue.the_row
+value_send =
+    view_send ValueInside.the_row _ _ _ _
+    (as_row_send ValueInside.the_field (search (strided_send, pointers_send, sendable) depth 20))
+
 pointers_sync : IsSync PointerSet.the_row
 pointers_sync =
     view_sync PointersInside.the_row _ _ _ _
     (as_row_sync PointersInside.the_field
     (struct_sync (shape PointersInside.the_type)
-    (search sendable, (search sendable, (keyed_sync Offsets.the_row Marks.the_row OfOffsets.ghosts offsets_sync, tt)))))
+    (search sendable, (search sendable, (shared_table_sync Offsets.the_row Marks.the_row OfOffsets.ghosts offsets_send offsets_sync, tt)))))
 
-value_sync : IsSync AbsValue.the_row
+pub value_sync : IsSync AbsValue.the_row
 value_sync =
     view_sync ValueInside.the_row _ _ _ _
     (as_row_sync ValueInside.the_field (search (strided_sync, pointers_sync, sendable) depth 20))

@@ -10,9 +10,11 @@ use Rattle.std.proofs.Crossing.{Vec-send, Vec-sync, Arc-send, Arc-sync}
 use Rattle.program_systems.specs.tm_lattice.declared.lattices.Lattice as lattice
 use Rattle.program_systems.specs.tm_lattice.contracts.tables.Keyed as Keyed
 use Rattle.program_systems.specs.tm_lattice.contracts.tables.Keyed.TheInside as KeyedInside
-use Rattle.program_systems.specs.state_tree.contracts.tables.SharedTable as SharedTable
-use Rattle.program_systems.specs.state_tree.contracts.tables.SharedTable.TheInside as SharedInside
-use Rattle.program_systems.specs.state_tree.contracts.tables.SharedTableLattice.TheImpl as OfTables
+use Rattle.program_systems.specs.pointer_dom.shared_tables.contracts.tables.SharedTable as SharedTable
+use Rattle.program_systems.specs.pointer_dom.shared_tables.contracts.tables.SharedTable.TheInside as SharedInside
+use Rattle.program_systems.specs.pointer_dom.shared_tables.contracts.tables.SharedTableLattice.TheImpl as OfTables
+use Rattle.program_systems.specs.state_tree.contracts.branches.Branches as Branches
+use Rattle.program_systems.specs.state_tree.contracts.branches.Branches.TheInside as BranchesInside
 use Rattle.program_systems.specs.state_tree.contracts.trees.Tree as Tree
 use Rattle.program_systems.specs.state_tree.contracts.trees.Tree.TheInside as TreeInside
 use Rattle.program_systems.specs.cell_env.contracts.cells.CellState as CellState
@@ -62,6 +64,35 @@ module _ (V M : RattleType) (g : lattice.Ghosts V.Denot M.Denot) where
       (as_row_sync (SharedInside.the_field V M g) (search (Arc-sync, sendable) depth 20))
 
 module _ (V M : RattleType) (g : lattice.Ghosts V.Denot M.Denot) where
+  branches_send : IsSend V → IsSync V → IsSend (Branches.the_row V M g)
+  branches_send v w =
+      view_send (BranchesInside.the_row V M g) _ _ _ _
+      (as_row_send (BranchesInside.the_field V M g)
+      (struct_send (shape (BranchesInside.the_type V M g)) (
+        search sendable depth 20,
+        (
+          shared_table_send (SharedTable.the_row V M g) M
+              (OfTables.ghosts V M g OfTables.no_dict OfTables.no_dict OfTables.no_dict) (shared_table_send V M g v w)
+              (shared_table_sync V M g v w),
+          tt,
+        ),
+      )))
+
+  branches_sync : IsSend V → IsSync V → IsSync (Branches.the_row V M g)
+  branches_sync v w =
+      view_sync (BranchesInside.the_row V M g) _ _ _ _
+      (as_row_sync (BranchesInside.the_field V M g)
+      (struct_sync (shape (BranchesInside.the_type V M g)) (
+        search sendable depth 20,
+        (
+          shared_table_sync (SharedTable.the_row V M g) M
+              (OfTables.ghosts V M g OfTables.no_dict OfTables.no_dict OfTables.no_dict) (shared_table_send V M g v w)
+              (shared_table_sync V M g v w),
+          tt,
+        ),
+      )))
+
+module _ (V M : RattleType) (g : lattice.Ghosts V.Denot M.Denot) where
   pub tree_send : IsSend V → IsSync V → IsSend (Tree.the_row V M g)
   tree_send v w =
       view_send (TreeInside.the_row V M g) _ _ _ _
@@ -69,7 +100,7 @@ module _ (V M : RattleType) (g : lattice.Ghosts V.Denot M.Denot) where
       (struct_send (shape (TreeInside.the_type V M g)) (
         search sendable depth 20,
         (
-          shared_table_send (SharedTable.the_row V M g) M
+          branches_send (SharedTable.the_row V M g) M
               (OfTables.ghosts V M g OfTables.no_dict OfTables.no_dict OfTables.no_dict) (shared_table_send V M g v w)
               (shared_table_sync V M g v w),
           tt,
@@ -83,7 +114,7 @@ module _ (V M : RattleType) (g : lattice.Ghosts V.Denot M.Denot) where
       (struct_sync (shape (TreeInside.the_type V M g)) (
         search sendable depth 20,
         (
-          shared_table_sync (SharedTable.the_row V M g) M
+          branches_sync (SharedTable.the_row V M g) M
               (OfTables.ghosts V M g OfTables.no_dict OfTables.no_dict OfTables.no_dict) (shared_table_send V M g v w)
               (shared_table_sync V M g v w),
           tt,
@@ -91,16 +122,16 @@ module _ (V M : RattleType) (g : lattice.Ghosts V.Denot M.Denot) where
       )))
 
 module _ (V M : RattleType) (g : lattice.Ghosts V.Denot M.Denot) where
-  temp_send : IsSend V → IsSend (TempState.the_row V M)
+  pub temp_send : IsSend V → IsSend (TempState.the_row V M)
   temp_send v = as_row_send (TempState.the_field V M) (search (v, sendable) depth 20)
 
-  cell_send : IsSend V → IsSend (CellState.the_row V M)
+  pub cell_send : IsSend V → IsSend (CellState.the_row V M)
   cell_send v = as_row_send (CellState.the_field V M) (search (v, sendable) depth 20)
 
-  temp_sync : IsSync V → IsSync (TempState.the_row V M)
+  pub temp_sync : IsSync V → IsSync (TempState.the_row V M)
   temp_sync v = as_row_sync (TempState.the_field V M) (search (v, sendable) depth 20)
 
-  cell_sync : IsSync V → IsSync (CellState.the_row V M)
+  pub cell_sync : IsSync V → IsSync (CellState.the_row V M)
   cell_sync v = as_row_sync (CellState.the_field V M) (search (v, sendable) depth 20)
 
   pub state_send : IsSend V → IsSync V → IsSend (State.the_row V M g)

@@ -6,19 +6,21 @@ ghost use Rattle.std.specs.FinMap as map;
 ghost use Rattle.tm_lattice.specs.Tables.{IsTableBelow, IsPast, IsNext, with_entry, joined_table, selected_table};
 ghost use Rattle.state_tree.specs.reading.Parts.{part_of, part_at};
 
-use crate::tables::SharedTable;
+use crate::branches::Branches;
+use shared_tables::SharedTable;
 use std::alloc::Global;
 use std::marker::Model;
 use tm_lattice::{Lattice, NoMemory};
 
 /// A finite table from numbers to values of a lattice, as a keyed table is, whose copies share what they do not change.
 ///
-/// Its entries stand in parts of 64 keys, each behind a counted pointer, and the parts behind one more: a copy takes
-/// constant time, and a change copies one part and the pointers to the others.
+/// Its entries stand in parts of 8 keys, and the parts in branches of 32. Each part and each branch stands behind a
+/// counted pointer, and the branches behind one more: a copy takes constant time, and a change copies one part, the
+/// pointers to the parts of its branch, and those to the branches.
 #[derive(Drop)]
 pub struct Tree<V: Lattice> {
     alloc: Global,
-    parts: SharedTable<SharedTable<V>>,
+    parts: Branches<SharedTable<V>>,
 }
 
 impl<V: Lattice> Model for Tree<V> {
@@ -33,25 +35,25 @@ impl<V: Lattice> Model for Tree<V> {
 
     ghost view = { λ t. together t.parts };
 
-    ghost invariant = { λ t. IsParted t.parts };
+    ghost invariant = { λ t. IsParted 8 t.parts };
 }
 
-// The part in which a key stands: 64 keys are together.
+// The part in which a key stands: 8 keys are together.
 #[tactic(auto, unfolding(crate::specs::reading::Parts::part_of))]
 fn part_of(key: u32) -> u32
-    ensures value { result ≡ part_of key }
-    ensures bound { result < 2 ^ 26 }
+    ensures value { result ≡ part_of 8 key }
+    ensures bound { result < 2 ^ 29 }
 {
-    key / 64
+    key / 8
 }
 
 // The part in which a key stands, empty where it is not there.
 fn part_at<V: Lattice>(
     alloc: Global,
-    parts: &SharedTable<SharedTable<V>>,
+    parts: &Branches<SharedTable<V>>,
     key: u32,
 ) -> Result<SharedTable<V>, NoMemory>
-    ensures { IfOk result (λ part. part ≡ part_at parts.now key) }
+    ensures { IfOk result (λ part. part ≡ part_at 8 parts.now key) }
 {
     match parts.get(part_of(key)) {
         None => Ok(SharedTable::new(alloc)),
@@ -60,15 +62,14 @@ fn part_at<V: Lattice>(
 }
 
 // The entry with the least key of those from the given one on, in its part.
-fn entry_of_part<V: Lattice>(parts: &SharedTable<SharedTable<V>>, key: u32) -> Option<(u32, &V)>
-    ensures { MatchOption result (IsPast (part_at parts.now key) key)
-        (λ entry. IsNext (part_at parts.now key) key entry.0 entry.1.now) }
+fn entry_of_part<V: Lattice>(parts: &Branches<SharedTable<V>>, key: u32) -> Option<(u32, &V)>
+    ensures { MatchOption result (IsPast (part_at 8 parts.now key) key)
+        (λ entry. IsNext (part_at 8 parts.now key) key entry.0 entry.1.now) }
 {
-    // As in `get`: where no key of a part or below it is absent, the number of its entry is known.
-    let number = part_of(key);
-    match parts.get_near(number, number as usize) {
+    // As in `get`: where no key of a part is absent, the number of its entry is known.
+    match parts.get(part_of(key)) {
         None => None,
-        Some(part) => part.entry_near(key, (key % 64) as usize),
+        Some(part) => part.entry_near(key, (key % 8) as usize),
     }
 }
 
@@ -79,7 +80,7 @@ impl<V: Lattice> Tree<V> {
     {
         Tree {
             alloc,
-            parts: SharedTable::new(alloc),
+            parts: Branches::new(alloc),
         }
     }
 
@@ -87,11 +88,10 @@ impl<V: Lattice> Tree<V> {
     pub fn get(&self, key: u32) -> Option<&V>
         ensures { option_copied result ≡ map.get self.now key }
     {
-        // Where no key of a part or below it is absent, the number of its entry is known.
-        let number = part_of(key);
-        match self.parts.get_near(number, number as usize) {
+        // Where no key of a part is absent, the number of its entry is known.
+        match self.parts.get(part_of(key)) {
             None => None,
-            Some(part) => part.get_near(key, (key % 64) as usize),
+            Some(part) => part.get_near(key, (key % 8) as usize),
         }
     }
 
@@ -129,12 +129,12 @@ impl<V: Lattice> Tree<V> {
         ensures nothing { IfOk result (λ made. V.nothing value → made ≡ map.remove self key) }
         ensures written { IfOk result (λ made. (V.nothing value → ⊥) → made ≡ map.insert self key value) }
     {
-        let Tree { alloc, mut parts } = self;
+        let Tree { alloc, parts } = self;
         let mut part = part_at(alloc, &parts, key)?;
         // From here on the part is this table's alone, if no other table has it.
-        parts.remove(part_of(key))?;
+        let others = parts.without(part_of(key))?;
         part.put(key, value)?;
-        parts.put(part_of(key), part)?;
+        let parts = others.with(part_of(key), part)?;
         Ok(Tree { alloc, parts })
     }
 

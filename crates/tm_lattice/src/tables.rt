@@ -246,7 +246,7 @@ impl<V: Lattice> Lattice for Keyed<V> {
     }
 
     fn round(&self, alloc: Global, marks: &V::Marks) -> Result<Self, NoMemory> {
-        let mut entries = Vec::new(alloc);
+        let mut entries = Vec::with_capacity(alloc, self.entries.len())?;
         for (key, value) in &self.entries {
             entries.push((*key, value.round(alloc, marks)?))?;
         }
@@ -254,7 +254,7 @@ impl<V: Lattice> Lattice for Keyed<V> {
     }
 
     fn copied(&self, alloc: Global) -> Result<Self, NoMemory> {
-        let mut entries = Vec::new(alloc);
+        let mut entries = Vec::with_capacity(alloc, self.entries.len())?;
         for (key, value) in &self.entries {
             entries.push((*key, value.copied(alloc)?))?;
         }

@@ -1,11 +1,12 @@
--- How a tree keeps its table: in parts of 64 keys, each part being a table of its own.
+-- How a tree keeps its table, and each branch of it its own: in parts of a number of keys, each part being a table of
+-- its own.
 use Rattle.std.specs.Prelude.{◌≡◌, ℕ, ◌/◌, List, [], ◌∷◌, Option, Some, None}
 use Rattle.std.specs.FinMap.{get, empty, entries}
 use Rattle.tm_lattice.specs.Tables.{Table, joined_table}
 
--- the part in which a key stands
-unfoldable pub part_of : ℕ → ℕ
-part_of key = key / 64
+-- the part in which a key stands, where so many keys are together
+unfoldable pub part_of : ℕ → ℕ → ℕ
+part_of size key = key / size
 
 module _ {V : Type 0} where
   -- what stands at a key of a part, if the part is there
@@ -27,10 +28,10 @@ module _ {V : Type 0} where
   or_empty (Some part) = part
 
   -- the part in which a key stands, empty where it is not there
-  abbrev pub part_at : Table (Table V) → ℕ → Table V
-  part_at parts key = or_empty (get parts (part_of key))
+  abbrev pub part_at : ℕ → Table (Table V) → ℕ → Table V
+  part_at size parts key = or_empty (get parts (part_of size key))
 
   -- each key stands in its part
-  pub record IsParted (parts : Table (Table V)) : Type 0 where
+  pub record IsParted (size : ℕ) (parts : Table (Table V)) : Type 0 where
     pub keys : (number : ℕ) (part : Table V) → get parts number ≡ Some part
-        → (key : ℕ) (v : V) → get part key ≡ Some v → part_of key ≡ number
+        → (key : ℕ) (v : V) → get part key ≡ Some v → part_of size key ≡ number

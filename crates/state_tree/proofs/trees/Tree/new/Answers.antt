@@ -4,7 +4,7 @@ use Rattle.state_tree.proofs.Parting.{parted_empty, together_empty}
 use Rattle.state_tree.proofs.trees.Tree.new.Goals as goal
 
 pub invariant_of-result : goal.invariant_of-result
-invariant_of-result g c = subst IsParted (sym c.new.ensures) parted_empty
+invariant_of-result g c = subst (IsParted 8) (sym c.new.ensures) (parted_empty 8)
 
 pub returns : goal.returns
-returns g c = ap together c.new.ensures ∙ together_empty
+returns g c = ap together c.new.ensures ∙ together_empty 8

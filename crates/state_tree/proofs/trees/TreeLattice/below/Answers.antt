@@ -11,7 +11,7 @@ returns g c =
     let other = c.other.inside.parts in
     let parts = have_parts g.V.Lattice.is_value g.V.Lattice.nothing one c.is_nothing-empty.ensures.value in (
       λ yes. subst (λ s. IsTableBelow leq s c.args.other.now) c.self.view_is (subst (IsTableBelow leq (together one)) c.other.view_is
-          (together_below leq one other c.self.invariant c.other.invariant (c.below.ensures.0 yes))),
-      λ le. c.below.ensures.1 (below_together leq one other c.self.invariant c.other.invariant parts
+          (together_below 8 leq one other c.self.invariant c.other.invariant (c.below.ensures.0 yes))),
+      λ le. c.below.ensures.1 (below_together 8 leq one other c.self.invariant c.other.invariant parts
           (subst (λ s. IsTableBelow leq s (together other)) (sym c.self.view_is) (subst (IsTableBelow leq c.args.self.now) (sym c.other.view_is) le))),
     )

@@ -5,9 +5,9 @@ use Rattle.state_tree.proofs.Parting.{parted_rounded, together_rounded}
 use Rattle.state_tree.proofs.trees.TreeLattice.round.Goals as goal
 
 pub invariant_of-result : goal.invariant_of-result
-invariant_of-result g c = subst IsParted (sym c.in_ok-round.ensures) (parted_rounded (g.V.Lattice.rounded c.args.marks.now) c.self.inside.parts c.self.invariant)
+invariant_of-result g c = subst (IsParted 8) (sym c.in_ok-round.ensures) (parted_rounded 8 (g.V.Lattice.rounded c.args.marks.now) c.self.inside.parts c.self.invariant)
 
 pub returns : goal.returns
 returns g c =
     let round = g.V.Lattice.rounded c.args.marks.now in
-    ap together c.in_ok-round.ensures ∙ together_rounded round c.self.inside.parts c.self.invariant ∙ ap (rounded_table round) c.self.view_is
+    ap together c.in_ok-round.ensures ∙ together_rounded 8 round c.self.inside.parts c.self.invariant ∙ ap (rounded_table round) c.self.view_is
