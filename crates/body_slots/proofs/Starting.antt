@@ -2,7 +2,7 @@
 use Rattle.std.specs.Prelude.{◌≡◌, List, length, Option, Some}
 use Rattle.std.proofs.Common.{sym, subst, ◌∙◌}
 use Rattle.least_assignments.specs.Constraints.{at}
-use Rattle.least_assignments.specs.Solutions.{AreRound, IsLeast}
+use Rattle.least_assignments.specs.Solutions.{IsLeast}
 use Rattle.front_constraints.specs.Standings.{standings}
 use Rattle.front_constraints.specs.Rules.{front_constraints, FitsVariable}
 use Rattle.body_systems.specs.Systems.{SystemOf, body_of}
@@ -69,15 +69,7 @@ module _ (v : SlotSystemOf) (is : IsSlotSystem v) where
         (FitsVariable (slotted b w.entry start.before v.slots s) (FitsFront b) (FitsCellAt b)) (λ k a. Unit {0})
         (front_constraints (slotted b w.entry start.before v.slots s)) (at values)) begins_so start.values.least)
 
-    -- so the work list may go on from it
-    pub started_count : length values ≡ (front_constraints (sparse_of v)).variable_count
-    started_count = start.values.count
-
-    pub started_round : AreRound (standings fronts cells) (Fits v) (AllowsSlots v) (front_constraints (sparse_of v))
-        (at values)
-    started_round = (let closed = before_least.closed in let r = closed.round in record { fits = r.fits; round = r.round })
-
-    -- and what it ends with is the least
+    -- what the work list ends with that goes on from it is the least
     pub least_after : (last : Values) → Closed v last → Above v (at values) last → Least v last
     least_after last closed above =
         least_from w start.before v.entry v.slots before_is is start.below (at values) last before_least closed above

@@ -1,5 +1,6 @@
 -- Where the cells that a body sees are kept (Placed), the slots of a body with its constraints (Slots), what rows read
--- and bring, as lists (Rows), what stood over an earlier store (Starts), and what code finds (reading). The crates below, passed on to those above.
+-- and bring, as lists (Rows), what stood over an earlier store (Starts), and what code finds (reading). The crates
+-- below, passed on to those above.
 pub use Rattle.slot_numbers.specs as slot_numbers
 pub use Rattle.row_checks.specs as row_checks
 pub use Rattle.body_fronts.specs as body_fronts

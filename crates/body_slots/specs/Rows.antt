@@ -22,9 +22,13 @@ Values = Assignment Stand
 abbrev pub brought_by : SlotSystemOf → Rule → Values → List (Option Stand)
 brought_by v r a = map (brings (sparse_of v) r a) (targets_of (sparse_of v) r)
 
+-- what a table has at cells
+abbrev pub held_among : Table Cell → List ℕ → List (Option Stand)
+held_among t xs = map (λ x. option_map holding (get t x)) xs
+
 -- what a state has at cells
 abbrev pub held_in : State → List ℕ → List (Option Stand)
-held_in s xs = map (λ x. option_map holding (get s.cells x)) xs
+held_in s xs = held_among s.cells xs
 
 -- what an edge brings that leads to the state and touches these cells
 abbrev pub state_parts_at : State → List ℕ → List (Option Stand)

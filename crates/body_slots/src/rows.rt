@@ -14,12 +14,13 @@ ghost use Rattle.slot_numbers.specs.Numberings.{numbers_of};
 ghost use Rattle.body_fronts.specs.FrontForms.{FitsFront, FitsCellAt};
 ghost use Rattle.body_systems.specs.Systems.{body_of, FitsTemps};
 ghost use Rattle.body_slots.specs.Slots.{sparse_of, PassesRow};
-ghost use Rattle.body_slots.specs.Rows.{Values, brought_by, held_in, state_parts_at, row_parts};
+ghost use Rattle.body_slots.specs.Rows.{Values, brought_by, held_among, state_parts_at, row_parts};
 ghost use Rattle.body_slots.specs.reading.Small.{HasTraced, IsSeenOver, IsPart};
 
 use crate::systems::{SlotSystem, SlotValue};
 use cell_env::{CellState, State, TempState};
 use cell_placings::has_cell;
+use edge_effects::After;
 use front_constraints::Standing;
 use pointer_dom::AbsValue;
 use row_checks::{carried_cell, is_checked, is_traced};
@@ -29,16 +30,16 @@ use tm_lattice::{Keyed, Lattice, NoMemory};
 
 // ## Parts of states
 
-// What a state has at a cell.
+// What a table of cells has at one.
 fn held_at(
     alloc: Global,
-    state: &State<AbsValue>,
+    table: &Tree<CellState<AbsValue>>,
     cell: usize,
 ) -> Result<Option<SlotValue>, NoMemory>
     requires { cell < 4294967296 }
-    ensures { IfOk result (λ held. held ≡ option_map holding (get state.now.cells cell)) }
+    ensures { IfOk result (λ held. held ≡ option_map holding (get table.now cell)) }
 {
-    match state.cell(cell as u32) {
+    match table.get(cell as u32) {
         None => Ok(None),
         Some(held) => Ok(Some(Standing {
             front: None,
@@ -47,19 +48,19 @@ fn held_at(
     }
 }
 
-// With what a state has at some cells, behind what stands before.
+// With what a table of cells has at some of them, behind what stands before.
 fn with_held(
     alloc: Global,
-    state: &State<AbsValue>,
+    table: &Tree<CellState<AbsValue>>,
     cells: &[usize],
     before: Vec<Option<SlotValue>>,
 ) -> Result<Vec<Option<SlotValue>>, NoMemory>
     requires { (j : ℕ) → j < length cells.now → slice_index_or cells.now j 0 < 4294967296 }
-    ensures { IfOk result (λ all. all.items ≡ before.items ++ held_in state.now cells.now) }
+    ensures { IfOk result (λ all. all.items ≡ before.items ++ held_among table.now cells.now) }
 {
     let mut all = before;
     for cell in cells {
-        all.push(held_at(alloc, state, *cell)?)?;
+        all.push(held_at(alloc, table, *cell)?)?;
     }
     Ok(all)
 }
@@ -78,7 +79,7 @@ fn front_of(alloc: Global, state: &State<AbsValue>) -> Result<Option<SlotValue>,
 fn nothing(alloc: Global, count: usize) -> Result<Vec<Option<SlotValue>>, NoMemory>
     ensures { IfOk result (λ all. all.items ≡ replicate count None) }
 {
-    let mut all = Vec::new(alloc);
+    let mut all = Vec::with_capacity(alloc, count)?;
     for _ in 0..count {
         all.push(None)?;
     }
@@ -88,19 +89,23 @@ fn nothing(alloc: Global, count: usize) -> Result<Vec<Option<SlotValue>>, NoMemo
 // What an edge brings that leads to the state, to its end, to itself, and to the cells that it touches.
 fn led_to(
     alloc: Global,
-    state: &State<AbsValue>,
+    state: State<AbsValue>,
     touched: &[usize],
 ) -> Result<Vec<Option<SlotValue>>, NoMemory>
     requires { (j : ℕ) → j < length touched.now → slice_index_or touched.now j 0 < 4294967296 }
-    ensures { IfOk result (λ all. all.items ≡ state_parts_at state.now touched.now) }
+    ensures { IfOk result (λ all. all.items ≡ state_parts_at state touched.now) }
 {
-    let mut first = Vec::new(alloc);
-    first.push(front_of(alloc, state)?)?;
+    let (temps, cells) = state.into_parts();
+    let mut first = Vec::with_capacity(alloc, touched.len().saturating_add(2))?;
+    first.push(Some(Standing {
+        front: Some(temps),
+        cell: None,
+    }))?;
     first.push(Some(Standing {
         front: None,
         cell: None,
     }))?;
-    with_held(alloc, state, touched, first)
+    with_held(alloc, &cells, touched, first)
 }
 
 // ## Values of variables
@@ -181,9 +186,10 @@ impl<'a> SlotSystem<'a> {
         ensures { (a : Values) → IfOk result (λ all. all.items ≡ brought_by self.now entered a) }
     {
         let slots = self.slots;
-        let mut first = Vec::new(alloc);
+        let listed = slots.cells.cells();
+        let mut first = Vec::with_capacity(alloc, listed.len().saturating_add(1))?;
         first.push(front_of(alloc, self.entry)?)?;
-        with_held(alloc, self.entry, slots.cells.cells(), first)
+        with_held(alloc, self.entry.cells(), listed, first)
     }
 
     // The number of the slot of a cell where it is kept at a node.
@@ -326,7 +332,13 @@ impl<'a> SlotSystem<'a> {
             return Ok(None);
         }
         let leads = body.configured().copies[edge].to.is_some();
-        match &after.state {
+        let After {
+            state,
+            added: _added,
+            classes: _classes,
+            targets: _targets,
+        } = after;
+        match state {
             Some(reached) if leads => Ok(Some(led_to(alloc, reached, touched.cells())?)),
             _ => Ok(Some(nothing(alloc, touched.cells().len() + 2)?)),
         }
@@ -344,7 +356,7 @@ impl<'a> SlotSystem<'a> {
         requires cell { (let s = self.now.slots in is_in s.cells cell ≡ true) }
         ensures { IfOk result (λ all. all.items ≡ brought_by self.now (flow edge cell) (at values.now)) }
     {
-        let mut all = Vec::new(alloc);
+        let mut all = Vec::with_capacity(alloc, 1)?;
         all.push(self.passed(alloc, edge, cell, values)?)?;
         Ok(all)
     }

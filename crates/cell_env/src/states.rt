@@ -48,6 +48,15 @@ impl<V: Lattice> State<V> {
         State { temps, cells }
     }
 
+    /// The live temporaries, and the cells.
+    pub fn into_parts(self) -> (Keyed<TempState<V>>, Tree<CellState<V>>)
+        ensures temps { result.0 ≡ self.temps }
+        ensures cells { result.1 ≡ self.cells }
+    {
+        let State { temps, cells } = self;
+        (temps, cells)
+    }
+
     /// The live temporaries.
     pub fn temps(&self) -> &Keyed<TempState<V>>
         ensures { result.now ≡ self.now.temps }

@@ -3,3 +3,4 @@ pub mod Laying
 pub mod Flowing
 pub mod Noting
 pub mod Whole
+pub mod Flat

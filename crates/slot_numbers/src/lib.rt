@@ -13,6 +13,7 @@
 #![tactic(auto)]
 
 mod checks;
+mod flat_lists;
 mod flows;
 mod names;
 mod number_lists;

@@ -9,9 +9,9 @@ ghost use Rattle.slot_numbers.specs.Numberings.{numbers_of, has_slot};
 ghost use Rattle.slot_numbers.specs.Numbered.{IsNumberable, IsNumbering};
 
 use crate::checks::is_numberable;
+use crate::flat_lists::FlatLists;
 use crate::flows::{list_flows, rule_at};
 use crate::names::{FlowingCell, Rule, Variable};
-use crate::number_lists::NumberList;
 use crate::readers::list_readers;
 use crate::targets::list_targets;
 use crate::variable_numbers::{VariableNumbers, number_variables};
@@ -26,8 +26,8 @@ use tm_lattice::NoMemory;
 pub struct SlotNumbers {
     variables: VariableNumbers,
     flows: Vec<FlowingCell>,
-    targets: Vec<NumberList>,
-    readers: Vec<NumberList>,
+    targets: FlatLists,
+    readers: FlatLists,
 }
 
 impl Model for SlotNumbers {
@@ -36,9 +36,9 @@ impl Model for SlotNumbers {
 
     ghost Value = { Numbering };
 
-    ghost view = { λ s. numbering_of s.variables s.flows.items s.targets.items s.readers.items };
+    ghost view = { λ s. numbering_of s.variables s.flows.items s.targets s.readers };
 
-    ghost invariant = { λ s. AreWhole (numbering_of s.variables s.flows.items s.targets.items s.readers.items) };
+    ghost invariant = { λ s. AreWhole (numbering_of s.variables s.flows.items s.targets s.readers) };
 }
 
 impl SlotNumbers {
@@ -132,7 +132,7 @@ impl SlotNumbers {
         requires { constraint < (numbers_of self.now).constraint_count }
         ensures { result.now ≡ cells_at self.now.targets constraint }
     {
-        self.targets[constraint].numbers()
+        self.targets.list(constraint)
     }
 
     /// The constraints that read a variable.
@@ -140,6 +140,6 @@ impl SlotNumbers {
         requires { variable < (numbers_of self.now).variable_count }
         ensures { result.now ≡ cells_at self.now.readers variable }
     {
-        self.readers[variable].numbers()
+        self.readers.list(variable)
     }
 }

@@ -10,6 +10,7 @@ ghost use Rattle.slot_numbers.specs.Numberings.{number_of, has_slot};
 ghost use Rattle.slot_numbers.specs.Numbered.{IsNumberable, AreVariables, AreFlows, IsRuleOf, sources_on};
 ghost use Rattle.slot_numbers.specs.reading.Building.{AreReaders, AreNoted};
 
+use crate::flat_lists::{FlatLists, flattened};
 use crate::flows::rule_at;
 use crate::names::{FlowingCell, Rule};
 use crate::number_lists::{NumberList, no_lists};
@@ -27,14 +28,14 @@ pub fn list_readers(
     variables: &VariableNumbers,
     flows: &[FlowingCell],
     count: usize,
-) -> Result<Vec<NumberList>, NoMemory>
+) -> Result<FlatLists, NoMemory>
     requires nodes { length placing.now.above ≡ graph.now.nodes }
     requires placed { IsCellPlaced graph.now (placing_of graph.now placing.now) }
     requires numberable { IsNumberable graph.now placing.now cells.now }
     requires variables { AreVariables graph.now placing.now cells.now variables.now }
     requires flows { AreFlows graph.now placing.now cells.now flows.now }
     requires count { count ≡ length graph.now.links.items + 1 + length flows.now }
-    ensures { IfOk result (λ lists. AreReaders graph.now placing.now variables.now flows.now count count lists.items) }
+    ensures { IfOk result (λ lists. AreReaders graph.now placing.now variables.now flows.now count count lists) }
 {
     let mut lists = no_lists(alloc, variables.count())?;
     for number in 0..count {
@@ -43,7 +44,7 @@ pub fn list_readers(
         let listed = sources.numbers();
         note_all(&mut lists, listed, number)?;
     }
-    Ok(lists)
+    flattened(alloc, &lists)
 }
 
 // The numbers of the variables that a constraint reads.

@@ -10,6 +10,7 @@ ghost use Rattle.slot_numbers.specs.Numberings.{number_of, has_slot};
 ghost use Rattle.slot_numbers.specs.Numbered.{IsNumberable, AreVariables, AreFlows, IsRuleOf, targets_on};
 ghost use Rattle.slot_numbers.specs.reading.Building.{AreTargets};
 
+use crate::flat_lists::FlatLists;
 use crate::flows::rule_at;
 use crate::names::{FlowingCell, Rule};
 use crate::number_lists::NumberList;
@@ -26,23 +27,25 @@ pub fn list_targets(
     cells: &CellSet,
     variables: &VariableNumbers,
     flows: &[FlowingCell],
-) -> Result<Vec<NumberList>, NoMemory>
+) -> Result<FlatLists, NoMemory>
     requires placed { IsCellPlaced graph.now (placing_of graph.now placing.now) }
     requires numberable { IsNumberable graph.now placing.now cells.now }
     requires variables { AreVariables graph.now placing.now cells.now variables.now }
     requires flows { AreFlows graph.now placing.now cells.now flows.now }
     ensures { IfOk result (λ lists. AreTargets graph.now cells.now variables.now flows.now
-        (length graph.now.links.items + 1 + length flows.now) lists.items) }
+        (length graph.now.links.items + 1 + length flows.now) lists) }
 {
     let edges = graph.links.len();
     let first_flow = total(edges, 1)?;
     let count = total(first_flow, flows.len())?;
-    let mut lists = Vec::new(alloc);
+    // Each constraint has a target, and most have no other.
+    let mut lists = FlatLists::with_capacity(alloc, count, count)?;
     for number in 0..count {
         let rule = rule_at(edges, flows, number);
         let list = targets(alloc, graph, placing, cells, variables, rule)?;
-        lists.push(list)?;
+        lists.push_list(list.numbers())?;
     }
+    lists.shrink_to_fit();
     Ok(lists)
 }
 

@@ -24,8 +24,8 @@ pub(crate) struct BodyTable {
     pub(crate) values: Option<SlotValues>,
 }
 
-// What stands at the variables, where the slots are few beside all cells of all nodes: else the work list goes on from a
-// table at less cost.
+// What stands at the variables, where the slots are few beside all cells of all nodes: else the work list goes on from
+// a table at less cost.
 fn worth_keeping(slots: &BodySlots, values: SlotValues) -> Option<SlotValues>
     ensures { IfSome result (λ kept. kept ≡ values) }
 {

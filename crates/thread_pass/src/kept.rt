@@ -9,7 +9,8 @@ use std::marker::Model;
 use std::sync::Arc;
 
 /// What a pass keeps for the next pass of its task: its table, what the table's edges contribute, the store over which
-/// both were made, and how many edges it applied, where that is told.
+/// both were made, how many edges it applied, where that is told, and what the next pass may go on from by slots, where
+/// that is worth keeping.
 #[derive(Drop)]
 pub struct Kept {
     pub(crate) table: Vec<Option<BodyState>>,

@@ -53,8 +53,8 @@ pub fn next_pass(
     ensures made { IfOk result (λ r. IsKeptOf (program_of analysis.now) task r.0) }
     ensures over { IfOk result (λ r. r.0.store ≡ arc_value store.now) }
     ensures added { IfOk result (λ r. r.1 ≡ pass_of (program_of analysis.now) task (arc_value store.now)) }
-    ensures visits { IfOk result (λ r. AreToldUnless kept.start r.0.visits (λ visits. AreVisitsOf (program_of analysis.now) task
-        (arc_value store.now) visits (at kept.table) r.0.table)) }
+    ensures visits { IfOk result (λ r. AreToldUnless kept.start r.0.visits (λ visits.
+        AreVisitsOf (program_of analysis.now) task (arc_value store.now) visits (at kept.table) r.0.table)) }
     ensures same { IfOk result (λ r. arc_value store.now ≡ kept.store → r.0 ≡ unvisited kept) }
 {
     if Store::below(store, &kept.store) {

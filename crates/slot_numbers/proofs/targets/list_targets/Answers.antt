@@ -1,4 +1,4 @@
-use Rattle.std.proofs.Common.{◌≡◌, ◌∙◌, sym, ap, subst, rules, length, ◌+◌}
+use Rattle.std.proofs.Common.{◌≡◌, ◌∙◌, sym, ap, subst, rules, length, ◌+◌, ◌++◌, ◌∷◌, []}
 use Rattle.slot_numbers.specs.Names.{rule_named}
 use Rattle.slot_numbers.specs.Numberings.{rule_of}
 use Rattle.slot_numbers.specs.Numbered.{IsRuleOf, edges}
@@ -8,8 +8,7 @@ use Rattle.slot_numbers.proofs.targets.list_targets.Goals as goal
 
 pub loop-number-init : goal.loop-number-init
 loop-number-init c =
-    targets_begun c.args.graph.now c.args.cells.now c.args.variables.now c.args.flows.now c.new-lists.result.items
-    c.new-lists.ensures.items
+    targets_begun c.args.graph.now c.args.cells.now c.args.variables.now c.args.flows.now c.in_ok-lists.lists c.in_ok-lists.ensures
 
 pub targets-requires-clause-rule : goal.targets-requires-clause-rule
 targets-requires-clause-rule c =
@@ -23,13 +22,15 @@ pub loop-number-preserved : goal.loop-number-preserved
 loop-number-preserved c =
     let same : c.len-edges.result ≡ edges c.args.graph.now = search rules in
     targets_more c.args.graph.now c.args.cells.now c.args.variables.now c.args.flows.now c.loop-number.number
-    c.loop-number.lists.items c.push.new.self.items c.in_ok-list.list (rule_named c.rule_at-rule.result)
+    c.loop-number.lists c.push_list.new.self c.in_ok-list.list (rule_named c.rule_at-rule.result)
     c.loop-number.invariant
     (c.rule_at-rule.ensures ∙ ap (λ e. rule_of e c.args.flows.now c.loop-number.number) same) c.in_ok-list.ensures
-    c.in_ok-push.ensures.items
+    (c.in_ok-push_list.ensures ∙ ap (λ xs. c.loop-number.lists ++ xs ∷ []) c.numbers.ensures)
 
 pub returns : goal.returns
 returns c =
     let all : c.loop-number.number ≡ length c.args.graph.now.links.items + 1 + length c.args.flows.now = search rules in
-    subst (λ n. AreTargets c.args.graph.now c.args.cells.now c.args.variables.now c.args.flows.now n
-    c.loop-number.lists.items) all c.loop-number.invariant
+    subst (AreTargets c.args.graph.now c.args.cells.now c.args.variables.now c.args.flows.now
+    (length c.args.graph.now.links.items + 1 + length c.args.flows.now)) (sym c.shrink_to_fit.ensures)
+    (subst (λ n. AreTargets c.args.graph.now c.args.cells.now c.args.variables.now c.args.flows.now n
+    c.loop-number.lists) all c.loop-number.invariant)

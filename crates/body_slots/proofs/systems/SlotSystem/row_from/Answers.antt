@@ -76,8 +76,8 @@ returns-then-not-is_checked c = λ passes.
     let passing = sym here ∙ sym c.is_checked.ensures.decides in
     true≢false (sym passes ∙ passing ∙ c.if-not-is_checked.true)
 
-pub returns-in-Some : goal.returns-in-Some
-returns-in-Some c =
+pub returns-in_ok-led_to-in-Some : goal.returns-in_ok-led_to-in-Some
+returns-in_ok-led_to-in-Some c =
     let v = c.args.self.now in
     let s = v.slots in
     let b = body_of v.system in
@@ -121,8 +121,8 @@ returns-in-Some c =
           (led_there to reaches (leads ∙ c.if-leads.true) ∙ sym gives.state ∙ c.in-Some.is)),
     )
 
-pub returns : goal.returns
-returns c =
+pub returns-in_ok-nothing-in_default : goal.returns-in_ok-nothing-in_default
+returns-in_ok-nothing-in_default c =
     let v = c.args.self.now in
     let s = v.slots in
     let b = body_of v.system in

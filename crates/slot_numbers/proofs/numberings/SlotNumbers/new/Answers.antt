@@ -39,20 +39,20 @@ pub invariant_of-result : goal.invariant_of-result
 invariant_of-result c =
     let is = c.as_slice-listed.ensures.value in
     let targets = subst (λ (fs : List FlowingCell). AreTargets c.args.graph.now c.args.cells.now c.in_ok-variables.variables fs
-    (edges c.args.graph.now + 1 + length fs) c.in_ok-targets.targets.items) is c.in_ok-targets.ensures in
+    (edges c.args.graph.now + 1 + length fs) c.in_ok-targets.targets) is c.in_ok-targets.ensures in
     let readers = subst (λ (fs : List FlowingCell). AreReaders c.args.graph.now c.args.placing.now c.in_ok-variables.variables fs
-    c.len-count.result c.len-count.result c.in_ok-readers.readers.items) is c.in_ok-readers.ensures in
+    c.len-count.result c.len-count.result c.in_ok-readers.readers) is c.in_ok-readers.ensures in
     are_whole c.args.graph.now c.args.placing.now c.args.cells.now c.in_ok-variables.variables c.in_ok-flows.flows.items
-    c.in_ok-targets.targets.items c.in_ok-readers.readers.items c.in_ok-variables.ensures c.len-count.result
+    c.in_ok-targets.targets c.in_ok-readers.readers c.in_ok-variables.ensures c.len-count.result
     (let each = targets.each in search rules) targets readers
 
 pub returns : goal.returns
 returns c =
     let is = c.as_slice-listed.ensures.value in
     let targets = subst (λ (fs : List FlowingCell). AreTargets c.args.graph.now c.args.cells.now c.in_ok-variables.variables fs
-    (edges c.args.graph.now + 1 + length fs) c.in_ok-targets.targets.items) is c.in_ok-targets.ensures in
+    (edges c.args.graph.now + 1 + length fs) c.in_ok-targets.targets) is c.in_ok-targets.ensures in
     let readers = subst (λ (fs : List FlowingCell). AreReaders c.args.graph.now c.args.placing.now c.in_ok-variables.variables fs
-    c.len-count.result c.len-count.result c.in_ok-readers.readers.items) is c.in_ok-readers.ensures in
+    c.len-count.result c.len-count.result c.in_ok-readers.readers) is c.in_ok-readers.ensures in
     numbering_is c.args.graph.now c.args.placing.now c.args.cells.now c.in_ok-variables.variables c.in_ok-flows.flows.items
-    c.in_ok-targets.targets.items c.in_ok-readers.readers.items c.in_ok-variables.ensures c.len-count.result
+    c.in_ok-targets.targets c.in_ok-readers.readers c.in_ok-variables.ensures c.len-count.result
     (let each = targets.each in search rules) targets readers (c.is_numberable.ensures.0 c.if-not-is_numberable.false) c.in_ok-flows.ensures
