@@ -5,18 +5,33 @@
 # and a main that calls the tasks one after the other.
 #
 #     benches/eva.sh PROGRAM [N..]
+#     benches/eva.sh --control PROGRAM [LINES:TASKS..]
 #
 # PROGRAM is the built analyser (./analyse --program), which reads a source from its standard input. Each time is the
 # least of three runs, in processor seconds, each run bound to one processor; a row says N, bytes of the source, seconds
 # and MB of both, and the two ratios. Only a report counts: where a run has none, since it refuses the source or fails,
 # the row says so, and the status is 1. Frama-C and GNU time have to be installed.
+#
+# With --control the programs are those of benches/control.py, and PROGRAM is asked for its report on the large scale
+# (`notes large report`). Their tasks never end, so the main of Eva's text calls each where a number that may be 0 or 1
+# is 1. Each program is run once then, and a row says lines in place of N.
 set -eu
+control=no
+[ "${1-}" != --control ] || { control=yes && shift; }
 [ $# -ge 1 ] || { sed -n 's/^#     /usage: /p' "$0"; exit 2; }
 command -v frama-c > /dev/null || { echo 'frama-c is not on the PATH' >&2; exit 2; }
 
 program=$(readlink -f "$1")
 shift
+here=$(cd "$(dirname "${BASH_SOURCE[0]}")" && pwd)
 sizes=${*:-10 50 100 200 400}
+runs='1 2 3'
+asked=(analyse)
+if [ $control = yes ]; then
+    sizes=${*:-1000:6 2500:10 5000:15 10000:20}
+    runs=1
+    asked=(notes large report)
+fi
 work=$(mktemp -d)
 trap 'rm -rf "$work"' EXIT
 cd "$work"
@@ -26,6 +41,7 @@ cat > words.h <<'C'
 #define __task(priority)
 #define __lock(mutex) ((void)0)
 #define __unlock(mutex) ((void)0)
+#define __yield() ((void)0)
 int Frama_C_interval(int low, int high);
 #define __input(low, high) Frama_C_interval(low, high)
 C
@@ -51,10 +67,33 @@ text_of() { # N
     }'
 }
 
-# "seconds MB" of the least of three runs of the command.
+# Writes the source, and the text of Eva.
+write_texts() { # SIZE
+    if [ $control = no ]; then
+        text_of "$1" > input
+        { cat words.h input; echo 'int main(void) { fast(); slow(); return 0; }'; } > alone.c
+        return
+    fi
+    "$here/control.py" "${1%:*}" "${1#*:}" > input
+    {
+        cat words.h input
+        echo 'int main(void)'
+        echo '{'
+        seq -f '    if (Frama_C_interval(0, 1)) task_%g();' 0 $((${1#*:} - 1))
+        echo '    return 0;'
+        echo '}'
+    } > alone.c
+}
+
+# Whether the answer is a report.
+is_report() {
+    tail -n 1 out | grep -qE '^alarms [0-9]+$|"count":[0-9]+\}$'
+}
+
+# "seconds MB" of the least of the runs of the command.
 least() { # COMMAND..
     local run
-    for run in 1 2 3; do
+    for run in $runs; do
         taskset -c 0 env time -o told -f '%U %S %M' "$@" > out 2> err < input || true
         tail -n 1 told
     done | awk '{ s = $1 + $2; if (NR == 1 || s < least) least = s; if ($3 > most) most = $3 }
@@ -64,12 +103,12 @@ least() { # COMMAND..
 status=0
 printf '%5s %8s %9s %7s %9s %7s %7s %7s\n' N bytes eva_s eva_MB own_s own_MB time memory
 for n in $sizes; do
-    text_of "$n" > input
-    { cat words.h input; echo 'int main(void) { fast(); slow(); return 0; }'; } > alone.c
+    write_texts "$n"
     eva=$(least frama-c -machdep gcc_x86_32 -eva -eva-no-print alone.c)
     grep -q 'ANALYSIS SUMMARY\|eva:summary' out || { echo "$n: Eva gave no report: $(tail -n 1 err)" && status=1 && continue; }
-    own=$(least "$program" analyse)
-    tail -n 1 out | grep -qx 'alarms [0-9]*' || { echo "$n: no report: $(tail -n 1 out)" && status=1 && continue; }
+    own=$(least "$program" "${asked[@]}")
+    is_report || { echo "$n: no report: $(tail -n 1 out)" && status=1 && continue; }
+    [ $control = no ] || n=$(wc -l < input)
     echo "$n $(wc -c < input) $eva $own" | awk '{
         printf "%5s %8s %9s %7s %9s %7s %7.1f %7.1f\n", $1, $2, $3, $4, $5, $6, $3 / ($5 > 0 ? $5 : 0.001), $4 / $6 }'
 done
