@@ -3,6 +3,7 @@
 and of the must-fail edits of each crate, and the most memory of one process.
 
     benches/gate_parts.py PID >ROWS     watches the `rt ci` of this process number until it ends
+    benches/gate_parts.py PID ROWS      the same, and writes the file each minute, so that a run that is cut off has rows
 
 So the run from nothing that a gate needs anyway gives the table of docs/GATE.md: `benches/gate.sh --of ROWS`
 prints it. A row is `CRATE PART SECONDS MEGABYTES`, PART one of proof, tests and edits; the last row,
@@ -88,17 +89,30 @@ class Watch:
         for key, part in self.parts.items():
             if part:
                 sums[part] += self.seconds[key]
-        return [f"{name} {part} {sums[name, part]:.0f} {self.most[name, part]}" for name, part in sorted(sums)]
+        rows = [f"{name} {part} {sums[name, part]:.0f} {self.most[name, part]}" for name, part in sorted(sums)]
+        return "\n".join([*rows, f"rt own {self.own:.0f} 0"])
+
+    def write(self, path):
+        """Writes the rows so far, whole or not at all."""
+        with open(f"{path}.new", "w", encoding="utf-8") as it:
+            print(self.rows(), file=it)
+        os.replace(f"{path}.new", path)
 
 
 def main():
-    if len(sys.argv) != 2 or not sys.argv[1].isdigit():
+    if len(sys.argv) not in (2, 3) or not sys.argv[1].isdigit():
         print(__doc__)
         return 2
-    watch = Watch(int(sys.argv[1]))
+    watch, path, looks = Watch(int(sys.argv[1])), sys.argv[2] if len(sys.argv) == 3 else None, 0
     while watch.look():
+        if path and looks % 60 == 59:
+            watch.write(path)
+        looks += 1
         time.sleep(1)
-    print(*watch.rows(), f"rt own {watch.own:.0f} 0", sep="\n")
+    if path:
+        watch.write(path)
+    else:
+        print(watch.rows())
     return 0
 
 
